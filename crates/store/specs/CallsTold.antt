@@ -1,4 +1,4 @@
--- What the clauses of a session's calls say of an answer is what the list of a session's calls has of a read or an update.
+-- What the clauses of a session's calls say of an answer is what the list of its calls asks of a read or an update.
 use Rattle.std.specs.Prelude.{◌≡◌, ℕ, List, [], Some, None, Result, Ok}
 use Rattle.maps.specs.Maps.{AreBytes}
 use Rattle.ownlock.specs.Seats.{Continues}
@@ -25,25 +25,25 @@ Rests s = (s.note.pending ≡ None) × (s.note.batch ≡ [])
 abbrev pub SessionsRest : Type 0
 SessionsRest = (seat : StoreSeat) (caller : Caller) → IsIdle seat caller → Rests (session_view seat)
 
--- a read of this program that had this answer may be told as one, and the run has gone on
+-- a read by this program that got this answer may be listed as a read, and the run has gone on
 abbrev pub IsToldRead : (old new : SessionView) → (program : ℕ) → List ℕ → ReadAnswer → Type 0
 IsToldRead old new program argument a = WasRead (known_of old) (known_of new) (record { program = program; argument = argument }) a × Continues old.run new.run
 
--- so may each read that is answered: `goes` and `answered` of `Session::read` say so
+-- so may each read that gets an answer, by `goes` and `answered` of `Session::read`
 abbrev pub ReadsAreTold : Type 0
 ReadsAreTold =
     (store : StoreView) (old new : SessionView) (program : ℕ) (argument : List ℕ) (a : ReadAnswer) → IsOf store old → Rests old → AreBytes argument
     → early_refusal store.catalogue Read program argument ≡ None → ReadGoes old new (op_of program argument) (Ok a)
     → TellsRead old new (op_of program argument) (Ok a) → IsToldRead old new program argument a
 
--- and those of `Polled::try_read`, where it had an answer
+-- and each `Polled::try_read` that gets one
 abbrev pub TriedReadsAreTold : Type 0
 TriedReadsAreTold =
     (store : StoreView) (old new : SessionView) (program : ℕ) (argument : List ℕ) (a : ReadAnswer) → IsOf store old → Rests old → AreBytes argument
     → early_refusal store.catalogue Read program argument ≡ None → TriedReadGoes old new (op_of program argument) (Ok (Some a))
     → TellsTriedRead old new (op_of program argument) (Ok (Some a)) → IsToldRead old new program argument a
 
--- each update that is not refused early may be told as one: `goes` and `answered` of `Session::invoke` and of `Session::install` say so
+-- each update that is not refused early may be listed as an update, by `goes` and `answered` of `Session::invoke` and of `Session::install`
 abbrev pub UpdatesAreTold : Type 0
 UpdatesAreTold =
     (old new : SessionView) (op : Operation) (result : Result Answer StoreRefused) → Rests old → UpdateGoes old new op result → TellsUpdate old new op result

@@ -19,5 +19,5 @@ pub record ClosesExplained (store : StoreView) (sessions : List SessionView) (cl
       → (positions : Positions) × Explains (opening_of (setup_of store)) is.progress.history positions (events_in says is.run)
   pub told : (says : Sayings) → MaySayAll says is.run → (a q : ℕ) (s : SessionView) (u : AnsweredUpdate) → At a s sessions → At q u s.note.answered
       → IsTold (events_in says is.run) s.session u
-  -- so it explains the calls of all sessions, whatever calls are told of each: each session has exactly these, in their order
+  -- so it explains the calls of all sessions, whatever calls are listed for each: each session has exactly these, in their order
   pub calls : (told : (a : ℕ) → ToldOf (setup_of store) is.run a) → ExplainsCalls (setup_of store) is.progress.history is.run told

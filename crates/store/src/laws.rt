@@ -1,9 +1,9 @@
 // The laws.
 ghost use Rattle.store.specs.CallsTold.{ReadsAreTold, SessionsRest, TriedReadsAreTold, UpdatesAreTold};
 
-/// What the clauses of a session's calls say of an answer is what the list of its calls has of a read or an update, where one history explains
-/// the calls of all sessions (`Store::close`, `explained`): each read that was answered and each update that was not refused early may be told as one.
-/// Between its calls a session waits for nothing and combines for nobody.
+/// One history explains the calls of all sessions, as they are listed for each (`Store::close`, `explained`). What the clauses of a session's
+/// calls say is what such a list asks: each read that gets an answer, and each update that is not refused early, may be listed. Between its
+/// calls a session waits for nothing and combines for nobody.
 pub fn calls_are_told()
     ensures reads { ReadsAreTold }
     ensures tried { TriedReadsAreTold }

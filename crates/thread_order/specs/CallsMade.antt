@@ -1,4 +1,4 @@
--- The calls that a session made, with what each was told, and that one history explains the calls of all sessions.
+-- The calls that a session made, with their answers, and that one history explains the calls of all sessions.
 use Rattle.std.specs.Prelude.{◌≡◌, ℕ, ◌==◌, filter, List, [], ◌∷◌, ◌++◌, None}
 use Rattle.ownlock.specs.Runs.{Runs}
 use Rattle.ownlock.specs.Seats.{Continues, own_steps}
@@ -42,8 +42,8 @@ pub record WentOn (opening : Setup) (k after : SessionKnown) : Type 0 where
   pub same : after.session ≡ k.session
   pub on : Continues k.run after.run
 
--- A session that waited for nothing and combined for nobody had a program read, and was answered this: what the contract of a read says of
--- `Ok answer`.
+-- A session that waited for nothing and combined for nobody read by this program call, and got this answer. That is what the contract of a
+-- read says of `Ok answer`.
 pub record WasRead (k after : SessionKnown) (call : ProgramCall) (answer : ReadAnswer) : Type 0 where
   pub idle : (k.note.pending ≡ None) × (k.note.batch ≡ [])
   pub bytes : AreBytes call.argument
@@ -56,14 +56,14 @@ abbrev pub noted_with : SessionNote → Operation → Reply → SessionNote
 noted_with n op (Placed i reply) = note_with n i op reply
 noted_with n op Ended = n
 
--- It had an operation performed, and this became of it: what the contracts of `invoke` and of `install` say where these are not refused early.
+-- It had an operation performed, and got this reply. That is what the contracts of `invoke` and `install` say where these are not refused early.
 pub record WasUpdate (k after : SessionKnown) (op : Operation) (reply : Reply) : Type 0 where
   pub idle : (k.note.pending ≡ None) × (k.note.batch ≡ [])
   pub goes : UpdatesBy k after op reply
   pub answered : after.note ≡ noted_with k.note op reply
 
 -- The calls of a session one after another, up to what it knows after the last. Each goes from what the session knew before it to what it
--- knew after it. Who tells of a read that was answered writes `Reads`: told as one of the others, a read makes no event.
+-- knew after it. Write `Reads` for each read that got an answer: as one of the others, a read makes no event.
 pub data Calls (opening : Setup) : SessionKnown → Type 0 where
   -- none yet: the session knows no step of the run
   NoCalls : (k : SessionKnown) → KnewOnce opening k → k.run ≡ [] → Calls opening k
@@ -71,7 +71,7 @@ pub data Calls (opening : Setup) : SessionKnown → Type 0 where
   Reads : (k after : SessionKnown) (call : ProgramCall) (answer : ReadAnswer) → Calls opening k → WentOn opening k after → WasRead k after call answer → Calls opening after
   -- and then an update with its answer
   Updates : (k after : SessionKnown) (op : Operation) (reply : Reply) → Calls opening k → WentOn opening k after → WasUpdate k after op reply → Calls opening after
-  -- and then any other call, of which the session's note shows the events: a scan, a call that was refused, a try, a post and its collection
+  -- and then any other call, whose events the session's note shows: a scan, a refused call, a try, a post, or the collection after a post
   Others : (k after : SessionKnown) → Calls opening k → WentOn opening k after → Calls opening after
 
 -- ---- and their events
@@ -95,7 +95,7 @@ events_made (Reads k after call answer calls went read) = events_made calls ++ C
 events_made (Updates k after op reply calls went update) = events_made calls ++ Call k.session Update op ∷ Back k.session (Updated reply) ∷ []
 events_made (Others k after calls went) = events_made calls ++ noted_events k.session went.on.0
 
--- of the events of this session the run as it knows it has those of these calls, and no others
+-- the run, as the session knows it, has the events of these calls, and no others of this session
 abbrev pub HasTheirEvents : Sayings → {opening : Setup} {k : SessionKnown} → Calls opening k → Type 0
 HasTheirEvents says {opening} {k} calls = events_of_session k.session (events_in says k.run) ≡ events_made calls
 
@@ -106,7 +106,7 @@ EachHasEvents says (Reads k after call answer calls went read) = EachHasEvents s
 EachHasEvents says (Updates k after op reply calls went update) = EachHasEvents says calls × HasTheirEvents says (Updates k after op reply calls went update)
 EachHasEvents says (Others k after calls went) = EachHasEvents says calls × HasTheirEvents says (Others k after calls went)
 
--- a look that keeps its contract makes none, so that a scan, a key, several reads or a snapshot needs no constructor of its own
+-- a look that keeps its contract makes no events there: a scan, a get, several reads, a snapshot
 abbrev pub LooksMakeNoEvents : Type 0
 LooksMakeNoEvents =
     (opening : Setup) (k after : SessionKnown) (point : ℕ) → KnewOnce opening k → KnewOnce opening after → after.session ≡ k.session → k.note.batch ≡ []
@@ -114,17 +114,17 @@ LooksMakeNoEvents =
 
 -- ---- one history explains the calls of all sessions
 
--- What is told of the session c of this run: its calls up to what it knows, since when it has taken no step; or nothing of it.
+-- What is said of the session c of this run: its calls up to what it knows, after which it has taken no step; or nothing.
 pub data ToldOf (opening : Setup) (run : StoreRun) (c : ℕ) : Type 0 where
   Told : (k : SessionKnown) → k.session ≡ c → Calls opening k → Continues k.run run → own_steps c run ≡ k.steps → ToldOf opening run c
   Untold : ToldOf opening run c
 
--- the events of the session c in this run are those of the calls that are told of it; of an untold session they are those that are noted
+-- the events of the session c in this run are those of its calls; where nothing is said of it, they are those that its note shows
 abbrev pub HasEvents : {opening : Setup} → Sayings → (run : StoreRun) (c : ℕ) → ToldOf opening run c → Type 0
 HasEvents says run c (Told k same calls on own) = EachHasEvents says calls × (events_of_session c (events_in says run) ≡ events_made calls)
 HasEvents says run c Untold = events_of_session c (events_in says run) ≡ noted_events c run
 
--- the history explains the events of a run, and these are exactly the events of the calls that are told, each session's in its order
+-- the history explains the events of a run, and these are exactly the events of the sessions' calls, each session's in its order
 pub record ExplainsCalls (opening : Setup) (history : History) (run : StoreRun) (told : (c : ℕ) → ToldOf opening run c) : Type 0 where
   pub says : Sayings
   pub may : MaySayAll says run
@@ -132,7 +132,7 @@ pub record ExplainsCalls (opening : Setup) (history : History) (run : StoreRun) 
   pub positions : Positions
   pub explains : Explains (opening_of opening) history positions (events_in says run)
 
--- one history explains the calls of all sessions of a store, whatever calls are told of each
+-- one history explains the calls of all sessions of a store, whatever calls are listed for each
 abbrev pub CallsAreExplained : Type 0
 CallsAreExplained =
     (opening : Setup) (run : StoreRun) (l : Progress CatalogueView) (ns : List SessionNote)
