@@ -1,7 +1,7 @@
 // What the help says behind the arguments of the program and of each command.
 
 /// The day of the newest change that a user notices (CHANGELOG).
-pub const VERSION: &str = "2026-11-26";
+pub const VERSION: &str = "2026-11-27";
 
 /// Of the program.
 pub const PROGRAM: &str = "\

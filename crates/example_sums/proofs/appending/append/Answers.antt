@@ -109,8 +109,13 @@ returns-in-Err-clause-note g c k is =
     let p = c.put.ensures.put u.0 u.2 in
     let r = c.raise.ensures.raised _ p.2 in
     let v = c.put-2.ensures.put _ r.4 in
-    let idle = ap (λ m. m.held) (one_known c.args.seat.now k i.0 is i.1) ∙ i.2 in
-    let sum = sum_of_raised p.0 r.0 y z _ _ c.catch_up.ensures c.tail_and_sum-tail.ensures r.1.0.0 in
     let none = none_more c.extend-appended.result _ _ _ o.2 c.in-Err.is in
-    let much = counts u.0 b.notes x y o.0 c.take-leader.new.seat.sessions b.list o.1 u.2 ∙ (ap (λ n. n + length o.0) b.note ∙ ap (λ l. k.note + length l) none) in
-    (_, v.2, (b.session, nothing_left k u.0 w x b _ _ c.take-leader.ensures.same.1 c.take-follower.ensures.same.1 idle, counts_none _ z c.raise.new.seat.sessions _ sum ∙ omega (arith, much)))
+    let much = counts u.0 b.notes x y o.0 c.take-leader.new.seat.sessions b.list o.1 u.2 ∙ (ap (λ n. n + length o.0) b.note ∙ ap (λ l. k.note + length l) none) in (
+      _,
+      v.2,
+      (
+        b.session,
+        nothing_left k u.0 w x b _ _ c.take-leader.ensures.same.1 c.take-follower.ensures.same.1 (ap (λ m. m.held) (one_known c.args.seat.now k i.0 is i.1) ∙ i.2),
+        counts_none _ z c.raise.new.seat.sessions _ (sum_of_raised p.0 r.0 y z _ _ c.catch_up.ensures c.tail_and_sum-tail.ensures r.1.0.0) ∙ omega (arith, much),
+      ),
+    )
