@@ -1,5 +1,5 @@
 -- What stands on the page, by how the command ended.
-use Rattle.std.proofs.Common.{◌≡◌, ◌∙◌, [], Option, Some, true, ap}
+use Rattle.std.proofs.Common.{◌≡◌, ◌∙◌, [], Some, true, ap}
 use Rattle.engine.specs.declared.replies.Status.{Status}
 use Rattle.engine.specs.declared.replies.Status.TheVariants as statuses
 use Rattle.engine.specs.declared.replies.Verdict.TheVariants as verdicts
@@ -21,13 +21,13 @@ pub none_failed : (old new : Inputs HeldFiles Held) → FailedInTurn (λ (f : He
 none_failed old new = never_failed (λ (f : HeldFiles). Some (found_file f.0.now)) (λ (s : Held). Some s.0.now) old new
 
 -- of an answer that says that all is well, where no read fails
-pub on_page : {M : Type 0} (answer : M → Answer) (Is : M → Type 0) (Read : Type 0) → (Read → ⊥) → (status : Status) (page : Page) (good : Answer) → ((m : M) → Is m → answer m ≡ good) → good.verdict ≡ verdicts.Good
-    → Reports answer Is (Some []) (Some page.text.items) status → Failed status Read (page.is_full ≡ true) → IsOnPage good.text status page
-on_page answer Is Read never statuses.Good page good is well wrote failed = wrote.3 ∙ ap (λ (x : Answer). x.text) (is wrote.0 wrote.1)
-on_page answer Is Read never statuses.NoMemory page good is well wrote failed = wrote
-on_page answer Is Read never statuses.CannotWrite page good is well wrote failed = failed
-on_page answer Is Read never statuses.CannotRead page good is well wrote failed = absurd (never failed)
-on_page answer Is Read never statuses.Refused page good is well wrote failed =
+pub on_page : {M : Type 0} (answer : M → Answer) (Is : M → Type 0) (Read : Type 0) (status : Status) (page : Page) (good : Answer) → ((m : M) → Is m → answer m ≡ good) → good.verdict ≡ verdicts.Good
+    → Reports answer Is (Some []) (Some page.text.items) status → Failed status Read (page.is_full ≡ true) → (Read → ⊥) → IsOnPage good.text status page
+on_page answer Is Read statuses.Good page good is well wrote failed never = wrote.3 ∙ ap (λ (x : Answer). x.text) (is wrote.0 wrote.1)
+on_page answer Is Read statuses.NoMemory page good is well wrote failed never = wrote
+on_page answer Is Read statuses.CannotWrite page good is well wrote failed never = failed
+on_page answer Is Read statuses.CannotRead page good is well wrote failed never = absurd (never failed)
+on_page answer Is Read statuses.Refused page good is well wrote failed never =
     let h : statuses.Refused ≡ statuses.Good = wrote.2 ∙ ap status_of (ap (λ (x : Answer). x.verdict) (is wrote.0 wrote.1) ∙ well) in absurd cc
-on_page answer Is Read never statuses.Differs page good is well wrote failed =
+on_page answer Is Read statuses.Differs page good is well wrote failed never =
     let h : statuses.Differs ≡ statuses.Good = wrote.2 ∙ ap status_of (ap (λ (x : Answer). x.verdict) (is wrote.0 wrote.1) ∙ well) in absurd cc

@@ -9,6 +9,6 @@ use Rattle.example_answers.proofs.counter_on_page.Goals as goal
 pub returns : goal.returns
 returns c =
     record {
-      page = on_page (λ k. answer_of k.reply) _ _ (none_failed _ c.perform-status.new.inputs) c.perform-status.result c.perform-status.new.writer counter_ran
-          (λ k is. ap (λ (x : KeptRun). x.answer) is ∙ counter_runs) refl (rw c.new.ensures.items at c.perform-status.ensures.written) c.perform-status.ensures.failed;
+      page = on_page (λ k. answer_of k.reply) _ _ c.perform-status.result c.perform-status.new.writer counter_ran
+          (λ k is. ap (λ (x : KeptRun). x.answer) is ∙ counter_runs) refl (rw c.new.ensures.items at c.perform-status.ensures.written) c.perform-status.ensures.failed (λ failed. search none_failed);
     }

@@ -8,6 +8,6 @@ use Rattle.example_answers.proofs.five_on_page.Goals as goal
 pub returns : goal.returns
 returns c =
     record {
-      page = on_page answer_of _ _ (none_failed _ c.perform-status.new.inputs) c.perform-status.result c.perform-status.new.writer five_checked (λ r is. is ∙ five_is) refl
-          (rw c.new.ensures.items at c.perform-status.ensures.written) c.perform-status.ensures.failed;
+      page = on_page answer_of _ _ c.perform-status.result c.perform-status.new.writer five_checked (λ r is. is ∙ five_is) refl
+          (rw c.new.ensures.items at c.perform-status.ensures.written) c.perform-status.ensures.failed (λ failed. search none_failed);
     }
