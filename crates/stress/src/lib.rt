@@ -14,7 +14,7 @@ mod watching;
 
 pub use command::Stress;
 pub use gate::{Gate, OpenGate};
-pub use laws::{transcripts_agree, transcripts_are_good};
+pub use laws::{each_call_has_one_line, transcripts_agree, transcripts_are_good};
 pub use left_texts::{Leaving, LeftTexts};
 pub use stressed::Stressed;
 pub use watching::{Counts, NoClock};
