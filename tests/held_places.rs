@@ -13,7 +13,7 @@ use std::sync::atomic::{AtomicBool, Ordering};
 use std::thread;
 use std::thread::Threads;
 use store::{Answer, Session, Store, StoreRefused};
-use store_steps::{Caller, Here, Question, Shared, Value, query};
+use store_steps::{Caller, Here, Question, Shared, Value, look_waiting};
 
 // A session's seat, and its slot.
 #[derive(Drop)]
@@ -79,13 +79,13 @@ fn ready_read<R: Wait>(
 ) -> (u64, ReadAnswer) {
     shared.shelf.raise(&mut seat, 0);
     let done = shared.shelf.done(&mut seat);
-    let question = Question {
+    let mut question = Question {
         program: 1,
         argument: &ZERO,
     };
     (
         done,
-        query(rt, Here { shared, caller }, &mut seat, question),
+        look_waiting(rt, Here { shared, caller }, &mut seat, &mut question),
     )
 }
 
