@@ -17,3 +17,4 @@ pub mod StoreLaws
 pub mod Picked
 pub mod DeskNotes
 pub mod Batches
+pub mod Export

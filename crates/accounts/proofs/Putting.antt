@@ -4,7 +4,7 @@ use lib.ListN.{get_elem?}
 use mathlib.Core.Option.{some-injective}
 use Rattle.atomic_table.proofs.Lists.{set_again}
 use Rattle.ownlock.specs.declared.known.Known.{Known}
-use Rattle.ownlock.proofs.Run.{adds_on}
+use Rattle.ownlock.proofs.Export.{adds_on}
 use Rattle.ownlock.specs.Rules.{Rules}
 use Rattle.ownlock.specs.Seats.{At, place_of}
 use Rattle.ownlock.specs.Knowledge.{Acquired, Possible}

@@ -41,7 +41,7 @@ module _ {C M : Type 0} (E : Meaning C M) where
       (known l : Progress C) (ns : List SessionNote) (c : ℕ) (n n' : SessionNote) (x y : DeskView) → known.completed ≤ length known.history → Extends known l → Accounts E l ns → At c n ns → IsSessionOf l.config x.node c → DeskAgrees E l ns x
       → DeskStep known c n x n' y → DeskMove E x c l n n' × DeskAgrees E l (slice_set ns c n') y
 
-  -- the same in the words of the shelf: the step may be put back by the session that knows k
+  -- `DeskPuts` in the words of the shelf: the step may be put back by the session that knows k
   abbrev pub DeskMayPut : Type 0
   DeskMayPut =
       (k : Known (Progress C) SessionNote (StoreValue M)) (p a : ℕ) (x y : DeskView) (n' : SessionNote) → At a (p, TheDesk x) k.held → k.progress.completed ≤ length k.progress.history → IsSessionOf k.progress.config x.node k.session

@@ -4,7 +4,7 @@ pub mod Values
 pub mod Accounts
 pub mod Agreement
 pub mod Told
--- Which changes are allowed, and the laws that keep all of that: with desks, and under any rules of a store.
+-- The changes that are allowed, and the laws that keep all of the above: with desks, and under any rules of a store.
 pub mod Moves
 pub mod Seen
 pub mod StoreRules

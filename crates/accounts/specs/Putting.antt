@@ -113,13 +113,13 @@ module _ {C M V : Type 0} (E : Meaning C M) (view : V → StoreValue M) (IsSized
   pub record HoldsDesk (k : Known (Progress C) SessionNote V) (p : ℕ) (v w : V) (x y : DeskView) (n' : SessionNote) : Type 0 where
     -- so many of the values that the session holds stand before the desk
     pub index : ℕ
-    -- it holds the desk
+    -- the session holds the desk
     pub held : At index (p, v) k.held
     -- the desk as it was taken
     pub was : view v ≡ TheDesk x
     -- the desk as it is after the step
     pub becomes : view w ≡ TheDesk y
-    -- which has the sizes that it had
+    -- the desk has the sizes that it had
     pub sizes : KeepsSizes IsSized v w
     -- so much as the session knows to be completed is in the history that it knows
     pub completed : k.progress.completed ≤ length k.progress.history

@@ -89,7 +89,7 @@ pub fn store_puts<S: Viewed>()
     ensures desk { SeenDeskMayPut S.meaning S.view S.is_sized }
 {}
 
-/// The same for one pick of what every put of a function changes, read off the value and what the session knows.
+/// `store_puts`, but for one pick of what every put of a function changes, read off the value and what the session knows.
 pub fn store_picks<S: Viewed>()
     ensures same { SamePicked S.meaning S.rules S.noting S.view S.is_sized }
     ensures log { LogPicked S.meaning S.rules S.noting S.view S.is_sized }

@@ -223,7 +223,7 @@ is_next text ts e = by (begins text)
 
 -- ---- the three operands of a branch
 
--- its tokens where it was good, and the text behind them
+-- the tokens of a branch that was good, and the text after them
 pub record IsBranch (text : List ℕ) (o : Parts) : Type 0 where
   pub are : tokens text ≡ o.first ∷ comma ∷ o.second ∷ comma ∷ o.third ∷ tokens o.rest
   pub no_comma : o.third ≢ comma

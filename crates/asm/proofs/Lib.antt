@@ -12,3 +12,4 @@ pub mod PlainWords
 pub mod Spaces
 pub mod GoodOperands
 pub mod Distances
+pub mod Export

@@ -5,7 +5,7 @@ use Rattle.std.specs.Char.{digit_value}
 use Rattle.std.specs.Result.{result_unwrap_or, OkIff}
 use Rattle.std.specs.Str.Parse.{AllDigits, digits_value, ParsesSigned, IsNumeral, without_leading_sign, signed_digits_value}
 use Rattle.std.proofs.lemmas.Bool.{lt-ltb, le-ltb, ne_eqb}
-use Rattle.text.proofs.DigitTexts.{all_digits}
+use Rattle.text.proofs.Export.{all_digits}
 use Rattle.asm.specs.Operands.{are_digits, capped, magnitude_of}
 
 -- a digit is no sign

@@ -68,13 +68,13 @@ address_of token =
 abbrev pub is_decimal : ℕ → Bool
 is_decimal c = nat_le 48 c && nat_le c 57
 
-abbrev pub is_label_byte : ℕ → Bool
-is_label_byte c = (nat_le 97 c && nat_le c 122) || is_decimal c || c == 95
+abbrev pub may_be_in_label : ℕ → Bool
+may_be_in_label c = (nat_le 97 c && nat_le c 122) || is_decimal c || c == 95
 
 -- the name of a label: 1 to 32 of a-z, 0-9, _, the first no digit
 unfoldable pub is_label : List ℕ → Bool
 is_label name =
-    nat_lt 0 (length name) && nat_le (length name) 32 && not (is_decimal (slice_index name 0)) && list_all is_label_byte name
+    nat_lt 0 (length name) && nat_le (length name) 32 && not (is_decimal (slice_index name 0)) && list_all may_be_in_label name
 
 -- where a jump goes: so many slots on, or to a label
 pub data Goal : Type 0 where

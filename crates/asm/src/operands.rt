@@ -2,7 +2,7 @@
 
 ghost use Rattle.std.specs.Prelude.{◌≡◌, ◌≤ℤ◌, ◌<ℤ◌, ◌^◌, ◌≤◌, pos, neg_ℤ, IfOk};
 ghost use Rattle.std.specs.List.{list_all};
-ghost use Rattle.asm.specs.Operands.{register_of, are_digits, magnitude_of, unsigned_of, number_of, signed_of, source_of, address_of, is_decimal, is_label_byte, is_label, target_of, shown_target, within, IsWritten};
+ghost use Rattle.asm.specs.Operands.{register_of, are_digits, magnitude_of, unsigned_of, number_of, signed_of, source_of, address_of, is_decimal, may_be_in_label, is_label, target_of, shown_target, within, IsWritten};
 ghost use Rattle.asm.specs.Tokens.{result_map};
 
 use crate::refusals::AsmFault;
@@ -138,16 +138,16 @@ fn is_decimal(c: u8) -> bool
     b'0' <= c && c <= b'9'
 }
 
-fn is_label_byte(c: u8) -> bool
-    ensures { result ≡ is_label_byte c }
+fn may_be_in_label(c: u8) -> bool
+    ensures { result ≡ may_be_in_label c }
 {
     (b'a' <= c && c <= b'z') || is_decimal(c) || c == b'_'
 }
 
 fn are_label_bytes(name: &[u8]) -> bool
-    ensures { result ≡ list_all is_label_byte name.now }
+    ensures { result ≡ list_all may_be_in_label name.now }
 {
-    name.iter().all(|c| is_label_byte(*c))
+    name.iter().all(|c| may_be_in_label(*c))
 }
 
 // The name of a label: 1 to 32 of `a-z`, `0-9`, `_`, the first no digit.

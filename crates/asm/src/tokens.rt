@@ -83,7 +83,7 @@ pub(crate) struct Operands<'a> {
     pub rest: &'a [u8],
 }
 
-// So many operands, at most 3, of the text behind a word.
+// Splits the text after a word into `count` operands, at most 3.
 #[tactic(auto, unfolding(crate::specs::Tokens::operands_of, crate::specs::Tokens::third_operand))]
 pub(crate) fn split_operands(text: &[u8], count: usize) -> Result<Operands<'_>, AsmFault>
     ensures { result_map parts_of result ≡ operands_of count text.now }

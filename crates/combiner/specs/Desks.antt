@@ -111,6 +111,6 @@ abbrev pub collected : ℕ → DeskView → Option Collection
 collected s d =
     option_and_then (λ x. option_map (λ reply. record { reply = reply; desk = with_slot d s (slot Empty (counted reply x.count)) }) (answer_in x.stage)) (slice_get d.slots s)
 
--- this is the answer that waits in slot s, and the desk once it is collected; where none waits, none is taken, and the desk is as it was
+-- the answer that waits in slot s, and the desk once it is collected; if none waits, none is taken, and the desk is as it was
 abbrev pub TakesAnswer : ℕ → DeskView → DeskView → Option Reply → Type 0
 TakesAnswer s old new answer = MatchOption answer ((collected s old ≡ None) × (new ≡ old)) (λ reply. collected s old ≡ Some (record { reply = reply; desk = new }))

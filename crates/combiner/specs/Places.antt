@@ -1,4 +1,4 @@
--- Which slot lies in a place. No public clause cites this module.
+-- The slot that is in a place. No public clause cites this module.
 use Rattle.std.specs.Prelude.{Option, Some, None, if◌then◌else◌}
 use Rattle.oplog.specs.Operations.{Operation}
 use Rattle.combiner.specs.declared.slots.Reply.{Reply}

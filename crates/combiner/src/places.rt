@@ -93,7 +93,7 @@ impl Place {
         }
     }
 
-    // Its request, if one is posted, is claimed: it goes into the batch, as this session's.
+    // Claims the request in the place, if one is posted: the request goes into the batch, as that of session `author`.
     pub(crate) fn claim(&mut self, author: u16, batch: &mut Batch)
         requires room { length batch.old.records < MAX_NODE_SLOTS }
         ensures claims { ClaimsSlot (slot_in self.old) author batch.old batch.new }
@@ -105,7 +105,7 @@ impl Place {
         }
     }
 
-    // Its request, if it is claimed, gets the next answer of the batch. Gives the number of the answer after it.
+    // Gives the request in the place, if it is claimed, the next answer of the batch. Answers the number of the answer after it.
     pub(crate) fn answer(&mut self, batch: &Batch, next: usize) -> usize
         requires few { next ≤ MAX_NODE_SLOTS }
         requires answer { is_claimed (slot_in self.old).stage ≡ true → HasAnswer batch.now next }

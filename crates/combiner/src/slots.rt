@@ -10,9 +10,9 @@ use thiserror::Error;
 /// What became of an update.
 #[derive(Clone, Copy, PartialEq, Eq, Debug)]
 pub enum Reply {
-    /// It stands in the history.
+    /// The update is in the history.
     Placed {
-        /// Its index there, from 0.
+        /// The update's index in the history, from 0.
         index: u64,
         /// What its program replied.
         reply: u64,
@@ -24,13 +24,13 @@ pub enum Reply {
 /// Where the request of a slot is.
 #[derive(Clone, Copy)]
 pub enum Stage {
-    /// There is none.
+    /// The slot has no request.
     Empty,
-    /// It waits for a combiner.
+    /// The request waits for a combiner.
     Posted(Op),
     /// A combiner has it in its batch.
     Claimed,
-    /// It is answered, and the answer waits for whom it is for.
+    /// The request is answered, and the answer waits for the session that asked.
     Answered(Reply),
 }
 

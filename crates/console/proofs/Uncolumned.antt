@@ -16,20 +16,17 @@ use Rattle.insn.specs.Refusal.{AreBytes}
 use Rattle.insn.specs.Layout.{slot_contents, slot_count, layout, size}
 use Rattle.insn.specs.Decoded.{decoded}
 use Rattle.insn.specs.declared.decoding.DecodeRefusal.{DecodeRefusal}
-use Rattle.insn.proofs.Laws.{read_is_spelled}
-use Rattle.insn.proofs.Slots.{are_bytes}
+use Rattle.insn.proofs.Export.{read_is_spelled, are_bytes}
 use Rattle.text.specs.Fields.{is_space, split_at_space}
 use Rattle.text.specs.Lines.{lines_of}
 use Rattle.text.specs.Digits.{spaced_bytes}
-use Rattle.text.proofs.Cuts.{split_to}
-use Rattle.text.proofs.SpacedBytes.{spaced_are_bytes}
+use Rattle.text.proofs.Export.{split_to, spaced_are_bytes}
 use Rattle.asm.specs.Text.{mnemonic, operands, operand_text, line_text, text_of}
 use Rattle.asm.specs.Words.{word_of}
-use Rattle.asm.proofs.Parts.{list_all-append}
-use Rattle.asm.proofs.RoundTrip.{bare_line, decimal_feedless, line_feedless, cut_feedless}
+use Rattle.asm.proofs.Export.{list_all-append, bare_line, decimal_feedless, line_feedless, cut_feedless}
 use Rattle.engine.specs.Answer.{Answer}
 use Rattle.engine.specs.declared.replies.Verdict.TheVariants as verdicts
-use Rattle.console.specs.AssemblyAnswer.{hex_text, slot_column, slot_line, slots_text, bytes_answer}
+use Rattle.console.specs.AssemblyAnswer.{hex_text, slot_column, slot_line, slots_text, disassembly}
 use Rattle.console.specs.CheckAnswer.{good_or_refused}
 use Rattle.console.specs.Columns.{without_columns, text_without_columns, SlotsAreColumns}
 
@@ -162,6 +159,6 @@ slots_are_columns (Some t) = by (spaced_bytes t.file) refl
         let d = read_is_spelled bytes p are is in
         ap (λ (text : List ℕ). record { text = text; verdict = verdicts.Good }) (each_line 0 p d.each (omega (arith, d.few)))
 
-    by : (o : Option (List ℕ)) → spaced_bytes t.file ≡ o → without (option_map_or (bytes_answer true) o bad) ≡ option_map_or (bytes_answer false) o bad
+    by : (o : Option (List ℕ)) → spaced_bytes t.file ≡ o → without (option_map_or (disassembly true) o bad) ≡ option_map_or (disassembly false) o bad
     by None is = refl
     by (Some bytes) is = on bytes (are_bytes bytes (spaced_are_bytes t.file bytes is)) (decoded bytes) refl

@@ -57,15 +57,15 @@ slots_text slot [] = []
 slots_text slot (i ∷ is) = slot_line slot i ++ slots_text (slot + slot_count i) is
 
 -- the lines of a program, with its slots and bytes or without; or why the bytes are none, and at which slot
-abbrev pub bytes_answer : Bool → List ℕ → Answer
-bytes_answer slots bytes =
+abbrev pub disassembly : Bool → List ℕ → Answer
+disassembly slots bytes =
     good_or_refused (λ program. if slots then slots_text 0 program else text_of program)
     (λ e. codes "D" ++ (decimal (decoding.fault_number e.why) ++ (codes " slot " ++ (decimal e.slot ++ codes "\n")))) (decoded bytes)
 
 -- what `dis` answers, where the file is pairs of hexadecimal digits
 abbrev pub dis_answer : Bool → Option TextsRead → Answer
 dis_answer slots None = not_text
-dis_answer slots (Some t) = option_map_or (bytes_answer slots) (spaced_bytes t.file) (record { text = codes "bad hex\n"; verdict = verdicts.Refused })
+dis_answer slots (Some t) = option_map_or (disassembly slots) (spaced_bytes t.file) (record { text = codes "bad hex\n"; verdict = verdicts.Refused })
 
 -- ---- `encode`
 

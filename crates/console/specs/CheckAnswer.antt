@@ -1,12 +1,11 @@
 -- What `check` and `explain` answer, as a function of the manifest and of the files that were read.
 use Rattle.std.specs.Prelude.{◌≡◌, ℕ, Bool, true, false, List, ◌++◌, Option, Some, None, IfSome, Result, Ok, Err}
-use Rattle.loader.specs.Loading.{loaded}
 use Rattle.explain.specs.Manifest.{has_program, no_program, TellsOfManifest}
 use Rattle.engine.specs.declared.replies.Verdict.{Verdict}
 use Rattle.engine.specs.declared.replies.Verdict.TheVariants as verdicts
 use Rattle.engine.specs.Texts.{programs_text, refusal_text}
 use Rattle.engine.specs.Answer.{Answer, not_text}
-use Rattle.engine.specs.Reading.{TextsRead}
+use Rattle.engine.specs.Reading.{TextsRead, loaded_by}
 
 -- what is written where all is good, or the line of the refusal alone
 abbrev pub good_or_refused : {X E : Type 0} → (X → List ℕ) → (E → List ℕ) → Result X E → Answer
@@ -22,7 +21,7 @@ is_good verdicts.Differs = false
 -- `check`: a line for each program
 abbrev pub check_answer : Option TextsRead → Answer
 check_answer None = not_text
-check_answer (Some t) = good_or_refused (λ c. programs_text c.programs) refusal_text (loaded t.manifest t.files)
+check_answer (Some t) = good_or_refused (λ c. programs_text c.programs) refusal_text (loaded_by t)
 
 -- what is told of a manifest that was read: of the program of this name, or of all where none is given, what `explain_manifest` tells; where no line is
 -- that of a program of this name, that there is none. What is told of what is no text isn't defined

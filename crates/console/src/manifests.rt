@@ -83,7 +83,7 @@ impl<F: Folder> Explain<'_, F> {
         }
     }
 
-    // What it is that is no text, and what the files are that the manifest names behind it, where they are none either.
+    // Explains the first text that is not UTF-8, and each file that the manifest names after it that is not UTF-8 either.
     fn strangers_told(&self, alloc: Global, stranger: &Stranger) -> Result<Vec<u8>, AllocError> {
         let first = stranger.name.as_str();
         let mut told = explain_stranger(alloc, first, &stranger.bytes)?.into_bytes();

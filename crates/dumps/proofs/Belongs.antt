@@ -12,10 +12,9 @@ use Rattle.std.specs.FinMap.Entries.{below_all}
 use Rattle.hex.specs.Hex.{IsBytes}
 use Rattle.maps.specs.declared.shapes.Shape.{Shape}
 use Rattle.maps.specs.declared.shapes.Shape.TheVariants.{Array, Hash}
-use Rattle.maps.specs.Shapes.{key_size, IsShapeOk, AreShapesOk}
+use Rattle.maps.specs.Shapes.{key_size, IsShapeSupported, AreShapesSupported}
 use Rattle.maps.specs.Maps.{Maps, MapState, AreBytes, IsKeyOf, IsMapState, HasShapes, index_key, shapes_of}
-use Rattle.maps.proofs.Keys.{key_ties}
-use Rattle.maps.proofs.Stored.{all_get}
+use Rattle.maps.proofs.Export.{key_ties, all_get}
 use Rattle.dumps.specs.Grammar.{EntryLine}
 use Rattle.dumps.specs.Dumping.{map_entries}
 use Rattle.dumps.proofs.Listed.{by_bytes, Pair, kept, first, less, turned}
@@ -206,11 +205,11 @@ pub key_long : (shape : Shape) (k : List ℕ) → IsKeyOf shape k → length k �
 key_long (Array value entries) k h = ap length h.2
 key_long (Hash key value entries) k h = h.0
 
-pub entry_fits : (shapes : List Shape) (maps : Maps) (e : EntryLine) → AreShapesOk shapes → HasShapes shapes maps → Belongs 0 maps e → EntryFits e
+pub entry_fits : (shapes : List Shape) (maps : Maps) (e : EntryLine) → AreShapesSupported shapes → HasShapes shapes maps → Belongs 0 maps e → EntryFits e
 entry_fits shapes maps e ok has b =
     let is = all_get IsMapState maps b.index b.state has.each b.there in
     let shape_at : slice_get shapes b.index ≡ Some b.state.shape = subst (λ (l : List Shape). slice_get l b.index ≡ Some b.state.shape) has.same (shape_there maps b.index b.state b.there) in
-    let good = all_get IsShapeOk shapes b.index b.state.shape (all_list IsShapeOk shapes ok.each) shape_at in
+    let good = all_get IsShapeSupported shapes b.index b.state.shape (all_list IsShapeSupported shapes ok.each) shape_at in
     let bound = index_bound shapes b.index b.state.shape shape_at in
     let key = is.each_key e.key (ap is_some b.value) in
     let value = is.each_value e.key e.value b.value in

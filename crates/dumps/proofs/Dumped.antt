@@ -8,8 +8,7 @@ use Rattle.insn.specs.declared.decoding.DecodeRefusal.{DecodeRefusal}
 use Rattle.insn.specs.declared.instruction.Form.{Form}
 use Rattle.insn.specs.Decoded.{decoded}
 use Rattle.insn.specs.Encoding.{program_bytes}
-use Rattle.insn.proofs.Laws.{read_is_spelled}
-use Rattle.insn.proofs.Slots.{are_bytes}
+use Rattle.insn.proofs.Export.{read_is_spelled, are_bytes}
 use Rattle.maps.specs.declared.shapes.Shape.{Shape}
 use Rattle.maps.specs.Maps.{MapState}
 use Rattle.verifier.specs.Accepted.{Checked, checked}

@@ -3,7 +3,7 @@ use Rattle.std.proofs.Common.{◌≡◌, ℕ, suc, ◌<◌, eqb, false, List, []
 use Rattle.std.specs.Borrow.{Bor}
 use Rattle.std.specs.Option.{MatchOption}
 use Rattle.std.proofs.lemmas.Bool.{ne_eqb}
-use Rattle.text.proofs.FirstLines.{HasNoFeed}
+use Rattle.text.proofs.Export.{HasNoFeed}
 use Rattle.dumps.specs.Grammar.{onto_line, ended_lines}
 
 pub ended_lines-cut : (xs ys : List ℕ) → HasNoFeed xs → ended_lines (xs ++ 10 ∷ ys) ≡ Some xs ∷ ended_lines ys

@@ -8,7 +8,7 @@ use Rattle.maps.specs.declared.shapes.Shape.{Shape}
 use Rattle.maps.specs.declared.shapes.Shape.TheVariants.{Array, Hash}
 use Rattle.maps.specs.Maps.{MapState, Maps}
 use Rattle.maps.specs.MapSets.{Contents, maps_of, stored_shapes, HasRoom}
-use Rattle.maps.proofs.Stored.{map_there}
+use Rattle.maps.proofs.Export.{map_there}
 use Rattle.dumps.specs.declared.refusals.DumpFault.{DumpFault}
 use Rattle.dumps.specs.declared.refusals.DumpFault.TheVariants as faults
 use Rattle.dumps.specs.Grammar.{EntryLine}

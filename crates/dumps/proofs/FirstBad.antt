@@ -2,15 +2,14 @@
 use Rattle.std.proofs.Common.{append_assoc, append-nil, ◌≡◌, ℕ, ◌+◌, ◌≤◌, ◌-◌, ◌^◌, min, true, List, [], ◌∷◌, ◌++◌, map, length, Option, Some, None, Result, Ok, Err, refl, sym, ap, ap₂, ◌∙◌, subst, arith}
 use Rattle.std.proofs.lemmas.List.{length-map}
 use Rattle.std.specs.Prelude.{slice_get}
-use Rattle.insn.proofs.Slots.{are_bytes}
+use Rattle.insn.proofs.Export.{are_bytes}
 use Rattle.maps.specs.declared.shapes.Shape.{Shape}
-use Rattle.maps.specs.Shapes.{AreShapesOk}
+use Rattle.maps.specs.Shapes.{AreShapesSupported}
 use Rattle.text.specs.Lines.{next_line}
-use Rattle.loader.specs.declared.installed.TheConstants.{MAX_PLACES}
+use Rattle.loader.specs.declared.installed.TheConstants.{MOST_SPARE}
 use Rattle.loader.specs.Installed.{installed_program}
 use Rattle.loader.specs.StoreState.{StoreState, StateSizes, IsState}
-use Rattle.loader.proofs.Outcomes.{number_behind, numbered}
-use Rattle.loader.proofs.States.{opened_is_state}
+use Rattle.loader.proofs.Export.{number_behind, numbered, opened_is_state}
 use Rattle.dumps.specs.declared.refusals.DumpFault.{DumpFault}
 use Rattle.dumps.specs.declared.refusals.DumpRefusal.{DumpRefusal}
 use Rattle.dumps.specs.Dumping.{entries_of, lines_of, text_of, dump}
@@ -126,7 +125,7 @@ record Said (so : Loading) (lines : List (Option (List ℕ))) (after : Loading) 
   spelled : lines ≡ map Some (map text_of said_by)
   listed : lines_of after.state ≡ lines_of so.state ++ said_by
 
-module _ (shapes : List Shape) (places : ℕ) (ok : AreShapesOk shapes) where
+module _ (shapes : List Shape) (places : ℕ) (ok : AreShapesSupported shapes) where
   one_line : (so after : Loading) (l : Option (List ℕ)) → Kept shapes places so → after_ended shapes so l ≡ Ok after → Kept shapes places after × Said so (l ∷ []) after
   unfolding after_line
   one_line so after None kept h = absurd cc
@@ -158,7 +157,7 @@ module _ (shapes : List Shape) (places : ℕ) (ok : AreShapesOk shapes) where
       both [] ys = refl
       both (x ∷ xs) ys = ap (λ u. Some (text_of x) ∷ u) (both xs ys)
 
-  opened : places ≤ MAX_PLACES → Kept shapes places (opening shapes places)
+  opened : places ≤ MOST_SPARE → Kept shapes places (opening shapes places)
   opened few = record { state = opened_is_state (record { shapes = shapes; places = places }) ok few; rising = opening_rising shapes places; last = λ m k all. refl }
 
   -- what a line is answered, behind these
@@ -178,7 +177,7 @@ refused_of s l (Err other) why a low = ap Err (one_lowest s (meaning_of l) other
 
 -- ---- the text
 
-from_refusal : (z : StateSizes) (text : List ℕ) (e : DumpRefusal) → AreShapesOk z.shapes → z.places ≤ MAX_PLACES → loaded_state z.shapes z.places text ≡ Err e → IsFirstBad z text e
+from_refusal : (z : StateSizes) (text : List ℕ) (e : DumpRefusal) → AreShapesSupported z.shapes → z.places ≤ MOST_SPARE → loaded_state z.shapes z.places text ≡ Err e → IsFirstBad z text e
 unfolding loaded_state dump
 from_refusal z text e ok few h =
     let b = bad_from z.shapes (ended_lines text) 1 (opening z.shapes z.places) e h in
@@ -205,7 +204,7 @@ at_bad : (shapes : List Shape) (n : ℕ) (so : Loading) (l : Option (List ℕ)) 
 unfolding after_lines
 at_bad shapes n so l ls e bad number = rw (bad, number) refl
 
-to_refusal : (z : StateSizes) (text : List ℕ) (e : DumpRefusal) → AreShapesOk z.shapes → z.places ≤ MAX_PLACES → IsFirstBad z text e → loaded_state z.shapes z.places text ≡ Err e
+to_refusal : (z : StateSizes) (text : List ℕ) (e : DumpRefusal) → AreShapesSupported z.shapes → z.places ≤ MOST_SPARE → IsFirstBad z text e → loaded_state z.shapes z.places text ≡ Err e
 unfolding loaded_state
 to_refusal z text e ok few b =
     let good = goes_from z.shapes (ended_lines (dump b.before)) 1 (opening z.shapes z.places) b.before (dump_is_read z.shapes z.places b.before b.state) in

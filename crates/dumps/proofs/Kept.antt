@@ -8,10 +8,9 @@ use Rattle.maps.specs.declared.shapes.Shape.{Shape}
 use Rattle.maps.specs.declared.shapes.Shape.TheVariants.{Array, Hash}
 use Rattle.maps.specs.Maps.{Maps, MapState, AreMaps, AreBytes, IsMapState, IsValueOf, HasShapes, shapes_of, value_at}
 use Rattle.maps.specs.MapSets.{Contents, maps_of, stored_shapes, put_value, HasRoom}
-use Rattle.maps.proofs.Stored.{all_get, map_there}
-use Rattle.maps.proofs.Written.{put_value_at}
+use Rattle.maps.proofs.Export.{all_get, map_there, put_value_at}
 use Rattle.helpers.specs.Helpers.{update_error}
-use Rattle.helpers.proofs.Kept.{insert_keeps, entries_kept}
+use Rattle.helpers.proofs.Export.{insert_keeps, entries_kept}
 use Rattle.dumps.specs.Loading.{has_room}
 use Rattle.dumps.proofs.Entries.{in_hash}
 

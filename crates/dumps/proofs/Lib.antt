@@ -21,3 +21,4 @@ pub mod CutLines
 pub mod LowestFaults
 pub mod FirstBad
 pub mod Widened
+pub mod Export

@@ -39,7 +39,7 @@ module _ (keep : List ℕ → Bool) where
   abbrev pub kept : List Pair → List Pair
   kept = filter (λ e. keep e.1)
 
-  -- those that are kept have keys below this one
+  -- the entries that are kept have keys below this one
   abbrev pub KeptBelow : List ℕ → List Pair → Type 0
   KeptBelow k es = AllByRecursion (λ (e : Pair). keep e.1 ≡ true → by_bytes e.0 k ≡ Less) es
 

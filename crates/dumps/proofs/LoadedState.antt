@@ -2,17 +2,16 @@
 use Rattle.std.proofs.Common.{◌≡◌, ◌≤◌, ◌<◌, ℕ, Bool, true, false, List, [], ◌∷◌, length, Option, Some, None, Result, Ok, Err, refl, sym, subst}
 use Rattle.std.specs.Prelude.{nat_lt, slice_get, if◌then◌else◌}
 use Rattle.std.proofs.lemmas.Bool.{ltb-true}
-use Rattle.insn.proofs.Slots.{are_bytes}
+use Rattle.insn.proofs.Export.{are_bytes}
 use Rattle.maps.specs.declared.shapes.Shape.{Shape}
-use Rattle.maps.specs.Shapes.{AreShapesOk}
+use Rattle.maps.specs.Shapes.{AreShapesSupported}
 use Rattle.verifier.specs.Accepted.{Checked}
 use Rattle.text.specs.Lines.{next_line}
 use Rattle.loader.specs.declared.installed.InstallRefusal.{InstallRefusal}
-use Rattle.loader.specs.declared.installed.TheConstants.{MAX_PLACES}
+use Rattle.loader.specs.declared.installed.TheConstants.{MOST_SPARE}
 use Rattle.loader.specs.Installed.{installed_program}
 use Rattle.loader.specs.StoreState.{StoreState, IsState}
-use Rattle.loader.proofs.Installing.{installed_is_accepted, one_more_installed}
-use Rattle.loader.proofs.States.{opened_is_state}
+use Rattle.loader.proofs.Export.{installed_is_accepted, one_more_installed, opened_is_state}
 use Rattle.dumps.specs.declared.refusals.DumpFault.{DumpFault}
 use Rattle.dumps.specs.declared.refusals.DumpFault.TheVariants as faults
 use Rattle.dumps.specs.Grammar.{EntryLine, ProgramLine, Meaning, Entry, Program, ended_lines, line_meaning}
@@ -22,7 +21,7 @@ use Rattle.dumps.proofs.Kept.{maps_keep}
 use Rattle.dumps.proofs.SpelledLines.{IsBound, said}
 use Rattle.dumps.proofs.Dumped.{in_map_ok}
 
-module _ (shapes : List Shape) (places : ℕ) (ok : AreShapesOk shapes) where
+module _ (shapes : List Shape) (places : ℕ) (ok : AreShapesSupported shapes) where
   abbrev Is : StoreState → Type 0
   Is s = IsState (record { shapes = shapes; places = places }) s
 
@@ -74,6 +73,6 @@ module _ (shapes : List Shape) (places : ℕ) (ok : AreShapesOk shapes) where
       by (Err why) taken rest h = absurd cc
       by (Ok after) taken rest h = rest after (line_is so after is l taken) h
 
-  pub loaded_is_state : (text : List ℕ) (s : StoreState) → places ≤ MAX_PLACES → loaded_state shapes places text ≡ Ok s → IsState (record { shapes = shapes; places = places }) s
+  pub loaded_is_state : (text : List ℕ) (s : StoreState) → places ≤ MOST_SPARE → loaded_state shapes places text ≡ Ok s → IsState (record { shapes = shapes; places = places }) s
   unfolding loaded_state
   loaded_is_state text s few h = lines_are 1 (opening shapes places) (ended_lines text) s (opened_is_state (record { shapes = shapes; places = places }) ok few) h

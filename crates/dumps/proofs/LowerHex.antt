@@ -10,7 +10,7 @@ use Rattle.hex.specs.Hex.{IsBytes, decode_of, decode_pairs, digit_or_error, hex_
 use Rattle.hex.proofs.HexLemmas.{decode_of-ok, decode_of-even, decode_of-encode_lower, length-encode_with}
 use Rattle.text.specs.declared.lines.TheConstants.{LINE_BYTES}
 use Rattle.text.specs.Digits.{good, field_bytes}
-use Rattle.text.proofs.Cuts.{if_true}
+use Rattle.text.proofs.Export.{if_true}
 use Rattle.dumps.specs.Grammar.{is_lower_digit, lower_bytes}
 
 -- ---- the sixteen digits

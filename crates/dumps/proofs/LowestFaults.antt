@@ -216,7 +216,7 @@ module _ (so : Loading) (rising : IsRising so) (last : (m : ℕ) (k : List ℕ) 
   abbrev Has : DumpFault → Type 0
   Has = HasFault so.state (Some (Entry e))
 
-  -- it is an entry
+  -- the line is an entry
   is_entry : Clear Has 2
   is_entry = clear_next Has faults.BadLine 1 refl (λ z. absurd (omega arith)) (λ h. cc) (clear_first Has)
 

@@ -13,8 +13,7 @@ use Rattle.insn.specs.declared.instruction.Fields.{Fields}
 use Rattle.insn.specs.declared.instruction.Form.{Form}
 use Rattle.insn.specs.declared.instruction.Form.TheVariants.{Alu, Neg, MovSx, Swap, Load, Store, Imm64, MapRef, Ja, Branch, Call, Exit}
 use Rattle.insn.specs.Encoding.{HasEncoding, alu_class, jump_class, operation_code, condition_code, size_code, load_mode, slots, slot_bytes, program_slots, program_bytes}
-use Rattle.insn.proofs.Slots.{FieldsFit}
-use Rattle.insn.proofs.Fit.{program_fits}
+use Rattle.insn.proofs.Export.{FieldsFit, program_fits}
 use Rattle.dumps.proofs.Placing.{all_joined}
 
 class_few : (w64 : Bool) → alu_class w64 ≤ 7

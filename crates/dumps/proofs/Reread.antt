@@ -10,24 +10,21 @@ use Rattle.hex.specs.Hex.{IsBytes, encode_lower}
 use Rattle.std.specs.FinMap as finite_map
 use Rattle.insn.specs.Encoding.{program_bytes, program_slots}
 use Rattle.insn.specs.Refusal.{Decodes}
-use Rattle.insn.proofs.Laws.{spelled_is_read}
-use Rattle.insn.proofs.Slots.{size_is, slot_bytes_length}
+use Rattle.insn.proofs.Export.{spelled_is_read, size_is, slot_bytes_length}
 use Rattle.maps.specs.declared.shapes.Shape.{Shape}
 use Rattle.maps.specs.declared.shapes.Shape.TheVariants.{Array, Hash}
-use Rattle.maps.specs.Shapes.{value_size, entry_count, AreShapesOk}
+use Rattle.maps.specs.Shapes.{value_size, entry_count, AreShapesSupported}
 use Rattle.maps.specs.Maps.{Maps, MapState, IsKeyOf, IsMapState, HasShapes, HasEntryCount, shapes_of}
-use Rattle.maps.proofs.OpeningShapes.{opening_shapes}
-use Rattle.maps.proofs.Stored.{all_get}
+use Rattle.maps.proofs.Export.{opening_shapes, all_get}
 use Rattle.text.specs.Lines.{next_line}
-use Rattle.text.proofs.FirstLines.{HasNoFeed}
-use Rattle.text.proofs.Numbers.{own}
+use Rattle.text.proofs.Export.{HasNoFeed, own}
 use Rattle.verifier.specs.declared.refusal.Mode.{Mode}
 use Rattle.verifier.specs.declared.refusal.Mode.TheVariants.{Update, Read}
 use Rattle.verifier.specs.Typing.{IsTypable}
 use Rattle.verifier.specs.Accepted.{Checked, checked, IsAccepted}
 use Rattle.verifier.specs.Signature.{signature}
 use Rattle.verifier.specs.Verdict.{verdict}
-use Rattle.verifier.proofs.VerdictLaws.{accepted_iff}
+use Rattle.verifier.proofs.Export.{accepted_iff}
 use Rattle.loader.specs.declared.installed.InstallRefusal.{InstallRefusal}
 use Rattle.loader.specs.Spelling.{mode_word}
 use Rattle.loader.specs.Installed.{installed_program, accepted_program, unless_unsafe, IsShort}
@@ -189,7 +186,7 @@ said_by : (shapes : List Shape) (so after : Loading) (m : Meaning) → Fits m �
 unfolding after_line
 said_by shapes so after m fits h = ap (after_meaning shapes so) (spelled_says m fits) ∙ h
 
-entries_read : (shapes : List Shape) (maps : Maps) (n : ℕ) (so : Loading) (es : List EntryLine) (rest : List (Option (List ℕ))) → AreShapesOk shapes → HasShapes shapes maps → Midway shapes maps so es
+entries_read : (shapes : List Shape) (maps : Maps) (n : ℕ) (so : Loading) (es : List EntryLine) (rest : List (Option (List ℕ))) → AreShapesSupported shapes → HasShapes shapes maps → Midway shapes maps so es
     → EntriesRead shapes maps n so es rest
 entries_read shapes maps n so [] rest ok has mid =
     let listed : entries_of so.state.maps ≡ entries_of maps = sym (append-nil (entries_of so.state.maps)) ∙ mid.listed in
@@ -325,7 +322,7 @@ ended_texts (m ∷ ms) fits =
 
 -- ---- a state
 
-entries_fit : (shapes : List Shape) (maps : Maps) (es : List EntryLine) → AreShapesOk shapes → HasShapes shapes maps → AllByRecursion (Belongs 0 maps) es → AllByRecursion Fits (map Entry es)
+entries_fit : (shapes : List Shape) (maps : Maps) (es : List EntryLine) → AreShapesSupported shapes → HasShapes shapes maps → AllByRecursion (Belongs 0 maps) es → AllByRecursion Fits (map Entry es)
 entries_fit shapes maps [] ok has all = tt
 entries_fit shapes maps (e ∷ es) ok has all = (entry_fits shapes maps e ok has all.0, entries_fit shapes maps es ok has all.1)
 
@@ -341,7 +338,7 @@ none_before : (es : List EntryLine) → AllByRecursion (λ (e : EntryLine). is_b
 none_before [] = tt
 none_before (e ∷ es) = (refl, none_before es)
 
-at_first : (shapes : List Shape) (places : ℕ) (maps : Maps) → AreShapesOk shapes → Midway shapes maps (opening shapes places) (entries_of maps)
+at_first : (shapes : List Shape) (places : ℕ) (maps : Maps) → AreShapesSupported shapes → Midway shapes maps (opening shapes places) (entries_of maps)
 at_first shapes places maps ok = record {
   has = opening_shapes shapes ok;
   empty = refl;

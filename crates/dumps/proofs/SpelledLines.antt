@@ -13,14 +13,10 @@ use Rattle.verifier.specs.declared.refusal.Mode.{Mode}
 use Rattle.verifier.specs.declared.refusal.Mode.TheVariants.{Update, Read}
 use Rattle.text.specs.Fields.{split_at_space, is_space, has_no_space}
 use Rattle.text.specs.Words.{number_of, number_within}
-use Rattle.text.proofs.Numbers.{own}
-use Rattle.text.proofs.Numerals.{numerals_are_decimals}
-use Rattle.text.proofs.Cuts.{steps, where_true, unless, split_from, split_to}
+use Rattle.text.proofs.Export.{own, numerals_are_decimals, steps, where_true, unless, split_from, split_to}
 use Rattle.loader.specs.Grammar.{mode_of}
 use Rattle.loader.specs.Spelling.{mode_word}
-use Rattle.loader.proofs.Respelled.{no_space_from, no_space_in_number, no_space_in_mode, mode_to}
-use Rattle.loader.proofs.Spelled.{within, mode_from}
-use Rattle.loader.proofs.WordLemmas.{word_is}
+use Rattle.loader.proofs.Export.{no_space_from, no_space_in_number, no_space_in_mode, mode_to, within, mode_from, word_is}
 use Rattle.dumps.specs.declared.lines.TheConstants.{DUMP_LINE_BYTES}
 use Rattle.dumps.specs.Grammar.{EntryLine, ProgramLine, Meaning, Entry, Program, is_lower_digit, lower_bytes, entry_meaning, program_meaning, words_meaning, line_meaning}
 use Rattle.dumps.specs.Dumping.{entry_text, program_text, text_of}
@@ -28,7 +24,7 @@ use Rattle.dumps.proofs.LowerHex.{lower_from, lower_to, lower_all}
 
 -- ---- a line that says something
 
--- its keys, values and programs are bytes, and a program is within its limits
+-- the line's keys, values and programs are bytes, and a program is within its limits
 abbrev pub IsBound : Meaning → Type 0
 IsBound (Entry e) = IsBytes e.key × IsBytes e.value
 IsBound (Program p) = (p.arg_len ≤ MAX_ARG_LEN) × IsBytes p.bytes × (length p.bytes ≤ 8 * MAX_INSTALLED_SLOTS)

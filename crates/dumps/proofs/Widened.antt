@@ -14,24 +14,20 @@ use Rattle.hex.specs.Hex.{IsBytes}
 use Rattle.insn.specs.declared.decoding.DecodeRefusal.{DecodeRefusal}
 use Rattle.insn.specs.declared.instruction.Form.{Form}
 use Rattle.insn.specs.Decoded.{decoded}
-use Rattle.insn.proofs.Laws.{read_is_spelled}
-use Rattle.insn.proofs.Slots.{are_bytes}
+use Rattle.insn.proofs.Export.{read_is_spelled, are_bytes}
 use Rattle.maps.specs.declared.shapes.Shape.{Shape}
 use Rattle.maps.specs.declared.shapes.Shape.TheVariants.{Array, Hash}
-use Rattle.maps.specs.Shapes.{key_size, value_size, entry_count, IsShapeOk, AreShapesOk}
+use Rattle.maps.specs.Shapes.{key_size, value_size, entry_count, IsShapeSupported, AreShapesSupported}
 use Rattle.maps.specs.Maps.{MapState, Maps, Entries, shapes_of}
 use Rattle.maps.specs.MapSets.{index_keys, opening_map, opening_maps, put_value}
-use Rattle.maps.proofs.Placed.{get_placed, get_nowhere, found_at, index_at, index_stands, index_distinct, none_free}
-use Rattle.maps.proofs.OpeningShapes.{opening_shapes}
-use Rattle.maps.proofs.Written.{put_value_at}
-use Rattle.helpers.proofs.Places.{get_set_same, get_set_other, map_set}
+use Rattle.maps.proofs.Export.{get_placed, get_nowhere, found_at, index_at, index_stands, index_distinct, none_free, opening_shapes, put_value_at}
+use Rattle.helpers.proofs.Export.{get_set_same, get_set_other, map_set}
 use Rattle.verifier.specs.Accepted.{Checked, checked}
 use Rattle.verifier.specs.Signature.{signature}
 use Rattle.verifier.specs.Verdict.{verdict}
 use Rattle.verifier.specs.declared.refusal.Refused.{Refused}
 use Rattle.verifier.specs.MoreAllowed.{ComeFirst}
-use Rattle.verifier.proofs.MoreMaps.{first_maps}
-use Rattle.verifier.proofs.VerdictLaws.{accepted_iff}
+use Rattle.verifier.proofs.Export.{first_maps, accepted_iff}
 use Rattle.text.specs.Lines.{next_line}
 use Rattle.loader.specs.Installed.{installed_program, accepted_program, unless_unsafe}
 use Rattle.loader.specs.StoreState.{StoreState}
@@ -88,7 +84,7 @@ same_hash k v n entries others all =
     (λ key. all key ∙ ap (option_or (finite_map.get entries key)) (empty_hash k v n key) ∙ or_none (finite_map.get entries key))
 
 -- what a map has when it is opened
-opening_all : (s t : Shape) → Extends s t → entry_count t ≤ 65536 → HasAllOf (opening_map s) (opening_map t)
+opening_all : (s t : Shape) → Extends s t → entry_count t ≤ 2147483648 → HasAllOf (opening_map s) (opening_map t)
 opening_all (Hash k v n) (Hash l w m) h few key = ap (λ o. option_or o (finite_map.get (opening_map (Hash l w m)).entries key)) (sym (empty_hash k v n key))
 opening_all (Array v n) (Hash l w m) h few key = absurd h
 opening_all (Hash k v n) (Array w m) h few key = absurd h
@@ -203,7 +199,7 @@ get_map f [] m x e = absurd cc
 get_map f (z ∷ xs) zero x e = let same : z ≡ x = cc in ap (λ y. Some (f y)) same
 get_map f (z ∷ xs) (suc m) x e = get_map f xs m x e
 
-module _ (shapes wider : List Shape) (places more : ℕ) (limits : AreShapesOk wider) (extend : AllExtend shapes wider) (le : places ≤ more) where
+module _ (shapes wider : List Shape) (places more : ℕ) (limits : AreShapesSupported wider) (extend : AllExtend shapes wider) (le : places ≤ more) where
   -- the map in the other maps that has all of a map
   record Twin (others : Maps) (m : ℕ) (a : MapState) : Type 0 where
     wide : MapState
@@ -380,7 +376,7 @@ module _ (shapes wider : List Shape) (places more : ℕ) (limits : AreShapesOk w
     maps = λ m a at.
         let s = got_map opening_map shapes m a at in
         let t = extend m s.0 s.1 in
-        let ok : IsShapeOk t.0 = subst IsShapeOk (get_or_from_slice_get wider m t.0 t.0 t.1) (limits.each m t.0 (slice_get_within wider m t.0 t.1)) in
+        let ok : IsShapeSupported t.0 = subst IsShapeSupported (get_or_from_slice_get wider m t.0 t.0 t.1) (limits.each m t.0 (slice_get_within wider m t.0 t.1)) in
         subst (λ (x : MapState). Twin (opening_maps wider) m x) s.2 (record {
           wide = opening_map t.0;
           at = get_map opening_map wider m t.0 t.1;

@@ -17,8 +17,7 @@ use Rattle.maps.specs.Maps.{Entries, Maps, MapState, value_at}
 use Rattle.maps.specs.MapSets.{Stored, Contents, flat, value_in, placed, entries_of, map_of, maps_of, stored_shapes, key_at, value_of}
 use Rattle.maps.specs.Shapes.{value_size, entry_count}
 use Rattle.maps.specs.declared.entry.Entry.{Entry as Spot}
-use Rattle.maps.proofs.Keys.{key_same}
-use Rattle.maps.proofs.Stored.{map_there, value_in_map}
+use Rattle.maps.proofs.Export.{key_same, map_there, value_in_map}
 use Rattle.verifier.specs.Accepted.{Checked}
 use Rattle.loader.specs.StoreState.{StoreState}
 use Rattle.dumps.specs.Grammar.{Meaning, Entry, Program}

@@ -28,7 +28,7 @@ abbrev pub map_entries : ℕ → MapState → List EntryLine
 map_entries m s =
     map (λ e. record { map = m; key = e.0; value = e.1 }) (filter (λ e. not (is_left_out s.shape e.1)) (finite_map.entries s.entries))
 
--- those of all maps, by their maps
+-- the entries of all maps, by their maps
 abbrev pub entries_of : Maps → List EntryLine
 entries_of maps = flat_map (λ m. map_entries m.0 m.1) (enumerate_from 0 maps)
 

@@ -1,14 +1,14 @@
--- Which text says no state: its first bad line, and of that line's faults the one of the lowest number.
+-- A text that says no state: its first bad line, and of that line's faults the one of the lowest number.
 use Rattle.std.specs.Prelude.{◌≡◌, ◌≢◌, ◌⊎◌, ◌↔◌, ℕ, ◌<◌, ◌≤◌, List, [], ◌∷◌, ◌++◌, length, Option, None, Some, Err, slice_get, option_and_then}
 use Rattle.std.specs.List.{AllByRecursion}
 use Rattle.std.specs.Ordering.{nat_cmp}
 use Rattle.std.specs.declared.cmp.Ordering.TheVariants.{Less}
 use Rattle.std.specs.Cmp.Lexicographic.{slice_cmp}
-use Rattle.maps.specs.Shapes.{AreShapesOk, IsHash, value_size}
+use Rattle.maps.specs.Shapes.{AreShapesSupported, IsHash, value_size}
 use Rattle.maps.specs.Maps.{MapState, IsKeyOf, shapes_of}
 use Rattle.maps.specs.MapSets.{HasRoom}
 use Rattle.text.specs.Lines.{next_line}
-use Rattle.loader.specs.declared.installed.TheConstants.{MAX_PLACES}
+use Rattle.loader.specs.declared.installed.TheConstants.{MOST_SPARE}
 use Rattle.loader.specs.Installed.{installed_program}
 use Rattle.loader.specs.StoreState.{StoreState, StateSizes, IsState}
 use Rattle.dumps.specs.declared.refusals.DumpFault.{DumpFault}
@@ -71,4 +71,4 @@ pub record IsFirstBad (z : StateSizes) (text : List ℕ) (e : DumpRefusal) : Typ
 -- what is refused is refused at the first bad line
 abbrev pub RefusedIsFirstBad : Type 0
 RefusedIsFirstBad =
-    (z : StateSizes) (text : List ℕ) (e : DumpRefusal) → AreShapesOk z.shapes → z.places ≤ MAX_PLACES → (loaded_state z.shapes z.places text ≡ Err e) ↔ IsFirstBad z text e
+    (z : StateSizes) (text : List ℕ) (e : DumpRefusal) → AreShapesSupported z.shapes → z.places ≤ MOST_SPARE → (loaded_state z.shapes z.places text ≡ Err e) ↔ IsFirstBad z text e

@@ -1,8 +1,8 @@
--- That states and texts are one for one, and which state the empty text says.
+-- Laws: states and texts are one for one, and the empty text says one state.
 use Rattle.std.specs.Prelude.{◌≡◌, ℕ, ◌≤◌, List, [], Ok, IsUtf8}
 use Rattle.maps.specs.declared.shapes.Shape.{Shape}
-use Rattle.maps.specs.Shapes.{AreShapesOk}
-use Rattle.loader.specs.declared.installed.TheConstants.{MAX_PLACES}
+use Rattle.maps.specs.Shapes.{AreShapesSupported}
+use Rattle.loader.specs.declared.installed.TheConstants.{MOST_SPARE}
 use Rattle.loader.specs.StoreState.{StoreState, StateSizes, IsState, opened_state}
 use Rattle.dumps.specs.Loading.{loaded_state}
 use Rattle.dumps.specs.Dumping.{dump}
@@ -23,7 +23,7 @@ TextIsDumped = (shapes : List Shape) (places : ℕ) (text : List ℕ) (s : Store
 -- what is loaded is a state of the maps and the places that it was read for
 abbrev pub LoadedIsState : Type 0
 LoadedIsState =
-    (z : StateSizes) (text : List ℕ) (s : StoreState) → AreShapesOk z.shapes → z.places ≤ MAX_PLACES → loaded_state z.shapes z.places text ≡ Ok s → IsState z s
+    (z : StateSizes) (text : List ℕ) (s : StoreState) → AreShapesSupported z.shapes → z.places ≤ MOST_SPARE → loaded_state z.shapes z.places text ≡ Ok s → IsState z s
 
 -- an empty text is loaded as a new state
 abbrev pub EmptyIsNew : Type 0

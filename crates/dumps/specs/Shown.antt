@@ -40,7 +40,7 @@ key_of e = record { map = e.map; key = e.key.items }
 abbrev pub view_of : PartialState → Loading
 view_of s = record { state = state_of (maps_of s.maps) s.installed; last = option_map key_of s.last }
 
--- its maps and programs are for these shapes, and its maps are maps of their shapes
+-- the maps and programs of the state are for these shapes, and its maps are maps of their shapes
 pub record IsFor (shapes : List Shape) (s : PartialState) : Type 0 where
   pub maps : stored_shapes s.maps ≡ shapes
   pub programs : s.installed.shapes ≡ shapes

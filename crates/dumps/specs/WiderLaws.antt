@@ -4,7 +4,7 @@ use Rattle.std.specs.Option.{option_or}
 use Rattle.std.specs.FinMap as finite_map
 use Rattle.maps.specs.declared.shapes.Shape.{Shape}
 use Rattle.maps.specs.declared.shapes.Shape.TheVariants.{Array, Hash}
-use Rattle.maps.specs.Shapes.{AreShapesOk}
+use Rattle.maps.specs.Shapes.{AreShapesSupported}
 use Rattle.maps.specs.Maps.{MapState, shapes_of}
 use Rattle.maps.specs.MapSets.{opening_map, opening_maps}
 use Rattle.verifier.specs.Accepted.{Checked}
@@ -27,7 +27,7 @@ abbrev pub HasAllOf : MapState → MapState → Type 0
 HasAllOf s t =
     (key : List ℕ) → finite_map.get t.entries key ≡ option_or (finite_map.get s.entries key) (finite_map.get (opening_map t.shape).entries key)
 
--- the same program, accepted for these maps
+-- the program, accepted for these maps
 abbrev pub for_maps : List Shape → Checked → Checked
 for_maps shapes c = record c { shapes = shapes }
 
@@ -42,5 +42,5 @@ pub record IsWidened (wider : List Shape) (more : ℕ) (s t : StoreState) : Type
 -- what is loaded for some maps and places is loaded for more
 abbrev pub DumpFitsMore : Type 0
 DumpFitsMore =
-    (shapes wider : List Shape) (places more : ℕ) (text : List ℕ) (s : StoreState) → AreShapesOk wider → AllExtend shapes wider → places ≤ more
+    (shapes wider : List Shape) (places more : ℕ) (text : List ℕ) (s : StoreState) → AreShapesSupported wider → AllExtend shapes wider → places ≤ more
     → loaded_state shapes places text ≡ Ok s → (t : StoreState) × (loaded_state wider more text ≡ Ok t) × IsWidened wider more s t

@@ -17,7 +17,7 @@ use Rattle.dumps.specs.Dumping.{entry_text, program_text, program_line}
 abbrev pub Pair : Type 0
 Pair = List ℕ × List ℕ
 
--- these, of map m
+-- the line of a key and its value in map m
 abbrev pub entry_line : ℕ → Pair → EntryLine
 entry_line m e = record { map = m; key = e.0; value = e.1 }
 
@@ -29,7 +29,7 @@ kept_text m shape e = if is_left_out shape e.1 then [] else entry_text (entry_li
 abbrev pub map_text : ℕ → MapState → List ℕ
 map_text m s = flat_map (kept_text m s.shape) (finite_map.entries s.entries)
 
--- those of maps of which the first has number n
+-- the lines of maps, the first of which has number n
 abbrev pub maps_text : ℕ → Maps → List ℕ
 maps_text n [] = []
 maps_text n (s ∷ maps) = map_text n s ++ maps_text (n + 1) maps

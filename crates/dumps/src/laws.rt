@@ -1,4 +1,4 @@
-// That states and texts are one for one, and which state the empty text says: each law proved by the function of its name.
+// Laws: states and texts are one for one, and the empty text says one state. Each law is proved by the function of its name.
 
 ghost use Rattle.std.specs.Prelude.{◌≡◌};
 ghost use Rattle.dumps.specs.declared.lines.TheConstants.{DUMP_LINE_BYTES};

@@ -2,10 +2,10 @@
 
 ghost use Rattle.std.specs.Prelude.{◌≡◌, ◌≤◌, ◌<◌, MatchResult, IfOk, IfErr, IfSome, IsErr, Ok, length, slice_get, Some, option_map};
 ghost use Rattle.std.specs.List.{list_all};
-ghost use Rattle.maps.specs.Shapes.{AreShapesOk, key_size, value_size};
+ghost use Rattle.maps.specs.Shapes.{AreShapesSupported, key_size, value_size};
 ghost use Rattle.maps.specs.Maps.{MapState, AreMaps};
 ghost use Rattle.maps.specs.MapSets.{HasRoom, maps_of, put_value, stored_shapes};
-ghost use Rattle.loader.specs.declared.installed.TheConstants.{MAX_PLACES};
+ghost use Rattle.loader.specs.declared.installed.TheConstants.{MOST_SPARE};
 ghost use Rattle.loader.specs.CatalogueView.{MayOpenOn};
 ghost use Rattle.loader.specs.Installed.{installed_program};
 ghost use Rattle.dumps.specs.Loading.{is_hash, is_zero, is_behind, is_in_order, is_key_for, is_left_out, has_room, entry_fault, without_place, after_entry, after_program, after_line, after_ended, opening, loaded_state};
@@ -171,7 +171,7 @@ fn take_entry(
 
 // A program for which there is no place: it is refused, and if its bytes are, for that.
 fn refuse_program(alloc: Global, shapes: &[Shape], program: &ProgramLine) -> Result<(), LineError>
-    requires shapes { AreShapesOk shapes.now }
+    requires shapes { AreShapesSupported shapes.now }
     requires program { ProgramFits program.now }
     ensures fails { IfErr result (λ e. Fails e (without_place (installed_program shapes.now program.now.mode program.now.arg_len program.now.bytes.items))) }
     ensures never { IsErr result }
@@ -194,7 +194,7 @@ fn take_program(
     so_far: &mut PartialState,
     program: ProgramLine,
 ) -> Result<(), LineError>
-    requires shapes { AreShapesOk shapes.now }
+    requires shapes { AreShapesSupported shapes.now }
     requires so_far { IsFor shapes.now so_far.old }
     requires program { ProgramFits program }
     ensures made { Makes (view_of so_far.new) result (after_program shapes.now (view_of so_far.old) (program_of program)) }
@@ -221,7 +221,7 @@ fn take_line(
     so_far: &mut PartialState,
     line: &str,
 ) -> Result<(), LineError>
-    requires shapes { AreShapesOk shapes.now }
+    requires shapes { AreShapesSupported shapes.now }
     requires so_far { IsFor shapes.now so_far.old }
     ensures made { Makes (view_of so_far.new) result (after_line shapes.now (view_of so_far.old) line.now) }
     ensures same { IsFor shapes.now so_far.new }
@@ -240,7 +240,7 @@ fn take_ended(
     so_far: &mut PartialState,
     line: Option<&str>,
 ) -> Result<(), LineError>
-    requires shapes { AreShapesOk shapes.now }
+    requires shapes { AreShapesSupported shapes.now }
     requires so_far { IsFor shapes.now so_far.old }
     ensures made { Makes (view_of so_far.new) result (after_ended shapes.now (view_of so_far.old) (option_map (λ t. t.now) line.entry)) }
     ensures same { IsFor shapes.now so_far.new }
@@ -253,8 +253,8 @@ fn take_ended(
 
 // Maps of these shapes as they are opened, and no program.
 fn opened(alloc: Global, shapes: &[Shape], places: usize) -> Result<PartialState, DumpError>
-    requires shapes { AreShapesOk shapes.now }
-    requires places { places ≤ MAX_PLACES }
+    requires shapes { AreShapesSupported shapes.now }
+    requires places { places ≤ MOST_SPARE }
     ensures opened { MatchResult result (λ s. view_of s ≡ opening shapes.now places) (λ e. e ≡ NoMemory) }
     ensures for_shapes { IfOk result (λ s. IsFor shapes.now s) }
 {
@@ -285,8 +285,8 @@ pub fn load(
     places: usize,
     text: &str,
 ) -> Result<StoreState, DumpError>
-    requires shapes { AreShapesOk shapes.now }
-    requires places { places ≤ MAX_PLACES }
+    requires shapes { AreShapesSupported shapes.now }
+    requires places { places ≤ MOST_SPARE }
     ensures loaded { IsLoadAnswer (loaded_state shapes.now places text.now) result }
 {
     let mut so_far = opened(alloc, shapes, places)?;

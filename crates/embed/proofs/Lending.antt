@@ -57,7 +57,7 @@ module _ {M : Type 1} {𝓤 : Ura M} {𝓛 : Logic 𝓤} {K : Type 0} {Γ : List
   is_typed t R law h vs k = peeks t R (Is R) (shows 𝓛 R) h vs (λ is. k (law.typed h vs is))
 
 module _ {M : Type 1} {𝓤 : Ura M} (𝓛 : Logic 𝓤) (R : RattleType) where
-  -- it is given a value that lies at its pointer, and leaves this there
+  -- the call is given a value that is at its pointer, and leaves this there
   abbrev pub leaves : (Ptr → R.Denot → SProp 𝓤) → Clauses 𝓤 of_pointer
   leaves left κs a = record { ghost = R.Denot; requires = λ value. sem 𝓛 (lies_at R full_share a.0 value); ensures = λ value r e. left a.0 value }
 
@@ -110,7 +110,7 @@ module _ {M : Type 1} {𝓤 : Ura M} (𝓛 : Logic 𝓤) (R : RattleType) where
         suffices ! _ (ends_at 𝓛 of_pointer stayed c (y (block_ptr b o)) vunit tt (tt, tt) (tt, tt)) $
         feq_i ! _ (vunit ∷ []) _ refl $ nothing ! $ nothing ! $ join ! $ nothing ! $ group ! 3 $ done !)))))))))
 
-    -- the same where the last value stays there, and is told of as the call tells
+    -- `lends`, if the last value stays there, and what the call says of it is so
     pub goes_on : Closed 𝓤 𝓛.H (tables 𝓤 𝓛.H 𝓜 𝓡 𝓡.env).C (tables 𝓤 𝓛.H 𝓜 𝓡 𝓡.env).Λ name (lending R callee)
         → Meets 𝓛 (of_loan R).signature ((tables 𝓤 𝓛.H 𝓜 𝓡 𝓡.env).C callee) (closing 𝓛 (of_loan R) (tells told))
         → Meets 𝓛 of_pointer.signature ((tables 𝓤 𝓛.H 𝓜 𝓡 𝓡.env).C name) (closing 𝓛 of_pointer (leaves (told_there told)))

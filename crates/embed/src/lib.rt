@@ -81,7 +81,7 @@ pub unsafe extern "C" fn nrbpf_raw_open(alloc: Global, opening: &Opening, at: *m
     std::ptr::write(at as *mut StoreHandle, opened(alloc, opening));
 }
 
-/// The same on the state of a handle, or on a new one where that has none.
+/// `nrbpf_raw_open`, but on the state of a handle, or on a new one if the handle has none.
 #[unsafe(no_mangle)]
 pub unsafe extern "C" fn nrbpf_raw_open_on(
     alloc: Global,

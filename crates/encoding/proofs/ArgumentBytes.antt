@@ -9,7 +9,7 @@ use Rattle.hex.specs.Hex.{IsBytes, decode_of}
 use Rattle.hex.proofs.HexLemmas.{decode_of-ok}
 use Rattle.text.specs.Digits.{good}
 use Rattle.text.specs.Lines.{lines_of}
-use Rattle.text.proofs.Cuts.{steps, unless, where_true}
+use Rattle.text.proofs.Export.{steps, unless, where_true}
 use Rattle.encoding.specs.Calls.{CallsAreWritten, CallsWith, IsCallLine, IsNameAndValues, IsValue}
 use Rattle.encoding.proofs.Calls as Calls
 use Rattle.encoding.proofs.Calls.{calls_are_read}

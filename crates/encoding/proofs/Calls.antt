@@ -14,7 +14,7 @@ use Rattle.text.specs.Digits.{field_bytes, good}
 use Rattle.text.specs.Fields.{cut_at, split_at_space, has_no_space}
 use Rattle.text.specs.Lines.{kind_of}
 use Rattle.text.specs.Words.{is_name, is_name_byte, is_lower}
-use Rattle.text.proofs.Cuts.{where_true, split_from, split_to}
+use Rattle.text.proofs.Export.{where_true, split_from, split_to}
 use Rattle.encoding.specs.declared.arguments.TheConstants.{ARGUMENT_BYTES}
 use Rattle.encoding.specs.declared.faults.LineFault.{LineFault}
 use Rattle.encoding.specs.declared.faults.Wanted.TheVariants as wanted

@@ -6,7 +6,7 @@ use Rattle.std.specs.Result.{OkIff, result_ok}
 use Rattle.std.specs.Str.Parse.{AllDigits, digits_value, ParsesUnsigned, IsNumeral, without_leading_plus}
 use Rattle.std.proofs.lemmas.Bool.{lt-ltb, le-ltb}
 use Rattle.std.proofs.lemmas.Str.Parse.{without_leading_plus_none}
-use Rattle.text.proofs.DigitTexts.{all_digits}
+use Rattle.text.proofs.Export.{all_digits}
 use Rattle.encoding.specs.Values.{are_digits, magnitude_of}
 
 -- a digit is no plus

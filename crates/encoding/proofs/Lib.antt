@@ -7,3 +7,4 @@ pub mod Calls
 pub mod ArgumentBytes
 pub mod WrittenLines
 pub mod NumberTexts
+pub mod Export

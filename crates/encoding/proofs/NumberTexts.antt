@@ -8,7 +8,7 @@ use Rattle.std.proofs.lemmas.Int.{ints}
 use Rattle.std.proofs.Math.Pow.{suc_ones}
 use Rattle.byteorder.specs.Endian.{little_number, twos_complement}
 use Rattle.byteorder.specs.Numbers.{length-bytes_low_first}
-use Rattle.text.proofs.Cuts.{steps, where_true}
+use Rattle.text.proofs.Export.{steps, where_true}
 use Rattle.encoding.specs.Calls.{AreDigits, NumbersAreSpelled, SpellsMagnitude, SpellsNumber, UnsignedAreReadBack, SignedAreReadBack, UnsignedHaveBytes, SignedHaveBytes}
 use Rattle.encoding.specs.Values.{are_digits, bits_of, magnitude_of, number_bytes, number_of, number_within, unsigned_of}
 use Rattle.encoding.proofs.ReadBack.{unsigned_back, signed_back}

@@ -9,7 +9,7 @@ use Rattle.text.specs.declared.lines.LineKind.{LineKind}
 use Rattle.text.specs.declared.lines.LineKind.TheVariants as line_kinds
 use Rattle.text.specs.Lines.{lines_of, next_line, kind_of}
 use Rattle.text.specs.Words.{is_name_byte}
-use Rattle.text.proofs.FirstLines.{HasNoFeed, lines_of-cut}
+use Rattle.text.proofs.Export.{HasNoFeed, lines_of-cut}
 use Rattle.encoding.specs.declared.faults.LineFault.{LineFault}
 use Rattle.encoding.specs.declared.faults.EncodeRefusal.{EncodeRefusal}
 use Rattle.encoding.specs.Calls.{IsWrittenAs, LinesAreWritten}

@@ -81,7 +81,7 @@ pub record AreDigits (radix : ℕ) (digits : List ℕ) (n : ℕ) : Type 0 where
 abbrev pub SpellsMagnitude : ℕ → List ℕ → Type 0
 SpellsMagnitude n field = AreDigits 10 field n ⊎ ((digits : List ℕ) × (field ≡ codes "0x" ++ digits) × AreDigits 16 digits n)
 
--- these, or - and these for the negative number
+-- the digits of `SpellsMagnitude`, or - and such digits for the negative number
 abbrev pub SpellsNumber : ℤ → List ℕ → Type 0
 SpellsNumber z field =
     ((n : ℕ) × (z ≡ pos n) × SpellsMagnitude n field) ⊎ ((n : ℕ) × (rest : List ℕ) × (z ≡ neg_ℤ (pos n)) × (field ≡ codes "-" ++ rest) × SpellsMagnitude n rest)

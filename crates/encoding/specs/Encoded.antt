@@ -50,7 +50,7 @@ placed column so_far bytes = if nat_lt ARGUMENT_BYTES (length so_far + length by
 unfoldable pub added : ℕ → List ℕ → List ℕ → Result (List ℕ) LineFault
 added column so_far word = value_of column word >>= placed column so_far
 
--- this is what was answered; where it is an argument, the argument that was lent has become that
+-- the answer is what was read; if it is an argument, the argument that was lent has become that
 abbrev pub LeavesArgument : {T : Type 0} → Result (List ℕ) LineFault → Result T LineFault → List ℕ → Type 0
 LeavesArgument read answer argument = MatchResult answer (λ _. read ≡ Ok argument) (λ e. read ≡ Err e)
 

@@ -63,7 +63,7 @@ fn first_bytes(bits: u64, size: usize) -> ArrayVec<u8, 512>
 }
 
 // A negative number stands for its 64 bits.
-fn bits(number: i128) -> u64
+fn as_unsigned(number: i128) -> u64
     requires low { neg_ℤ (pos (2 ^ 63)) ≤ℤ number }
     requires high { number <ℤ pos (2 ^ 64) }
     ensures { result ≡ bits_of number }
@@ -90,7 +90,7 @@ pub(crate) fn number_within(
 {
     let number = number(field)?;
     if low <= number && number <= high {
-        Some(first_bytes(bits(number), size))
+        Some(first_bytes(as_unsigned(number), size))
     } else {
         None
     }

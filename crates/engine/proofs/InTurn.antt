@@ -1,4 +1,4 @@
--- Which read failed, one text after another.
+-- The read that failed, one text after another.
 use Rattle.std.proofs.Common.{◌≡◌, inl, inr, ℕ, ◌+◌, ◌<◌, Bool, true, false, List, [], ◌∷◌, length, get_or, drop, map, Option, Some, None, Ok, Err, String, Bor, codes, string_bytes, refl, sym, ap, subst}
 use Rattle.std.specs.Prelude.{IfSome, IsSomeAnd}
 use Rattle.std.specs.Str.{is_utf8}

@@ -15,7 +15,7 @@ pub given_so : {F R : Type 0} (holds : F → Option Contents) (remaining : R →
 given_so holds remaining i P Q f =
     known_so _ _ (given_text remaining i.manifest) (λ m. known_so _ _ (holds i.folder.now) (λ h. known_so _ _ (given_text remaining i.file) (λ x.
     known_so _ _ (given_text remaining i.state) (λ s. known_so _ _ (given_text remaining i.history) (λ t.
-    f (record { manifest = m; folder = h; file = x; state = s; history = t }))))))
+    f (record { sizes = i.sizes; manifest = m; folder = h; file = x; state = s; history = t }))))))
 
 -- what is so of anything
 pub known_of : {A : Type 0} (Q : A → Type 0) (o : Option A) → ((a : A) → Q a) → IfSome o Q

@@ -1,3 +1,4 @@
+pub mod Limits
 pub mod Appended
 pub mod ProgramLines
 pub mod Quiet
@@ -8,3 +9,4 @@ pub mod Gatherings
 pub mod Reports
 pub mod Openings
 pub mod InTurn
+pub mod Export

@@ -21,6 +21,6 @@ pub fits_on : (c : CatalogueView) (lent : Option (Bor StoreState)) (state : Opti
 fits_on c None state is opened = tt
 fits_on c (Some s) state is opened = subst (λ o. IfSome o (MayOpenOn c)) (sym is) opened.0
 
--- the same catalogue on what was loaded, or the answer to its refusal, as `on_text` says
+-- the catalogue on what was loaded, or the answer to the refusal, as `on_text` says
 abbrev pub on_loaded : CatalogueView → Outcome → Result CatalogueView Answer
 on_loaded c o = result_map_both (opened_on c) (λ refusal. record { text = refusal_text refusal; verdict = Refused }) o

@@ -70,7 +70,7 @@ module _ {M : Type 0} (answer : M → Answer) (Is : M → Type 0) (old new : Opt
   performs got back (Err faults.NoMemory) (inr broke) handed is = did got statuses.CannotWrite back None broke.0 (rw broke.0 at handed) (inr broke.1)
   performs got back (Err faults.CannotRead) wrote handed is = did got statuses.CannotRead back None wrote.0 (rw wrote.0 at handed) wrote.1
 
-  -- the same without what was handed back
+  -- `Reports`, without what was handed back
   pub performed : (got : Status) (back : Option M) → Did got back → Reports answer Is old new got
   performed got (Some m) did = sent answer Is old new got m did.0 (inl (did.1, did.2))
   performed statuses.NoMemory None did = did

@@ -21,7 +21,7 @@ Reports answer Is old new statuses.CannotRead = Keeps old new
 Reports {M} answer Is old new statuses.CannotWrite = ((m : M) × Is m × AppendsBeginning old new (answer m).text) ⊎ AppendsBeginning old new no_memory_line
 Reports {M} answer Is old new status = (m : M) × Is m × (status ≡ status_of (answer m).verdict) × Appends old new (answer m).text
 
--- the same of what may be made of the texts that are read of these bytes, in a writer by what it holds
+-- `Reports`, but of what may be made of the texts that are read of these bytes, in a writer by what it holds
 abbrev pub ReportsRead : {M W : Type 0} → (M → Answer) → (Option TextsRead → M → Type 0) → (W → Option (List ℕ)) → W → W → Status → Given → Type 0
 ReportsRead answer may_make contents old new status g = Reports answer (may_make (read g)) (contents old) (contents new) status
 
@@ -45,7 +45,7 @@ abbrev pub Performs : {M : Type 0} → (M → Answer) → (M → Type 0) → Opt
 Performs answer Is old new done =
     MatchOption done.made (BreaksOff answer Is old new done.status) (λ m. Is m × (done.status ≡ status_of (answer m).verdict) × Appends old new (answer m).text)
 
--- the same of what may be made of the texts that are read of these bytes, in a writer by what it holds
+-- `Performs`, but of what may be made of the texts that are read of these bytes, in a writer by what it holds
 abbrev pub PerformsRead : {M W : Type 0} → (M → Answer) → (Option TextsRead → M → Type 0) → (W → Option (List ℕ)) → W → W → Performed M → Given → Type 0
 PerformsRead answer may_make contents old new done g = Performs answer (may_make (read g)) (contents old) (contents new) done
 

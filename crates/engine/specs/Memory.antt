@@ -19,4 +19,4 @@ held_text (Some h) = h.0.now
 
 -- what texts and files in memory give
 abbrev pub held : Inputs HeldFiles Held → Given
-held i = record { manifest = held_text i.manifest; folder = found_file i.folder.now.0.now; file = held_text i.file; state = held_text i.state; history = held_text i.history }
+held i = record { sizes = i.sizes; manifest = held_text i.manifest; folder = found_file i.folder.now.0.now; file = held_text i.file; state = held_text i.state; history = held_text i.history }

@@ -1,22 +1,22 @@
 -- What a command runs on: the catalogue that a manifest and its files say, and the state that it opens on.
 use Rattle.std.specs.Prelude.{◌≡◌, ℕ, List, Option, Some, None, IfSome, option_map, Result, Ok, Err, nat_le, if◌then◌else◌}
-use Rattle.loader.specs.declared.installed.TheConstants.{MAX_PLACES}
+use Rattle.loader.specs.declared.installed.TheConstants.{MAX_SPARE}
 use Rattle.loader.specs.CatalogueView.{CatalogueView, MayOpenOn, with_places}
-use Rattle.loader.specs.Loading.{Outcome, loaded}
+use Rattle.loader.specs.Loading.{Outcome}
 use Rattle.loader.specs.StoreState.{with_room}
 use Rattle.engine.specs.declared.opening.Loaded.{Loaded}
 use Rattle.engine.specs.declared.opening.Loaded.TheVariants as loads
 use Rattle.engine.specs.declared.opening.Opened.{Opened}
 use Rattle.engine.specs.declared.opening.Opened.TheVariants as opens
 use Rattle.engine.specs.Answer.{Answer, refusal_answer}
-use Rattle.engine.specs.Reading.{TextsRead}
+use Rattle.engine.specs.Reading.{TextsRead, loaded_by}
 use Rattle.engine.specs.Report.{answer_of}
 use Rattle.engine.specs.Sizes.{sizes_refused}
 use Rattle.engine.specs.StateAnswer.{opened_by}
 
 -- how many places there are behind a manifest's programs; none where that is more than there may be
 abbrev pub places_within : ℕ → Option ℕ
-places_within spare = if nat_le spare MAX_PLACES then Some spare else None
+places_within spare = if nat_le spare MAX_SPARE then Some spare else None
 
 -- by what the manifest was loaded as, and by the number of places
 abbrev pub opening_of : Option ℕ → Outcome → List ℕ → Result CatalogueView Answer
@@ -27,7 +27,7 @@ opening_of (Some n) (Ok c) state = opened_by (with_places c n) state
 -- the catalogue with so many places, on the state that was read, or what is answered in its place: a refused manifest gets only its refusal, sizes
 -- out of their limits, which leave no number of places, only theirs, a refused state only its
 abbrev pub opening : Option ℕ → TextsRead → Result CatalogueView Answer
-opening places t = opening_of places (loaded t.manifest t.files) t.state
+opening places t = opening_of places (loaded_by t) t.state
 
 -- ---- by code
 

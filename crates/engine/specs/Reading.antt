@@ -2,9 +2,14 @@
 use Rattle.std.specs.Prelude.{◌≡◌, ◌⊎◌, ℕ, not, true, List, [], ◌∷◌, ◌++◌, map, codes, Option, Some, None, is_some, Result, Ok, Err, IfSome, IsSomeAnd, string_bytes, if◌then◌else◌}
 use Rattle.std.specs.Str.{is_utf8}
 use Rattle.std.specs.List.{find}
+use Rattle.maps.specs.declared.shapes.MapLimits.{MapLimits}
+use Rattle.maps.specs.Shapes.{standard, widest}
+use Rattle.loader.specs.Loading.{Outcome, loaded_within}
 use Rattle.loader.specs.NamedFiles.{named_in}
 use Rattle.loader.specs.ProgramFiles.{Files}
 use Rattle.engine.specs.declared.reading.Inputs.{Inputs}
+use Rattle.engine.specs.declared.reading.MapSizes.{MapSizes}
+use Rattle.engine.specs.declared.reading.MapSizes.TheVariants.{Standard, Large}
 use Rattle.engine.specs.declared.reading.NamedText.{NamedText}
 use Rattle.engine.specs.declared.reading.Texts.{Texts}
 use Rattle.engine.specs.declared.reading.Stranger.{Stranger}
@@ -12,8 +17,9 @@ use Rattle.engine.specs.Files.{Contents, present}
 
 -- ---- what there is to read
 
--- the bytes that there are to read
+-- the bytes that there are to read, and how large the maps may be
 pub record Given : Type 0 where
+  pub sizes : MapSizes
   pub manifest : List ℕ
   pub folder : Contents
   pub file : List ℕ
@@ -30,7 +36,7 @@ abbrev pub IfGiven : {F R : Type 0} → (F → Option Contents) → (R → Optio
 IfGiven holds remaining i P =
     IfSome (given_text remaining i.manifest) (λ m. IfSome (holds i.folder.now) (λ h. IfSome (given_text remaining i.file) (λ f.
     IfSome (given_text remaining i.state) (λ s. IfSome (given_text remaining i.history) (λ t.
-    P (record { manifest = m; folder = h; file = f; state = s; history = t }))))))
+    P (record { sizes = i.sizes; manifest = m; folder = h; file = f; state = s; history = t }))))))
 
 -- of the files those are read that the manifest names and that are there
 abbrev pub files_in : Given → Files
@@ -46,8 +52,9 @@ first_stranger g =
 
 -- ---- what was read
 
--- texts as they were read
+-- texts as they were read, and how large the maps may be
 pub record TextsRead : Type 0 where
+  pub sizes : MapSizes
   pub manifest : List ℕ
   pub files : Files
   pub file : List ℕ
@@ -58,7 +65,16 @@ pub record TextsRead : Type 0 where
 abbrev pub read : Given → Option TextsRead
 read g =
     if is_some (first_stranger g) then None
-    else Some (record { manifest = g.manifest; files = files_in g; file = g.file; state = g.state; history = g.history })
+    else Some (record { sizes = g.sizes; manifest = g.manifest; files = files_in g; file = g.file; state = g.state; history = g.history })
+
+-- the limits of the maps that a manifest names
+abbrev pub limits_of : MapSizes → MapLimits
+limits_of Standard = standard
+limits_of Large = widest
+
+-- the catalogue that the manifest and its files say
+abbrev pub loaded_by : TextsRead → Outcome
+loaded_by t = loaded_within (limits_of t.sizes) t.manifest t.files
 
 -- ---- what was read, by code
 
@@ -67,7 +83,7 @@ abbrev pub named_texts : List NamedText → Files
 named_texts fs = map (λ f. (string_bytes f.name, string_bytes f.text)) fs
 
 abbrev pub texts_read : Texts → TextsRead
-texts_read t = record { manifest = string_bytes t.manifest; files = named_texts t.files.items; file = string_bytes t.file; state = string_bytes t.state; history = string_bytes t.history }
+texts_read t = record { sizes = t.sizes; manifest = string_bytes t.manifest; files = named_texts t.files.items; file = string_bytes t.file; state = string_bytes t.state; history = string_bytes t.history }
 
 -- the texts, if all of them are
 abbrev pub texts_in : Result Texts Stranger → Option TextsRead

@@ -1,6 +1,6 @@
 -- The sizes of a store that a command opens.
 use Rattle.std.specs.Prelude.{ℕ, Bool, ◌&&◌, codes, Option, Some, None, nat_le, if◌then◌else◌}
-use Rattle.loader.specs.declared.installed.TheConstants.{MAX_PLACES}
+use Rattle.loader.specs.declared.installed.TheConstants.{MAX_SPARE}
 use Rattle.oplog.specs.declared.configuration.Config.{Config}
 use Rattle.oplog.specs.declared.configuration.TheConstants.{MAX_NODES, MAX_NODE_SLOTS, MIN_WINDOW, MAX_WINDOW, MAX_LIMIT}
 use Rattle.engine.specs.declared.replies.Verdict.TheVariants as verdicts
@@ -10,7 +10,7 @@ use Rattle.engine.specs.Answer.{Answer}
 abbrev pub are_sizes : Config → Bool
 are_sizes c =
     (nat_le 1 c.nodes && nat_le c.nodes MAX_NODES) && ((nat_le 1 c.slots && nat_le c.slots MAX_NODE_SLOTS)
-    && ((nat_le MIN_WINDOW c.window && nat_le c.window MAX_WINDOW) && ((nat_le 1 c.limit && nat_le c.limit MAX_LIMIT) && nat_le c.spare MAX_PLACES)))
+    && ((nat_le MIN_WINDOW c.window && nat_le c.window MAX_WINDOW) && ((nat_le 1 c.limit && nat_le c.limit MAX_LIMIT) && nat_le c.spare MAX_SPARE)))
 
 -- how many places its programs have behind them; none where a size is out of its limits
 abbrev pub places_in : Config → Option ℕ

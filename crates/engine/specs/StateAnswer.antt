@@ -22,11 +22,11 @@ reason_text why = []
 abbrev pub refusal_text : DumpRefusal → List ℕ
 refusal_text e = codes "line " ++ (decimal e.line ++ (codes ": E" ++ (decimal (fault_number e.why) ++ (reason_text e.why ++ codes "\n"))))
 
--- the same catalogue, of which a store opens on the state that a text says, or the answer to its refusal; an empty text says a new state
+-- the catalogue on the state that a text says, or the answer to the state's refusal; an empty text says a new state
 abbrev pub on_text : CatalogueView → List ℕ → Result CatalogueView Answer
 on_text c text =
     result_map_both (opened_on c) (λ refusal. record { text = refusal_text refusal; verdict = verdicts.Refused }) (loaded_state c.shapes c.places text)
 
--- the same catalogue on a new state where the text is empty, or on the state that it says
+-- the catalogue on a new state if the text is empty, or on the state that the text says
 abbrev pub opened_by : CatalogueView → List ℕ → Result CatalogueView Answer
 opened_by c text = if length text == 0 then Ok c else on_text c text

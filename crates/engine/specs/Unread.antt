@@ -21,7 +21,7 @@ FailsAs faults.NoMemory P = Unit {0}
 FailsAs faults.CannotRead P = Unit {0}
 FailsAs (faults.NotText s) P = P s
 
--- it is said that a read failed only where this is so
+-- P is so if the answer says that a read failed
 abbrev pub IfUnread : {X : Type 0} → Result X Unread → Type 0 → Type 0
 IfUnread (Ok x) P = Unit {0}
 IfUnread (Err faults.NoMemory) P = Unit {0}

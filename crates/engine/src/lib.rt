@@ -17,6 +17,6 @@ pub use parted::{Destination, Parted};
 pub use performing::{
     Command, Performed, hand_back, perform, perform_kept, prepare, report, write_text,
 };
-pub use reading::{Folder, Gathered, Inputs, NamedText, Stranger, Texts, gather, lent};
+pub use reading::{Folder, Gathered, Inputs, MapSizes, NamedText, Stranger, Texts, gather, lent};
 pub use replies::{Answering, Notes, Reply, Status, Telling, Verdict, not_text, sizes_refused};
 pub use transfer::{CannotRead, CannotWrite, Feed, ReadFault, Sink, Source};

@@ -1,17 +1,16 @@
 // What a command runs on: the catalogue that a manifest and its files say, and the state that it opens on.
 
 ghost use Rattle.std.specs.Prelude.{◌≡◌, ◌≤◌, ◌++◌, IfOk, IfSome, None, OnOk, Ok, string_bytes};
-ghost use Rattle.loader.specs.Loading.{loaded};
-ghost use Rattle.loader.specs.declared.installed.TheConstants.{MAX_PLACES};
+ghost use Rattle.loader.specs.declared.installed.TheConstants.{MAX_SPARE};
 ghost use Rattle.engine.specs.Opening.{IsOpened, LoadedIs, on_which, opening, places_within};
-ghost use Rattle.engine.specs.Reading.{named_texts, texts_read};
+ghost use Rattle.engine.specs.Reading.{loaded_by, texts_read};
 ghost use Rattle.engine.specs.StateAnswer.{opened_by, reason_text, refusal_text};
 
 use crate::reading::{Texts, lent};
 use crate::replies::{Reply, sizes_refused};
 use crate::texts::{begin_refusal, put_decode, put_numbered, put_verify, refusal_text};
 use dumps::{DumpError, DumpFault, DumpRefusal, load_for};
-use loader::{Catalogue, InstallRefusal, LoadError, MAX_PLACES, StoreState, load_manifest};
+use loader::{Catalogue, InstallRefusal, LoadError, MAX_SPARE, StoreState, load_manifest_within};
 use std::alloc::{AllocError, Global};
 
 /// The catalogue; or what a command answers to a refused manifest.
@@ -19,7 +18,7 @@ use std::alloc::{AllocError, Global};
 pub enum Loaded {
     /// The manifest is good.
     Catalogue(Catalogue),
-    /// It is refused.
+    /// The manifest is refused.
     Refused(Reply),
 }
 
@@ -29,10 +28,15 @@ pub enum Loaded {
 ///
 /// The system has no memory left.
 pub fn load_texts(alloc: Global, texts: &Texts) -> Result<Loaded, AllocError>
-    ensures { IfOk result (LoadedIs (loaded (string_bytes texts.now.manifest) (named_texts texts.now.files.items))) }
+    ensures { IfOk result (LoadedIs (loaded_by (texts_read texts.now))) }
 {
     let files = lent(alloc, &texts.files)?;
-    match load_manifest(alloc, texts.manifest.as_str(), &files) {
+    match load_manifest_within(
+        alloc,
+        &texts.sizes.limits(),
+        texts.manifest.as_str(),
+        &files,
+    ) {
         Ok(catalogue) => Ok(Loaded::Catalogue(catalogue)),
         Err(LoadError::NoMemory) => Err(AllocError),
         Err(LoadError::Refused(refusal)) => {
@@ -91,10 +95,10 @@ fn open_on(alloc: Global, catalogue: Catalogue, text: &str) -> Result<Opened, Al
 /// How many places there are behind a manifest's programs; none where that is more than there may be.
 pub fn places_within(spare: u32) -> Option<usize>
     ensures places { result ≡ places_within spare }
-    ensures few { IfSome result (λ n. n ≤ MAX_PLACES) }
+    ensures few { IfSome result (λ n. n ≤ MAX_SPARE) }
 {
     let places = spare as usize;
-    if places <= MAX_PLACES {
+    if places <= MAX_SPARE {
         Some(places)
     } else {
         None
@@ -108,8 +112,8 @@ pub fn places_within(spare: u32) -> Option<usize>
 ///
 /// The system has no memory left.
 pub fn open_texts(alloc: Global, texts: &Texts, places: Option<usize>) -> Result<Opened, AllocError>
-    requires few { IfSome places (λ n. n ≤ MAX_PLACES) }
-    // It opens on the state that stands beside it.
+    requires few { IfSome places (λ n. n ≤ MAX_SPARE) }
+    // The catalogue opens on the state that was read.
     ensures opened { IfOk result IsOpened }
     ensures answered { IfOk result (λ o. on_which o ≡ opening places (texts_read texts.now)) }
 {

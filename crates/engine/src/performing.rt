@@ -17,10 +17,10 @@ use std::alloc::{AllocError, Global};
 
 /// A command: what it makes of all that was read.
 pub trait Command {
-    /// What it makes: an answer, and what else it leaves.
+    /// What the command makes: an answer, and what else the command leaves.
     type Made: Drop;
 
-    // What it may make of these texts; of none, where one of them is not UTF-8.
+    // What the command may make of these texts; of none, if one of them is not UTF-8.
     ghost may_make: { Self → Option TextsRead → Self.Made → Type 0 };
 
     /// Makes it of what was read: of all texts, or of the first that is not UTF-8.
@@ -50,7 +50,7 @@ pub fn prepare<C: Command, F: Folder, R: Source + Drop>(
 ) -> Result<C::Made, ReadFault>
     // Where the readers and the folder tell their bytes, it is made of those.
     ensures known { IfGiven F.holds R.remaining inputs.old (λ g. IfOk result (C.may_make command.now (read g))) }
-    // It says that a read failed only after one did, and all texts before that one are UTF-8.
+    // The result says that a read failed only after one did, and all texts before that one are UTF-8.
     ensures failed { IfCannotRead result (FailedInTurn F.holds F.can_fail R.remaining R.has_failed inputs.old inputs.new) }
     // Whatever they give.
     ensures some { IfOk result (λ m. (t : Option TextsRead) × C.may_make command.now t m) }
@@ -92,7 +92,7 @@ pub fn report<M: Answering, W: Sink>(writer: &mut W, made: &Result<M, ReadFault>
 pub struct Performed<M: Drop> {
     /// How it ended.
     pub status: Status,
-    /// What it made, where all of its answer was written.
+    /// What the command made, if all of its answer was written.
     pub made: Option<M>,
 }
 
@@ -124,7 +124,7 @@ where
     C::Made: Answering,
     // Where the readers and the folder tell their bytes, it is made of those, and its answer is what was written.
     ensures written { IfGiven F.holds R.remaining inputs.old (PerformsRead C.Made.answer (C.may_make command.now) W.contents writer.old writer.new result) }
-    // It says that a read or a write failed only after one did, and of a read that all texts before that one are UTF-8.
+    // The status says that a read or a write failed only after one did, and of a read that all texts before that one are UTF-8.
     ensures failed { Failed result.status (FailedInTurn F.holds F.can_fail R.remaining R.has_failed inputs.old inputs.new) (W.has_failed writer.new) }
     // Whatever they give, or where they fail.
     ensures ended { Performs C.Made.answer (λ m. (t : Option TextsRead) × C.may_make command.now t m) (W.contents writer.old) (W.contents writer.new) result }
@@ -135,7 +135,7 @@ where
     hand_back(writer, made)
 }
 
-/// The same of a command of which nothing is kept.
+/// `perform_kept`, but hands nothing back.
 pub fn perform<C: Command, F: Folder, R: Source + Drop, W: Sink>(
     alloc: Global,
     command: &C,
@@ -147,7 +147,7 @@ where
     C::Made: Answering,
     // Where the readers and the folder tell their bytes, what is written is what the command answers to those.
     ensures written { IfGiven F.holds R.remaining inputs.old (ReportsRead C.Made.answer (C.may_make command.now) W.contents writer.old writer.new result) }
-    // It says that a read or a write failed only after one did, and of a read that all texts before that one are UTF-8.
+    // The status says that a read or a write failed only after one did, and of a read that all texts before that one are UTF-8.
     ensures failed { Failed result (FailedInTurn F.holds F.can_fail R.remaining R.has_failed inputs.old inputs.new) (W.has_failed writer.new) }
     // Whatever they give, or where they fail.
     ensures ended { Reports C.Made.answer (λ m. (t : Option TextsRead) × C.may_make command.now t m) (W.contents writer.old) (W.contents writer.new) result }

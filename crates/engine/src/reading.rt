@@ -1,16 +1,18 @@
 // What a command reads: a manifest and the files that it names, the file that it is about, a state and a history.
 
 ghost use Rattle.std.specs.Prelude.{◌≡◌, ℕ, List, Option, None, Some, IfOk, IfErr, IfSome, IsSomeAnd, MatchOption, MatchResult, string_bytes};
+ghost use Rattle.maps.specs.Shapes.{AreLimits};
 ghost use Rattle.loader.specs.NamedFiles.{named_in};
 ghost use Rattle.loader.specs.ProgramFiles.{files_of};
 ghost use Rattle.engine.specs.declared.reading.Unread.TheVariants as faults;
 ghost use Rattle.engine.specs.Files.{Contents};
 ghost use Rattle.engine.specs.ReadFaults.{IfCannotRead};
-ghost use Rattle.engine.specs.Reading.{FailedInTurn, FileFailedOr, IfGiven, first_stranger, given_text, named_texts, read, strange_text, texts_in};
+ghost use Rattle.engine.specs.Reading.{FailedInTurn, FileFailedOr, IfGiven, first_stranger, given_text, limits_of, named_texts, read, strange_text, texts_in};
 ghost use Rattle.engine.specs.Unread.{AreRead, FailsAs, FoundAs, Gathered, IfUnread, IsStrangeFile, TextIs};
 
 use crate::transfer::{ReadFault, Source};
 use loader::named_files;
+use maps::MapLimits;
 use std::alloc::{AllocError, AllocFailed, Global};
 
 /// Files by their names.
@@ -31,9 +33,33 @@ pub trait Folder {
         ensures could { IfSome result (λ f. Self.File.can_fail f → can_fail self.now name.now) };
 }
 
+/// How large the maps may be that a manifest names.
+#[derive(Clone, Copy, PartialEq, Eq, Debug)]
+pub enum MapSizes {
+    /// As large as [`MapLimits::standard`] says.
+    Standard,
+    /// As large as [`MapLimits::widest`] says.
+    Large,
+}
+
+impl MapSizes {
+    /// The limits of each map and of all maps.
+    pub fn limits(self) -> MapLimits
+        ensures limits { result ≡ limits_of self }
+        ensures supported { AreLimits result }
+    {
+        match self {
+            MapSizes::Standard => MapLimits::standard(),
+            MapSizes::Large => MapLimits::widest(),
+        }
+    }
+}
+
 /// Where the texts of a command are, in the order in which they are read. One that is absent is empty.
 #[derive(Drop)]
 pub struct Inputs<'a, F, R: Drop> {
+    /// How large the maps may be that the manifest names.
+    pub sizes: MapSizes,
     /// The folder of the files that the manifest names.
     pub folder: &'a F,
     /// The manifest.
@@ -49,15 +75,17 @@ pub struct Inputs<'a, F, R: Drop> {
 /// A file that the manifest names.
 #[derive(Drop)]
 pub struct NamedText {
-    /// Its name.
+    /// The file's name.
     pub name: String,
-    /// Its text.
+    /// The file's text.
     pub text: String,
 }
 
 /// All that was read.
 #[derive(Drop)]
 pub struct Texts {
+    /// How large the maps may be that the manifest names.
+    pub sizes: MapSizes,
     /// The manifest.
     pub manifest: String,
     /// The files that it names and that are there.
@@ -73,7 +101,7 @@ pub struct Texts {
 /// What was read last, where it isn't UTF-8.
 #[derive(Drop)]
 pub struct Stranger {
-    /// What it goes by.
+    /// The name of what was read.
     pub name: String,
     /// All that was read of it.
     pub bytes: Vec<u8>,
@@ -91,7 +119,7 @@ pub(crate) enum Unread {
     NoMemory,
     // A read failed.
     CannotRead,
-    // This is not UTF-8.
+    // What was read is not UTF-8.
     NotText(Stranger),
 }
 
@@ -235,6 +263,7 @@ fn gather_texts<F: Folder, R: Source + Drop>(
     let state = read_given(alloc, "the state", &mut inputs.state)?;
     let history = read_given(alloc, "the history", &mut inputs.history)?;
     Ok(Texts {
+        sizes: inputs.sizes,
         manifest,
         files,
         file,
@@ -258,7 +287,7 @@ pub fn gather<F: Folder, R: Source + Drop>(
     ensures read { IfGiven F.holds R.remaining inputs.old (λ g. IfOk result (λ r. texts_in r ≡ read g)) }
     // What is not UTF-8 is the first in the order of reading.
     ensures first { IfGiven F.holds R.remaining inputs.old (λ g. IfOk result (λ r. IfErr r (λ s. first_stranger g ≡ Some (strange_text s)))) }
-    // It says that a read failed only after one did, and all texts before that one are UTF-8.
+    // The result says that a read failed only after one did, and all texts before that one are UTF-8.
     ensures failed { IfCannotRead result (FailedInTurn F.holds F.can_fail R.remaining R.has_failed inputs.old inputs.new) }
 {
     match gather_texts(alloc, inputs) {

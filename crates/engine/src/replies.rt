@@ -31,11 +31,11 @@ pub enum Status {
 /// Whether what was read is good.
 #[derive(Clone, Copy)]
 pub enum Verdict {
-    /// It is.
+    /// What was read is good.
     Good,
-    /// It is refused.
+    /// What was read is refused.
     Refused,
-    /// It tells something else than what is so.
+    /// What was read says something that is not so.
     Differs,
 }
 
@@ -120,7 +120,7 @@ impl Reply {
         Reply { text, verdict }
     }
 
-    /// It is refused.
+    /// What was read is refused.
     pub fn refused(text: Vec<u8>) -> Reply
         ensures { answer_of result ≡ record { text = text.items; verdict = verdicts.Refused } }
     {

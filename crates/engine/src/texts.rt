@@ -98,7 +98,7 @@ pub fn put_decode(out: &mut Vec<u8>, refusal: DecodeRefusal) -> Result<(), Alloc
     put_numbered(out, b" slot ", refusal.slot as u64)
 }
 
-/// Which rule a program breaks, and where.
+/// Adds which rule a program breaks, and where.
 pub fn put_verify(out: &mut Vec<u8>, refusal: Refused) -> Result<(), AllocError>
     ensures { OnOk result (out.new.items ≡ out.old.items ++ verify_text refusal) }
 {

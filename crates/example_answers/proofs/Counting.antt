@@ -5,7 +5,7 @@ use Rattle.maps.specs.declared.shapes.Shape.TheVariants.{Array}
 use Rattle.maps.specs.Maps.{Entries}
 use Rattle.verifier.specs.declared.refusal.Mode.TheVariants.{Update, Read}
 use Rattle.verifier.specs.Accepted.{checked}
-use Rattle.helpers.proofs.Answers.{inserted}
+use Rattle.helpers.proofs.Export.{inserted}
 use Rattle.machine.specs.Effects.{effect, effect_of}
 use Rattle.machine.specs.MapExamples.{bump, peek, with_values}
 use Rattle.loader.specs.CatalogueView.{CatalogueView, with_places}

@@ -13,7 +13,7 @@ use Rattle.engine.specs.Memory.{found_file}
 use Rattle.engine.specs.Reading.{FailedInTurn}
 use Rattle.engine.specs.Report.{Failed}
 use Rattle.engine.specs.Status.{status_of}
-use Rattle.engine.proofs.InTurn.{never_failed}
+use Rattle.engine.proofs.Export.{never_failed}
 use Rattle.example_answers.specs.Pages.{IsOnPage}
 
 -- of texts and files in memory none has failed

@@ -7,7 +7,7 @@ use Rattle.std.specs.Ordering.{nat_cmp, eq_by_cmp}
 use Rattle.std.specs.Cmp.Lexicographic.{slice_cmp, nat_list_cmp_total}
 use Rattle.maps.specs.Maps.{Entries}
 use Rattle.maps.specs.MapSets.{index_keys, placed}
-use Rattle.helpers.proofs.Answers.{inserted}
+use Rattle.helpers.proofs.Export.{inserted}
 use Rattle.example_answers.proofs.Counting.{first, absent, value, put, counted}
 
 abbrev is_same : List ℕ → List ℕ → Bool

@@ -11,7 +11,7 @@ use Rattle.loader.specs.CatalogueView.{CatalogueView}
 use Rattle.oplog.specs.declared.configuration.TheConstants.{MAX_LIMIT}
 use Rattle.oplog.specs.History.{History}
 use Rattle.engine.specs.Reading.{first_stranger, read}
-use Rattle.engine.proofs.Gatherings.{found, unless_strange}
+use Rattle.engine.proofs.Export.{found, unless_strange}
 use Rattle.std.specs.Option.{option_map_or}
 use Rattle.running.specs.RunAnswer.{Turn, behind, bad_line, line_turn, lines_answer}
 use Rattle.running.specs.KeptRun.{KeptRun, kept_of, run_kept, script_kept}

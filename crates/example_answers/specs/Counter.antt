@@ -1,5 +1,6 @@
 -- Sixteen counters: a program that adds one to a counter and replies it, and one that replies it.
 use Rattle.std.specs.Prelude.{ℕ, List, [], codes, Some, None, bytes_eq, if◌then◌else◌}
+use Rattle.engine.specs.declared.reading.MapSizes.TheVariants.{Standard}
 use Rattle.engine.specs.declared.replies.Verdict.TheVariants as verdicts
 use Rattle.engine.specs.Files.{Contents}
 use Rattle.engine.specs.Answer.{Answer}
@@ -20,7 +21,7 @@ counter_folder name = if bytes_eq (codes "bump.hex") name then Some bump_file el
 
 -- what there is to read
 abbrev pub counter_given : Given
-counter_given = record { manifest = counter_manifest; folder = counter_folder; file = []; state = []; history = [] }
+counter_given = record { sizes = Standard; manifest = counter_manifest; folder = counter_folder; file = []; state = []; history = [] }
 
 -- what `check` answers
 abbrev pub counter_checked : Answer
@@ -30,9 +31,9 @@ counter_checked = record { text = codes "bump ok 12 11\npeek ok 9 8\n"; verdict 
 abbrev pub counter_script : List ℕ
 counter_script = codes "bump 00000000\nbump 00000000\npeek 00000000\nbump 10000000\nnope 00\n"
 
--- the same with the script
+-- `counter_given` with the script
 abbrev pub counter_calls : Given
-counter_calls = record { manifest = counter_manifest; folder = counter_folder; file = counter_script; state = []; history = [] }
+counter_calls = record { sizes = Standard; manifest = counter_manifest; folder = counter_folder; file = counter_script; state = []; history = [] }
 
 -- what `run` answers
 abbrev pub counter_ran : Answer

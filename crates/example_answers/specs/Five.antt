@@ -1,5 +1,6 @@
 -- The first page's example: one program, which replies 5.
 use Rattle.std.specs.Prelude.{ℕ, List, [], codes, Some, None, bytes_eq, if◌then◌else◌}
+use Rattle.engine.specs.declared.reading.MapSizes.TheVariants.{Standard}
 use Rattle.engine.specs.declared.replies.Verdict.TheVariants as verdicts
 use Rattle.engine.specs.Files.{Contents}
 use Rattle.engine.specs.Answer.{Answer}
@@ -14,7 +15,7 @@ five_folder name = if bytes_eq (codes "five.hex") name then Some (codes "b700000
 
 -- what there is to read
 abbrev pub five_given : Given
-five_given = record { manifest = five_manifest; folder = five_folder; file = []; state = []; history = [] }
+five_given = record { sizes = Standard; manifest = five_manifest; folder = five_folder; file = []; state = []; history = [] }
 
 -- what `check` answers
 abbrev pub five_checked : Answer

@@ -9,7 +9,7 @@ ghost use Rattle.example_answers.specs.Counter.{counter_checked, counter_ran};
 ghost use Rattle.example_answers.specs.Pages.{IsOnPage};
 
 use console::Check;
-use engine::{Held, HeldFiles, Inputs, Notes, Page, Reply, Status, in_memory, perform};
+use engine::{Held, HeldFiles, Inputs, MapSizes, Notes, Page, Reply, Status, in_memory, perform};
 use running::{Kept, Run};
 use std::alloc::{AllocError, Global};
 
@@ -36,6 +36,7 @@ pub fn five_checked(alloc: Global) -> Result<Reply, AllocError>
 {
     let files = [("five.hex", FIVE)];
     let inputs = Inputs {
+        sizes: MapSizes::Standard,
         folder: &HeldFiles(&files),
         manifest: Some(Held(FIRST_PAGE)),
         file: None,
@@ -55,6 +56,7 @@ pub fn five_on_page(alloc: Global) -> (Status, Page)
     };
     let files = [("five.hex", FIVE)];
     let mut inputs = Inputs {
+        sizes: MapSizes::Standard,
         folder: &HeldFiles(&files),
         manifest: Some(Held(FIRST_PAGE)),
         file: None,
@@ -72,6 +74,7 @@ pub fn counter_checked(alloc: Global) -> Result<Reply, AllocError>
 {
     let files = [("bump.hex", BUMP), ("peek.hex", PEEK)];
     let inputs = Inputs {
+        sizes: MapSizes::Standard,
         folder: &HeldFiles(&files),
         manifest: Some(Held(COUNTER)),
         file: None,
@@ -87,6 +90,7 @@ pub fn counter_ran(alloc: Global) -> Result<Kept, AllocError>
 {
     let files = [("bump.hex", BUMP), ("peek.hex", PEEK)];
     let inputs = Inputs {
+        sizes: MapSizes::Standard,
         folder: &HeldFiles(&files),
         manifest: Some(Held(COUNTER)),
         file: Some(Held(SCRIPT)),
@@ -106,6 +110,7 @@ pub fn counter_on_page(alloc: Global) -> (Status, Page)
     };
     let files = [("bump.hex", BUMP), ("peek.hex", PEEK)];
     let mut inputs = Inputs {
+        sizes: MapSizes::Standard,
         folder: &HeldFiles(&files),
         manifest: Some(Held(COUNTER)),
         file: Some(Held(SCRIPT)),

@@ -70,7 +70,7 @@ fn count<R: Wait>(rt: &R, store: &Store, session: &mut Session, programs: Progra
 }
 
 // A store with its only session: reads, counts twice, installs a program, and closes the store.
-fn before<R: Wait>(
+fn run_first<R: Wait>(
     rt: &R,
     alloc: Global,
     catalogue: Catalogue,
@@ -87,7 +87,7 @@ fn before<R: Wait>(
 
 // A store on the state that another ended in, with its catalogue, which isn't loaded and verified again: reads, counts twice, and
 // calls the program that was installed.
-fn behind<R: Wait>(rt: &R, alloc: Global, ended: Closed, programs: Programs) -> Option<Told> {
+fn run_second<R: Wait>(rt: &R, alloc: Global, ended: Closed, programs: Programs) -> Option<Told> {
     let (state, catalogue) = ended.into_state();
     let (store, mut sessions) = Store::open_on(alloc, config(), catalogue, &state).ok()?;
     let Some(mut session) = sessions.pop() else {
@@ -100,22 +100,22 @@ fn behind<R: Wait>(rt: &R, alloc: Global, ended: Closed, programs: Programs) -> 
 }
 
 // Two stores, the second on the state that the first ends in: what the session of each was told.
-fn lives<R: Wait>(rt: &R, alloc: Global) -> Option<[Told; 2]> {
+fn told_by_two<R: Wait>(rt: &R, alloc: Global) -> Option<[Told; 2]> {
     let catalogue = load_manifest(alloc, MANIFEST, &FILES).ok()?;
     let programs = Programs {
         bump: catalogue.number("bump")?,
         peek: catalogue.number("peek")?,
     };
-    let (first, ended) = before(rt, alloc, catalogue, programs)?;
-    Some([first, behind(rt, alloc, ended, programs)?])
+    let (first, ended) = run_first(rt, alloc, catalogue, programs)?;
+    Some([first, run_second(rt, alloc, ended, programs)?])
 }
 
 /// Writes what the session of each store was told.
 pub fn tell<R: Print + Wait>(rt: &R, alloc: Global) -> io::Result<()> {
-    let Some(lives) = lives(rt, alloc) else {
+    let Some(stores) = told_by_two(rt, alloc) else {
         return println!(rt; "the store can't be opened");
     };
-    for told in lives {
+    for told in stores {
         print_read(rt, told.counted.seen)?;
         print_update(rt, told.counted.first)?;
         print_update(rt, told.counted.second)?;

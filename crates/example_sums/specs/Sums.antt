@@ -65,13 +65,13 @@ abbrev pub items_of : Value → List ℕ
 items_of (TheList x) = x.items.items
 items_of (Sum x) = []
 
-abbrev pub known_items : List (Known Progress ℕ Value) → List ℕ
-known_items [] = []
-known_items (k ∷ ks) = k.progress.items
+abbrev pub items_last_known : List (Known Progress ℕ Value) → List ℕ
+items_last_known [] = []
+items_last_known (k ∷ ks) = k.progress.items
 
 -- the note, once the session that knows this has put the value back
 abbrev pub counted : List (Known Progress ℕ Value) → Value → ℕ → ℕ
-counted known value n = n + (length (items_of value) - length (known_items known))
+counted known value n = n + (length (items_of value) - length (items_last_known known))
 
 -- the list, with more behind it
 abbrev pub IsExtended : Value → Value → List ℕ → Type 0

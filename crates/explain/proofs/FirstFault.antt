@@ -14,15 +14,15 @@ use Rattle.verifier.specs.declared.refusal.Refused.{Refused}
 use Rattle.verifier.specs.Signature.{signature}
 use Rattle.verifier.specs.Accepted.{Checked}
 use Rattle.verifier.specs.Verdict.{verdict}
+use Rattle.maps.specs.Shapes.{standard}
 use Rattle.loader.specs.declared.refusals.LoadFault.{LoadFault}
 use Rattle.loader.specs.declared.refusals.LoadFault.TheVariants.{BadLine, BadHex, Decode, Verify, TooMany}
 use Rattle.loader.specs.declared.refusals.LoadRefusal.{LoadRefusal}
 use Rattle.loader.specs.Grammar.{ProgramLine, Meaning, Comment, Map, Program, line_meaning}
 use Rattle.loader.specs.CatalogueView.{Entry, CatalogueView, names_of}
 use Rattle.loader.specs.ProgramFiles.{◌>>=◌, Files, file_named, or_bad_line, or_bad_hex, or_decode, bytes_of_hex, instructions_of, unless_refused, checked_program, entry_for}
-use Rattle.loader.specs.Loading.{are_few, is_taken, with_map, with_entry, with_program, after_meaning, after_line, after_lines, either, loaded}
-use Rattle.loader.proofs.Entries.{entry_from}
-use Rattle.loader.proofs.Steps.{after_map, after_program}
+use Rattle.loader.specs.Loading.{are_few, is_taken, with_map, with_entry, with_program, after_meaning, after_line, after_lines, either, loaded, loaded_within}
+use Rattle.loader.proofs.Export.{entry_from, after_map, after_program}
 use Rattle.explain.specs.Listing.{head_text, refusal_text, IsReason}
 use Rattle.explain.specs.Manifest.{Above, nothing_above, entry_named, has_map, is_misplaced, so_far, with_line, with_shapes, refused_by, line_fault, named_words, slot_fault, IsJudged, TellsOfRead, TellsOfFile, TellsWhereMap, TellsOfProgram, TellsOfLine, TellsOfLines, TellsOfAll}
 use Rattle.explain.specs.Told.{BeginsWith, BeginsIf}
@@ -79,7 +79,7 @@ err_is x y is = cc
 
 -- ---- what explain and the loader keep of the lines above
 
--- the same maps and names, and no map is bad
+-- explain and the loader keep the same maps and names, and no map is bad
 record Alike (a : Above) (c : CatalogueView) : Type 0 where
   shapes : c.shapes ≡ a.shapes
   names : names_of c.programs ≡ a.names
@@ -120,23 +120,23 @@ map_by true f x y n why text is told = subst (λ w. TellsRefusal n w text) (err_
 map_by false true x y n why text is told = absurd cc
 map_by false false x y n why text is told = subst (λ w. TellsRefusal n w text) (err_is _ _ is) (too_many_told n text told)
 
-map_refused : (a : Above) (c : CatalogueView) (s : Shape) (n : ℕ) (why : LoadFault) (text : List ℕ) → Alike a c → with_map c s ≡ Err why
-    → MatchResult (with_map (so_far a) s) (λ _. text ≡ []) (λ w. BeginsIf true (line_fault n w) text) → TellsRefusal n why text
+map_refused : (a : Above) (c : CatalogueView) (s : Shape) (n : ℕ) (why : LoadFault) (text : List ℕ) → Alike a c → with_map standard c s ≡ Err why
+    → MatchResult (with_map standard (so_far a) s) (λ _. text ≡ []) (λ w. BeginsIf true (line_fault n w) text) → TellsRefusal n why text
 unfolding with_map
 map_refused a c s n why text k is told =
-    map_by (ltb 0 (length c.programs)) (are_few (c.shapes ++ s ∷ [])) _ (record (so_far a) { shapes = a.shapes ++ s ∷ [] }) n why text is
+    map_by (ltb 0 (length c.programs)) (are_few standard (c.shapes ++ s ∷ [])) _ (record (so_far a) { shapes = a.shapes ++ s ∷ [] }) n why text is
     (subst
-    (λ m. MatchResult (cond (ltb 0 m) (Err BadLine) (cond (are_few (c.shapes ++ s ∷ [])) (Ok (record (so_far a) { shapes = a.shapes ++ s ∷ [] })) (Err TooMany))) (λ _. text ≡ []) (λ w. BeginsIf true (line_fault n w) text))
+    (λ m. MatchResult (cond (ltb 0 m) (Err BadLine) (cond (are_few standard (c.shapes ++ s ∷ [])) (Ok (record (so_far a) { shapes = a.shapes ++ s ∷ [] })) (Err TooMany))) (λ _. text ≡ []) (λ w. BeginsIf true (line_fault n w) text))
     (same_count a c k)
     (subst
-    (λ ss. MatchResult (cond (ltb 0 (length (so_far a).programs)) (Err BadLine) (cond (are_few (ss ++ s ∷ [])) (Ok (record (so_far a) { shapes = a.shapes ++ s ∷ [] })) (Err TooMany))) (λ _. text ≡ []) (λ w. BeginsIf true (line_fault n w) text))
+    (λ ss. MatchResult (cond (ltb 0 (length (so_far a).programs)) (Err BadLine) (cond (are_few standard (ss ++ s ∷ [])) (Ok (record (so_far a) { shapes = a.shapes ++ s ∷ [] })) (Err TooMany))) (λ _. text ≡ []) (λ w. BeginsIf true (line_fault n w) text))
     (sym k.shapes) told))
 
-map_kept : (a : Above) (c w : CatalogueView) (s : Shape) (n : ℕ) → Alike a c → with_map c s ≡ Ok w → Alike (with_shapes n a (with_map (so_far a) s)) w
+map_kept : (a : Above) (c w : CatalogueView) (s : Shape) (n : ℕ) → Alike a c → with_map standard c s ≡ Ok w → Alike (with_shapes n a (with_map standard (so_far a) s)) w
 map_kept a c w s n k is =
-    let after = after_map c s w is in
+    let after = after_map standard c s w is in
     let none : length a.names ≡ 0 = ap length (sym k.names) ∙ length-map c.programs (λ e. e.name) ∙ ap length after.0 in
-    let few : are_few (a.shapes ++ s ∷ []) ≡ true = ap (λ ss. are_few (ss ++ s ∷ [])) (sym k.shapes) ∙ after.1 in
+    let few : are_few standard (a.shapes ++ s ∷ []) ≡ true = ap (λ ss. are_few standard (ss ++ s ∷ [])) (sym k.shapes) ∙ after.1 in
     subst (λ r. Alike (with_shapes n a r) w) (sym (taken a s none few))
     (record {
       shapes = ap (λ x. x.shapes) (sym after.2) ∙ ap (λ ss. ss ++ s ∷ []) k.shapes;
@@ -234,7 +234,7 @@ module _ (files : Files) (n : ℕ) (a : Above) (c : CatalogueView) (p : ProgramL
 
 -- ---- line by line
 
-line_refused : (files : Files) (n : ℕ) (a : Above) (c : CatalogueView) (m : Option Meaning) (why : LoadFault) (text : List ℕ) → Alike a c → after_meaning files c m ≡ Err why → TellsOfLine files None n a m text
+line_refused : (files : Files) (n : ℕ) (a : Above) (c : CatalogueView) (m : Option Meaning) (why : LoadFault) (text : List ℕ) → Alike a c → after_meaning standard files c m ≡ Err why → TellsOfLine files None n a m text
     → HasRefusal n why text
 line_refused files n a c None why text k is told = subst (λ w. HasRefusal n w text) (err_is BadLine why is) (at_once n BadLine text (bad_line_told n text told))
 line_refused files n a c (Some Comment) why text k is told = absurd cc
@@ -247,7 +247,7 @@ passed x = Ok x
 ok_is : (x y : CatalogueView) → passed x ≡ Ok y → x ≡ y
 ok_is x y is = cc
 
-line_kept : (files : Files) (n : ℕ) (l : List ℕ) (a : Above) (c w : CatalogueView) (m : Option Meaning) → Alike a c → after_meaning files c m ≡ Ok w → Alike (with_line n l m a) w
+line_kept : (files : Files) (n : ℕ) (l : List ℕ) (a : Above) (c w : CatalogueView) (m : Option Meaning) → Alike a c → after_meaning standard files c m ≡ Ok w → Alike (with_line n l m a) w
 line_kept files n l a c w None k is = absurd cc
 line_kept files n l a c w (Some Comment) k is = subst (Alike a) (ok_is c w is) k
 line_kept files n l a c w (Some (Map s)) k is = map_kept a c w s n k is
@@ -257,21 +257,21 @@ end_by : (b : Bool) (c : CatalogueView) (n : ℕ) (e : LoadRefusal) (text : List
 end_by true c n e text is told = subst (λ x. HasRefusal x.line x.why text) (err_is (record { line = n; why = BadLine }) e is) (at_once n BadLine text (bad_line_told n text told))
 end_by false c n e text is told = absurd cc
 
-walk : (files : Files) (n : ℕ) (a : Above) (c : CatalogueView) (ls : List (List ℕ)) (text : List ℕ) (e : LoadRefusal) → Alike a c → after_lines files n c ls ≡ Err e → TellsOfLines files None n a ls text
+walk : (files : Files) (n : ℕ) (a : Above) (c : CatalogueView) (ls : List (List ℕ)) (text : List ℕ) (e : LoadRefusal) → Alike a c → after_lines standard files n c ls ≡ Err e → TellsOfLines files None n a ls text
     → HasRefusal e.line e.why text
 unfolding after_lines after_line
 walk files n a c [] text e k is told = end_by (eqb (length c.shapes) 0) c n e text is (subst (λ b. BeginsIf b (line_fault n BadLine) text) (no_map_is a c k) told)
 walk files n a c (l ∷ ls) text e k is told =
-    by_result (after_meaning files c (line_meaning l)) refl is (λ w kept rest. walk files (next_line n) (with_line n l (line_meaning l) a) w ls told.1 e kept rest told.4)
+    by_result (after_meaning standard files c (line_meaning standard l)) refl is (λ w kept rest. walk files (next_line n) (with_line n l (line_meaning standard l) a) w ls told.1 e kept rest told.4)
   where
-    by_result : (r : Result CatalogueView LoadFault) → after_meaning files c (line_meaning l) ≡ r → either (λ why. Err (record { line = n; why = why })) (λ after. after_lines files (next_line n) after ls) r ≡ Err e
-        → ((w : CatalogueView) → Alike (with_line n l (line_meaning l) a) w → after_lines files (next_line n) w ls ≡ Err e → HasRefusal e.line e.why told.1) → HasRefusal e.line e.why text
+    by_result : (r : Result CatalogueView LoadFault) → after_meaning standard files c (line_meaning standard l) ≡ r → either (λ why. Err (record { line = n; why = why })) (λ after. after_lines standard files (next_line n) after ls) r ≡ Err e
+        → ((w : CatalogueView) → Alike (with_line n l (line_meaning standard l) a) w → after_lines standard files (next_line n) w ls ≡ Err e → HasRefusal e.line e.why told.1) → HasRefusal e.line e.why text
     by_result (Err why) was is more =
-        let here = line_refused files n a c (line_meaning l) why told.0 k was told.3 in
+        let here = line_refused files n a c (line_meaning standard l) why told.0 k was told.3 in
         subst (λ x. HasRefusal x.line x.why text) (err_is (record { line = n; why = why }) e is)
         (here.0, here.1 ++ told.1, told.2 ∙ ap (λ t. t ++ told.1) here.2 ∙ append_assoc here.0 here.1 told.1, longer n why here.1 told.1 here.3)
-    by_result (Ok w) was is more = behind e.line e.why told.0 told.1 text told.2 (more w (line_kept files n l a c w (line_meaning l) k was) is)
+    by_result (Ok w) was is more = behind e.line e.why told.0 told.1 text told.2 (more w (line_kept files n l a c w (line_meaning standard l) k was) is)
 
 pub refusal_is_told : (files : Files) (manifest text : List ℕ) (e : LoadRefusal) → loaded manifest files ≡ Err e → TellsOfAll files None manifest text → HasRefusal e.line e.why text
-unfolding loaded
+unfolding loaded_within
 refusal_is_told files manifest text e is told = walk files 1 nothing_above _ (lines_of manifest) text e (record { shapes = refl; names = refl; good = refl }) is told

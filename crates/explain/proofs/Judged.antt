@@ -1,5 +1,5 @@
 -- What is told of the program of a line, and of its file.
-use Rattle.std.proofs.Common.{◌≡◌, ℕ, ◌<◌, Bool, true, false, ◌||◌, List, [], ◌∷◌, ◌++◌, length, Option, Some, None, Result, Ok, Err, refl, sym, ap, subst, ◌∙◌, append_assoc}
+use Rattle.std.proofs.Common.{◌≡◌, ℕ, ◌<◌, Bool, true, false, ◌||◌, List, [], ◌∷◌, ◌++◌, length, Option, Some, None, Result, Ok, Err, refl, sym, ap, subst, ◌∙◌, append_assoc, arith}
 use Rattle.std.specs.Prelude.{not, nat_lt, ◌≤◌, codes, is_some}
 use Rattle.std.specs.List.{concat}
 use Rattle.std.proofs.lemmas.Bool.{ltb-true, lt-ltb, le-ltb}
@@ -9,13 +9,13 @@ use Rattle.insn.specs.declared.instruction.Form.{Form}
 use Rattle.insn.specs.declared.decoding.DecodeRefusal.{DecodeRefusal}
 use Rattle.insn.specs.Decoded.{decoded}
 use Rattle.maps.specs.declared.shapes.Shape.{Shape}
-use Rattle.maps.specs.Shapes.{AreShapesOk}
+use Rattle.maps.specs.Shapes.{AreLimits, AreShapesSupported, standard}
 use Rattle.loader.specs.declared.refusals.LoadFault.{LoadFault}
 use Rattle.loader.specs.declared.refusals.LoadFault.TheVariants.{BadLine, BadHex, Decode, TooMany}
 use Rattle.loader.specs.Grammar.{ProgramLine}
 use Rattle.loader.specs.ProgramFiles.{Files, file_named, bytes_of_hex, instructions_of}
 use Rattle.loader.specs.Loading.{is_taken, with_entry}
-use Rattle.loader.proofs.ShapesFit.{shapes_are_ok}
+use Rattle.loader.proofs.Export.{shapes_are_ok}
 use Rattle.explain.specs.Explanation.{IsWithin}
 use Rattle.explain.specs.Listing.{TellsOf}
 use Rattle.explain.specs.Manifest.{Above, entry_named, has_map, is_beyond, so_far, line_fault, named_words, not_judged, program_in, program_of_text, refused_by, slot_fault, IsJudged, TellsIfAsked, TellsOfFile, TellsOfRead, TellsOfProgram, TellsWhereMap}
@@ -61,7 +61,7 @@ module _ (n : ℕ) (a : Above) (p : ProgramLine) (old new : List ℕ) where
       subst (λ o. Adds (IsJudged o a.shapes n p program) old new) (sym is)
       (codes "\n" ++ told, put ∙ ap (λ t. old ++ (codes "\n" ++ t)) (append-nil told), (told, refl, tells))
 
-  -- its file is refused
+  -- the program's file is refused
   pub bad_file : (told : List ℕ) → new ≡ old ++ (refused_by n 2 ++ (named_words p ++ told)) → Adds (TellsOfRead n a p (Err BadHex)) old new
   bad_file told put = (refused_by n 2 ++ (named_words p ++ told), put, (told, sym (append_assoc (refused_by n 2) (named_words p) told)))
 
@@ -85,7 +85,7 @@ module _ (n : ℕ) (a : Above) (p : ProgramLine) (old new : List ℕ) where
   pub if_asked : (files : Files) (asked : Bool) → asked ≡ true → Adds (TellsOfProgram files n a p) old new → Adds (TellsIfAsked asked files n a p) old new
   if_asked files asked is told = subst (λ b. Adds (TellsIfAsked b files n a p) old new) (sym is) told
 
-  -- its place, its number and its file
+  -- the program's place, number and file
   pub all_told : (files : Files) (now after : List ℕ) → Adds (BeginsIf (not (has_map a) || is_taken (so_far a).programs p.name) (line_fault n BadLine)) old now
       → Adds (BeginsIf (is_beyond a) (line_fault n TooMany)) now after → Adds (TellsWhereMap (has_map a) files n a p) after new → Adds (TellsOfProgram files n a p) old new
   all_told files now after x y z = (
@@ -118,5 +118,8 @@ some_map ss bad none has =
     let only : (nat_lt 0 (length ss) || false) ≡ true = subst (λ o. (nat_lt 0 (length ss) || is_some o) ≡ true) none has in
     ltb-true 0 (length ss) (or_false _ only)
 
-pub maps_are_ok : (a : Above) → IsWithin a → has_map a ≡ true → a.bad_map ≡ None → AreShapesOk a.shapes
-maps_are_ok a within has none = shapes_are_ok a.shapes (some_map a.shapes a.bad_map none has) within.each within.few
+standard_limits : AreLimits standard
+standard_limits = record { key = (omega arith, omega arith); value = omega arith; entries = omega arith; bytes = omega arith }
+
+pub maps_are_ok : (a : Above) → IsWithin a → has_map a ≡ true → a.bad_map ≡ None → AreShapesSupported a.shapes
+maps_are_ok a within has none = shapes_are_ok standard a.shapes standard_limits (some_map a.shapes a.bad_map none has) within.each within.few

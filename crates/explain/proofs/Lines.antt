@@ -1,9 +1,9 @@
 -- The lines of a listing, one after another.
-use Rattle.std.proofs.Common.{◌≡◌, ℕ, ◌+◌, ◌<◌, ◌≤◌, List, [], ◌∷◌, ◌++◌, length, take, drop, get_or, Option, Some, None, inl, inr, ⊎_elim, refl, sym, ap, subst, ◌∙◌, append_assoc, arith}
-use Rattle.std.specs.Prelude.{◌⊎◌, ◌-◌, ◌^◌, ◌==◌, false, replicate, codes, decimal, MatchOption}
+use Rattle.std.proofs.Common.{◌≡◌, ℕ, ◌+◌, ◌<◌, ◌≤◌, Bool, true, ltb, List, [], ◌∷◌, ◌++◌, length, take, drop, get_or, Option, Some, None, inl, inr, ⊎_elim, refl, sym, ap, subst, ◌∙◌, append_assoc, arith}
+use Rattle.std.specs.Prelude.{◌⊎◌, ◌-◌, ◌^◌, ◌==◌, false, replicate, codes, decimal, unwrap_or}
 use Rattle.std.specs.Prelude.{IfSome}
 use Rattle.std.specs.List.{concat}
-use Rattle.std.proofs.lemmas.Bool.{false≢true}
+use Rattle.std.proofs.lemmas.Bool.{false≢true, ltb-false, ltb-true}
 use Rattle.std.proofs.lemmas.Grind.{replicate_next}
 use Rattle.std.proofs.lemmas.List.{append-nil, drop_more, length-append, take-append-drop}
 use Rattle.insn.specs.declared.instruction.Form.{Form}
@@ -12,10 +12,10 @@ use Rattle.asm.specs.Words.{word_of}
 use Rattle.asm.specs.Text.{mnemonic, operands, operand_text, line_text, text_of}
 use Rattle.insn.specs.declared.instruction.TheConstants.{MAX_SLOTS}
 use Rattle.verifier.specs.declared.refusal.Refused.{Refused}
-use Rattle.flow.proofs.Positions.{one_or_two}
+use Rattle.flow.proofs.Export.{one_or_two}
 use Rattle.explain.specs.declared.programs.Study.{Study}
 use Rattle.explain.specs.declared.programs.Subject.{Subject}
-use Rattle.explain.specs.Listing.{line_of, kinds_refusal, signature_of, verdict_on, head_text, AddsListing, Explains, IsReason, aside, margin, left_text, AreEnough, IsLine, IsListing, Lists}
+use Rattle.explain.specs.Listing.{line_of, kinds_refusal, signature_of, verdict_on, head_text, AddsListing, Explains, IsReason, aside, margin, left_text, last_listed, AreListed, BeginUpto, IsLine, IsListing, Lists}
 use Rattle.explain.specs.Slots.{told_upto}
 use Rattle.explain.specs.Study.{IsStudy}
 use Rattle.explain.specs.Told.{Adds}
@@ -107,20 +107,53 @@ size_append (i ∷ xs) ys =
 pub size_take : (n : ℕ) (p : List Form) → size (take n p) ≤ size p
 size_take n p = omega (arith, ap size (take-append-drop n p), size_append (take n p) (drop n p))
 
-pub are_enough : (p : List Form) (verdict : Option Refused) (count limit : ℕ) → size p ≤ MAX_SLOTS → MatchOption verdict (limit ≡ 2 ^ 64 - 1) (λ e. e.slot ≤ limit)
-    → (length p ≤ count) ⊎ (limit < size (take count p)) → AreEnough p verdict count
-are_enough p verdict count limit small last (inl all) = inl all
-are_enough p None count limit small last (inr far) = absurd (omega (arith, size_take count p, small, last, far))
-are_enough p (Some e) count limit small last (inr far) = inr (e, refl, omega (arith, last, far))
+-- so many slots are those of the first k instructions, each of which begins up to the last one
+pub record CountedTo (p : List Form) (last k slot : ℕ) : Type 0 where
+  pub slots : slot ≡ size (take k p)
+  pub each : (j : ℕ) → j < k → size (take j p) ≤ last
+
+below_or : (j k : ℕ) → j < k + 1 → (j < k) ⊎ (j ≡ k)
+below_or j k below = by (ltb j k) refl
+  where
+    by : (b : Bool) → ltb j k ≡ b → (j < k) ⊎ (j ≡ k)
+    by true e = inl (ltb-true j k e)
+    by false e = inr (omega (arith, ltb-false j k e, below))
+
+pub counted_none : (p : List Form) (last : ℕ) → CountedTo p last 0 0
+counted_none p last = record { slots = refl; each = λ j lt. absurd (omega (arith, lt)) }
+
+module _ (p : List Form) (k : ℕ) (d f : Form) (lt : k < length p) (is : f ≡ get_or p k d) where
+  take_next : size (take (k + 1) p) ≡ size (take k p) + slot_count f
+  take_next =
+      let one = ap size (take-append-drop k p) in
+      let all = ap size (take-append-drop (k + 1) p) in
+      omega (arith, one, all, size_append (take k p) (drop k p), size_append (take (k + 1) p) (drop (k + 1) p), counted p k d f lt is)
+
+  pub counted_more : (last slot next : ℕ) → size p ≤ MAX_SLOTS → slot ≤ last → (slot + slot_count f < 2 ^ 64 → next ≡ slot + slot_count f) → CountedTo p last k slot → CountedTo p last (k + 1) next
+  counted_more last slot next small upto sum c =
+      let fits : slot + slot_count f < 2 ^ 64 = omega (arith, c.slots, take_next, size_take (k + 1) p, small) in
+      record {
+        slots = omega (arith, sum fits, c.slots, take_next);
+        each = λ j below. ⊎_elim (λ less. c.each j less) (λ same. subst (λ n. size (take n p) ≤ last) (sym same) (omega (arith, c.slots, upto))) (below_or j k below);
+      }
+
+pub begin_upto : (p : List Form) (last k slot count : ℕ) → count ≡ k → CountedTo p last k slot → (length p ≤ k) ⊎ (last < slot) → BeginUpto p last count
+begin_upto p last k slot count same c end =
+    subst (λ n. BeginUpto p last n) (sym same)
+    (record { each = c.each; enough = ⊎_elim (λ all. inl all) (λ far. inr (omega (arith, far, c.slots))) end })
+
+pub are_listed : (p : List Form) (upto : Option ℕ) (count limit : ℕ) → size p ≤ MAX_SLOTS → limit ≡ unwrap_or upto (2 ^ 64 - 1) → BeginUpto p limit count → AreListed p upto count
+are_listed p (Some last) count limit small is upto = subst (λ n. BeginUpto p n count) is upto
+are_listed p None count limit small is upto = ⊎_elim (λ all. all) (λ far. absurd (omega (arith, far, is, size_take count p, small))) upto.enough
 
 pub is_listing : (p : List Form) (kinds verdict : Option Refused) (count left : ℕ) (old now after : List ℕ) → Adds (Lists (told_upto p kinds) 0 (take count p)) old now → left + count ≡ length p
-    → after ≡ now ++ left_text left → AreEnough p verdict count → (text : List ℕ) × (after ≡ old ++ text) × IsListing p kinds verdict text
-is_listing p kinds verdict count left old now after written rest put enough =
+    → after ≡ now ++ left_text left → AreListed p (last_listed kinds verdict) count → (text : List ℕ) × (after ≡ old ++ text) × IsListing p kinds verdict text
+is_listing p kinds verdict count left old now after written rest put upto =
     let lines = written.0 in
     let same : left ≡ length p - count = omega (arith, rest) in (
       lines ++ left_text left,
       put ∙ ap (λ t. t ++ left_text left) written.1 ∙ append_assoc old lines (left_text left),
-      record { count = count; lines = lines; listed = written.2; enough = enough; whole = ap (λ n. lines ++ left_text n) same },
+      record { count = count; lines = lines; listed = written.2; upto = upto; whole = ap (λ n. lines ++ left_text n) same },
     )
 
 -- an instruction takes a slot

@@ -3,7 +3,7 @@ use Rattle.std.proofs.Common.{◌≡◌, ℕ, List, [], ◌∷◌, ◌++◌, map
 use Rattle.std.specs.Prelude.{not, is_none, ◌&&◌, option_map}
 use Rattle.std.specs.List.{All}
 use Rattle.text.specs.Lines.{lines_of, next_line}
-use Rattle.maps.specs.Shapes.{IsShapeOk}
+use Rattle.maps.specs.Shapes.{IsShapeOk, standard}
 use Rattle.loader.specs.declared.refusals.LoadFault.TheVariants.{BadLine}
 use Rattle.loader.specs.Grammar.{ProgramLine, Meaning, Comment, Program, line_meaning}
 use Rattle.loader.specs.ProgramFiles.{Files, files_of}
@@ -66,14 +66,14 @@ module _ (files : Files) (name : Option (List ℕ)) (manifest : List ℕ) where
 
   -- one line more
   pub line_more : (e f : Explanation) (n m : ℕ) (line : List ℕ) (left rest : List (List ℕ)) (old new : List ℕ) → SoFar files name manifest e n left old → left ≡ line ∷ rest → m ≡ next_line n
-      → TakesLine n line (line_meaning line) e f old new → SoFar files name manifest f m rest new
+      → TakesLine n line (line_meaning standard line) e f old new → SoFar files name manifest f m rest new
   line_more e f n m line left rest old new s first next t =
       let told = t.told in
       record {
         whole = λ more tells.
-            let under : TellsOfLines files name (next_line n) (with_line n line (line_meaning line) (above_of e)) rest more =
-            subst (λ k. TellsOfLines files name k (with_line n line (line_meaning line) (above_of e)) rest more) next (subst (λ a. TellsOfLines files name m a rest more) t.above tells) in
-            let here = subst (λ o. Adds (TellsOfLine files o n (above_of e) (line_meaning line)) old new) s.same_name (subst (λ fs. Adds (TellsOfLine fs (name_of e) n (above_of e) (line_meaning line)) old new) s.same_files told) in
+            let under : TellsOfLines files name (next_line n) (with_line n line (line_meaning standard line) (above_of e)) rest more =
+            subst (λ k. TellsOfLines files name k (with_line n line (line_meaning standard line) (above_of e)) rest more) next (subst (λ a. TellsOfLines files name m a rest more) t.above tells) in
+            let here = subst (λ o. Adds (TellsOfLine files o n (above_of e) (line_meaning standard line)) old new) s.same_name (subst (λ fs. Adds (TellsOfLine fs (name_of e) n (above_of e) (line_meaning standard line)) old new) s.same_files told) in
             subst (TellsOfAll files name manifest) (sym (ap (λ t. t ++ more) here.1 ∙ append_assoc old here.0 more))
             (s.whole (here.0 ++ more) (subst (λ ls. TellsOfLines files name n (above_of e) ls (here.0 ++ more)) (sym first) (here.0, more, refl, here.2, under)));
         within = t.within;

@@ -8,14 +8,14 @@ use Rattle.std.proofs.lemmas.Bool.{le-leb}
 use Rattle.std.proofs.lemmas.List.{length_push}
 use Rattle.maps.specs.declared.shapes.Shape.{Shape}
 use Rattle.maps.specs.declared.shapes.TheConstants.{MAX_MAPS, MAX_TOTAL_BYTES}
-use Rattle.maps.specs.Shapes.{room_of, IsShapeOk, AreShapesOk}
+use Rattle.maps.specs.Shapes.{room_of, IsShapeOk, AreShapesOk, standard}
 use Rattle.loader.specs.declared.refusals.LoadFault.{LoadFault}
 use Rattle.loader.specs.declared.refusals.LoadFault.TheVariants.{BadLine, TooMany}
 use Rattle.loader.specs.Grammar.{Map}
 use Rattle.loader.specs.CatalogueView.{CatalogueView}
 use Rattle.loader.specs.Loading.{are_few, with_map}
 use Rattle.loader.specs.Refusal.{fault_number}
-use Rattle.loader.proofs.ShapesFit.{shapes_are_ok}
+use Rattle.loader.proofs.Export.{shapes_are_within}
 use Rattle.explain.specs.declared.files.manifest.Explanation.{Explanation}
 use Rattle.explain.specs.Explanation.{above_of, name_of, IsWithin, TakesLine, TakesMap}
 use Rattle.explain.specs.Manifest.{Above, entry_named, so_far, with_bad_map, with_shapes, refused_by, line_fault}
@@ -37,7 +37,7 @@ pub first_none : {X : Type 0} (xs : List X) → slice_get xs 0 ≡ None → leng
 first_none [] none = refl
 first_none (x ∷ xs) none = absurd cc
 
-pub behind_program : (a : Above) (s : Shape) → 0 < length a.names → with_map (so_far a) s ≡ Err BadLine
+pub behind_program : (a : Above) (s : Shape) → 0 < length a.names → with_map standard (so_far a) s ≡ Err BadLine
 unfolding with_map
 behind_program a s some = rw (some_name a.names some) refl
 
@@ -58,11 +58,11 @@ by_bool : (b : Bool) → (b ≡ true → ⊥) → b ≡ false
 by_bool true h = absurd (h refl)
 by_bool false h = refl
 
-pub few_of : (ss : List Shape) → AreShapesOk ss → are_few ss ≡ true
+pub few_of : (ss : List Shape) → AreShapesOk ss → are_few standard ss ≡ true
 few_of ss ok =
     few_when (leb (length ss) MAX_MAPS) (leb (sum_by room_of ss) MAX_TOTAL_BYTES) (le-leb (length ss) MAX_MAPS ok.many.1) (le-leb (sum_by room_of ss) MAX_TOTAL_BYTES ok.room)
 
-pub taken : (a : Above) (s : Shape) → length a.names ≡ 0 → are_few (a.shapes ++ s ∷ []) ≡ true → with_map (so_far a) s ≡ Ok (record (so_far a) { shapes = a.shapes ++ s ∷ [] })
+pub taken : (a : Above) (s : Shape) → length a.names ≡ 0 → are_few standard (a.shapes ++ s ∷ []) ≡ true → with_map standard (so_far a) s ≡ Ok (record (so_far a) { shapes = a.shapes ++ s ∷ [] })
 unfolding with_map
 taken a s none few = rw (no_name a.names none, few) refl
 
@@ -76,14 +76,14 @@ takes_map a s none ok =
       within = record { each = ok.each; few = few_of _ ok };
     }
 
-pub too_many : (a : Above) (s : Shape) → length a.names ≡ 0 → IsWithin a → IsShapeOk s → (AreShapesOk (a.shapes ++ s ∷ []) → ⊥) → with_map (so_far a) s ≡ Err TooMany
+pub too_many : (a : Above) (s : Shape) → length a.names ≡ 0 → IsWithin a → IsShapeOk s → (AreShapesOk (a.shapes ++ s ∷ []) → ⊥) → with_map standard (so_far a) s ≡ Err TooMany
 unfolding with_map
 too_many a s none within ok bad =
     let some : 0 < length (a.shapes ++ s ∷ []) = omega (arith, length_push a.shapes s) in
-    let off : are_few (a.shapes ++ s ∷ []) ≡ false = by_bool _ (λ few. bad (shapes_are_ok _ some (All-push IsShapeOk a.shapes s within.each ok) few)) in
+    let off : are_few standard (a.shapes ++ s ∷ []) ≡ false = by_bool _ (λ few. bad (shapes_are_within standard _ some (All-push IsShapeOk a.shapes s within.each ok) few)) in
     rw (no_name a.names none, off) refl
 
-pub refuses_map : (a : Above) (s : Shape) (why : LoadFault) → IsWithin a → with_map (so_far a) s ≡ Err why → TakesMap a s a (Some (fault_number why))
+pub refuses_map : (a : Above) (s : Shape) (why : LoadFault) → IsWithin a → with_map standard (so_far a) s ≡ Err why → TakesMap a s a (Some (fault_number why))
 refuses_map a s why within is =
     record {
       told =
@@ -124,7 +124,7 @@ map_bad (Err why) all n k a b text h told =
 
 pub map_taken : (e f : Explanation) (s : Shape) (line old : List ℕ) → TakesMap (above_of e) s (above_of f) None → f ≡ record e { shapes = f.shapes } → TakesLine e.line line (Some (Map s)) e f old old
 map_taken e f s line old taken is =
-    let both = map_good (with_map (so_far (above_of e)) s) (is_none (name_of e)) e.line (above_of e) (above_of f) taken.told in
+    let both = map_good (with_map standard (so_far (above_of e)) s) (is_none (name_of e)) e.line (above_of e) (above_of f) taken.told in
     record { told = adds_nothing _ old both.0; above = both.1; within = taken.within; files = ap (λ g. g.files) is; name = ap (λ g. g.name) is }
 
 pub map_refused : (e f g : Explanation) (s : Shape) (k : ℕ) (line old new : List ℕ) → TakesMap (above_of e) s (above_of f) (Some k) → f ≡ record e { shapes = f.shapes }
@@ -135,7 +135,7 @@ map_refused e f g s k line old new taken is noted told =
     let begins : BeginsIf (is_none (name_of e)) (refused_by e.line k ++ codes "\n") told.0 =
     subst (λ n. BeginsIf (is_none (name_of e)) (refused_by n k ++ codes "\n") told.0) number
     (subst (λ o. BeginsIf (is_none o) (refused_by g.line k ++ codes "\n") told.0) (ap (λ o. option_map (λ x. x.now) o) name) told.2) in
-    let both = map_bad (with_map (so_far (above_of e)) s) (is_none (name_of e)) e.line k (above_of e) (above_of f) told.0 taken.told begins in
+    let both = map_bad (with_map standard (so_far (above_of e)) s) (is_none (name_of e)) e.line k (above_of e) (above_of f) told.0 taken.told begins in
     let bad : above_of g ≡ with_bad_map true e.line (above_of f) = ap above_of noted ∙ ap (λ n. with_bad_map true n (above_of f)) (ap (λ x. x.line) is) in
     record {
       told = (told.0, told.1, both.0);

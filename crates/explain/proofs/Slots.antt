@@ -15,13 +15,13 @@ use Rattle.regkind.specs.declared.frames.Cell.{Cell}
 use Rattle.regkind.specs.declared.frames.Cell.TheVariants.{Marks, Spilled}
 use Rattle.regkind.specs.Frames.{Frame, kind, cell}
 use Rattle.flow.specs.Structure.{HasBadSize, HasGoodSize}
-use Rattle.flow.proofs.Positions.{Placed, one_or_two}
+use Rattle.flow.proofs.Export.{Placed, one_or_two}
 use Rattle.verifier.specs.declared.refusal.Refused.{Refused}
 use Rattle.verifier.specs.Known.{IsUpTo}
 use Rattle.verifier.specs.Signature.{Signature}
 use Rattle.verifier.specs.Verdict.{lowest_refusal}
 use Rattle.verifier.specs.Joined.{frame_in, is_same, joined_frame, leads}
-use Rattle.verifier.proofs.Joins.{is_leads, leads_is}
+use Rattle.verifier.proofs.Export.{is_leads, leads_is}
 use Rattle.explain.specs.declared.programs.Byte.{Byte}
 use Rattle.explain.specs.declared.programs.Byte.TheVariants as bytes
 use Rattle.explain.specs.declared.programs.Study.{Study}
@@ -183,7 +183,7 @@ pub some_mapped : {A B : Type 0} (f : A → B) (o : Option A) → is_some (optio
 some_mapped f None = refl
 some_mapped f (Some x) = refl
 
--- those below slot n
+-- the slots below slot n from which an edge leads to slot t
 abbrev pub into : List Form → Edge → ℕ → ℕ → List ℕ
 into p edge t n = filter (λ s. leads_by (instruction_at p s) s edge t) (range_with_len 0 n)
 

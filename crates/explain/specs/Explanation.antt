@@ -4,7 +4,7 @@ use Rattle.std.specs.List.{All}
 use Rattle.std.specs.String.{string_bytes}
 use Rattle.insn.specs.declared.instruction.Form.{Form}
 use Rattle.maps.specs.declared.shapes.Shape.{Shape}
-use Rattle.maps.specs.Shapes.{IsShapeOk}
+use Rattle.maps.specs.Shapes.{IsShapeOk, standard}
 use Rattle.loader.specs.declared.refusals.LoadFault.{LoadFault}
 use Rattle.loader.specs.declared.grammar.ProgramLine.{ProgramLine as TheLine}
 use Rattle.loader.specs.Grammar.{Meaning, Program}
@@ -28,7 +28,7 @@ Writes IsSo old new = Adds IsSo (string_bytes old) (string_bytes new)
 
 -- ---- what is told of the line
 
--- that it is refused by this rule, where no name is given
+-- the line is refused by this rule, if no name is given
 abbrev pub IsFault : Explanation → ℕ → List ℕ → Type 0
 IsFault e rule text = BeginsIf (is_none (name_of e)) (refused_by e.line rule ++ codes "\n") text
 
@@ -53,11 +53,11 @@ TellsAsked e p text = TellsIfAsked (is_asked (name_of e) (Some (Program (program
 -- the maps are within their limits
 pub record IsWithin (a : Above) : Type 0 where
   pub each : All IsShapeOk a.shapes
-  pub few : are_few a.shapes ≡ true
+  pub few : are_few standard a.shapes ≡ true
 
 -- a map is taken, or the rule is told that keeps it out
 pub record TakesMap (a : Above) (shape : Shape) (b : Above) (rule : Option ℕ) : Type 0 where
-  pub told : MatchResult (with_map (so_far a) shape) (λ c. (rule ≡ None) × (b ≡ record a { shapes = c.shapes })) (λ why. (rule ≡ Some (fault_number why)) × (b ≡ a))
+  pub told : MatchResult (with_map standard (so_far a) shape) (λ c. (rule ≡ None) × (b ≡ record a { shapes = c.shapes })) (λ why. (rule ≡ Some (fault_number why)) × (b ≡ a))
   pub within : IsWithin b
 
 -- one line more: what is told of it stands behind what stood there, and it stands above the next
@@ -68,6 +68,6 @@ pub record TakesLine (n : ℕ) (line : List ℕ) (meaning : Option Meaning) (e f
   pub files : f.files ≡ e.files
   pub name : f.name ≡ e.name
 
--- the same of the line that is looked at, behind a text
+-- `TakesLine`, but of the line that is looked at, after a text
 abbrev pub TakesNext : {Y : Type 0} → List ℕ → Option Meaning → Explanation → Explanation → String Y → String Y → Type 0
 TakesNext line meaning e f old new = TakesLine e.line line meaning e f (string_bytes old) (string_bytes new)

@@ -1,12 +1,12 @@
 -- The listing of a program, and what is told of a program.
-use Rattle.std.specs.Prelude.{◌≡◌, ◌⊎◌, ℕ, ◌+◌, ◌-◌, ◌<◌, ◌≤◌, ◌==◌, nat_lt, List, [], ◌∷◌, ◌++◌, length, take, replicate, codes, decimal, Option, Some, None, if◌then◌else◌}
+use Rattle.std.specs.Prelude.{◌≡◌, ◌⊎◌, ℕ, ◌+◌, ◌-◌, ◌<◌, ◌≤◌, ◌==◌, max, nat_lt, List, [], ◌∷◌, ◌++◌, length, take, replicate, codes, decimal, Option, Some, None, if◌then◌else◌}
 use Rattle.std.specs.List.{concat}
 use Rattle.insn.specs.declared.instruction.Form.{Form}
 use Rattle.insn.specs.declared.instruction.TheConstants.{MAX_SLOTS}
 use Rattle.insn.specs.Layout.{slot_count, size}
 use Rattle.asm.specs.Text.{line_text}
 use Rattle.maps.specs.declared.shapes.Shape.{Shape}
-use Rattle.maps.specs.Shapes.{AreShapesOk}
+use Rattle.maps.specs.Shapes.{AreShapesSupported}
 use Rattle.maps.specs.declared.shapes.TheConstants.{MAX_ARG_LEN}
 use Rattle.verifier.specs.declared.refusal.Refused.{Refused}
 use Rattle.verifier.specs.Numbers.{fault_number}
@@ -50,7 +50,7 @@ line_of s = record { name = s.name.now; mode = s.mode; arg_len = s.arg_len; file
 abbrev pub byte_word : ℕ → List ℕ
 byte_word n = if n == 1 then codes " byte" else codes " bytes"
 
--- which program it is: its name, its line, whether it may change maps, how long its argument is, and its file
+-- the head of a listing: the program's name, its line, whether it may change maps, how long its argument is, and its file
 abbrev pub head_text : ℕ → ProgramLine → List ℕ
 head_text n p =
     concat
@@ -68,16 +68,29 @@ left_text n = if n == 0 then [] else concat (codes "      (" ∷ decimal n ∷ i
 abbrev pub refusal_text : Refused → List ℕ
 refusal_text e = concat (codes "      V" ∷ decimal (fault_number e.why) ∷ codes " at slot " ∷ decimal e.slot ∷ codes "." ∷ [])
 
--- so many instructions are all, or reach to the slot at which the program is refused
-abbrev pub AreEnough : List Form → Option Refused → ℕ → Type 0
-AreEnough p verdict count = (length p ≤ count) ⊎ ((e : Refused) × (verdict ≡ Some e) × (e.slot < size (take count p)))
+-- the last slot that is listed of a program with this refusal by kinds and this verdict, of the slots of both the higher one; none where the
+-- program is listed to its end
+abbrev pub last_listed : Option Refused → Option Refused → Option ℕ
+last_listed (Some kinds) (Some e) = Some (max kinds.slot e.slot)
+last_listed None (Some e) = None
+last_listed kinds None = None
+
+-- so many instructions are those that begin up to this slot: each of them does, and the next one doesn't
+pub record BeginUpto (p : List Form) (last count : ℕ) : Type 0 where
+  pub each : (k : ℕ) → k < count → size (take k p) ≤ last
+  pub enough : (length p ≤ count) ⊎ (last < size (take count p))
+
+-- so many instructions are listed: those up to the last slot, or all
+abbrev pub AreListed : List Form → Option ℕ → ℕ → Type 0
+AreListed p None count = length p ≤ count
+AreListed p (Some last) count = BeginUpto p last count
 
 -- the listing of a program with this refusal by kinds and this verdict: the lines of its first instructions, and how many are left
 pub record IsListing (p : List Form) (kinds verdict : Option Refused) (text : List ℕ) : Type 0 where
   pub count : ℕ
   pub lines : List ℕ
   pub listed : Lists (told_upto p kinds) 0 (take count p) lines
-  pub enough : AreEnough p verdict count
+  pub upto : AreListed p (last_listed kinds verdict) count
   pub whole : text ≡ lines ++ left_text (length p - count)
 
 -- such a listing stands behind what stood there
@@ -113,9 +126,9 @@ signature_of s = signature s.shapes.now s.arg_len s.mode
 abbrev pub verdict_on : Subject → Option Refused
 verdict_on s = verdict s.program.now (signature_of s)
 
--- it has at most 4,096 slots, and a store may have such maps, and such an argument
+-- the program has at most 4,096 slots, and a store may have such maps, and such an argument
 pub record CanBeJudged (s : Subject) : Type 0 where
-  pub shapes : AreShapesOk s.shapes.now
+  pub shapes : AreShapesSupported s.shapes.now
   pub argument : s.arg_len ≤ MAX_ARG_LEN
   pub few : size s.program.now ≤ MAX_SLOTS
 

@@ -9,6 +9,7 @@ use Rattle.insn.specs.Refusal.{fault_number as slot_fault_number}
 use Rattle.maps.specs.declared.shapes.Shape.{Shape}
 use Rattle.verifier.specs.declared.refusal.Mode.TheVariants.{Read}
 use Rattle.verifier.specs.Accepted.{checked}
+use Rattle.maps.specs.Shapes.{standard}
 use Rattle.loader.specs.declared.refusals.LoadFault.{LoadFault}
 use Rattle.loader.specs.declared.refusals.LoadFault.TheVariants.{BadLine, BadHex, Decode, TooMany}
 use Rattle.loader.specs.Grammar.{ProgramLine, Meaning, Comment, Map, Program, line_meaning}
@@ -29,7 +30,7 @@ is_asked (Some name) meaning = false
 
 -- a line of a manifest is that of a program of this name
 abbrev pub has_program : List ℕ → List ℕ → Bool
-has_program name text = list_any (λ l. is_asked (Some name) (line_meaning l)) (lines_of text)
+has_program name text = list_any (λ l. is_asked (Some name) (line_meaning standard l)) (lines_of text)
 
 -- a line is asked for, where a name is given
 abbrev pub has_asked : Option (List ℕ) → List ℕ → Bool
@@ -76,7 +77,7 @@ with_shapes n a (Err why) = with_bad_map true n a
 abbrev pub with_line : ℕ → List ℕ → Option Meaning → Above → Above
 with_line n line None a = with_bad_map (starts_with nat_eq line (codes "map")) n a
 with_line n line (Some Comment) a = a
-with_line n line (Some (Map shape)) a = with_shapes n a (with_map (so_far a) shape)
+with_line n line (Some (Map shape)) a = with_shapes n a (with_map standard (so_far a) shape)
 with_line n line (Some (Program p)) a = record a { names = a.names ++ p.name ∷ [] }
 
 -- ---- how what is told of a refused line begins
@@ -97,7 +98,7 @@ slot_fault e = concat (codes "D" ∷ decimal (slot_fault_number e.why) ∷ codes
 abbrev pub named_words : ProgramLine → List ℕ
 named_words p = concat (codes ", program " ∷ p.name ∷ codes ", " ∷ p.file ∷ codes "\n      " ∷ [])
 
--- the same of the file of a program: line N: Cn, program NAME, FILE, and Dn at slot S where its bytes are no program
+-- the fault of the file of a program: line N: Cn, program NAME, FILE, and Dn at slot S where its bytes are no program
 abbrev pub file_fault : ℕ → ProgramLine → LoadFault → List ℕ
 file_fault n p BadHex = refused_by n (fault_number BadHex) ++ named_words p
 file_fault n p (Decode e) = refused_by n (fault_number (Decode e)) ++ (named_words p ++ slot_fault e)
@@ -133,7 +134,7 @@ TellsOfRead n a p read text = MatchResult read (λ program. IsJudged a.bad_map a
 abbrev pub TellsOfFile : Files → ℕ → Above → ProgramLine → List ℕ → Type 0
 TellsOfFile files n a p text = TellsOfRead n a p (program_in files p.file) text
 
--- the same where a map stands above, and nothing where none does
+-- `TellsOfFile` if a map is above, and nothing if none is
 abbrev pub TellsWhereMap : Bool → Files → ℕ → Above → ProgramLine → List ℕ → Type 0
 TellsWhereMap true files n a p text = TellsOfFile files n a p text
 TellsWhereMap false files n a p text = text ≡ []
@@ -156,7 +157,7 @@ pub record TellsOfProgram (files : Files) (n : ℕ) (a : Above) (p : ProgramLine
   pub file : TellsWhereMap (has_map a) files n a p own
   pub whole : text ≡ misplaced ++ (beyond ++ own)
 
--- the same where it is asked for
+-- `TellsOfProgram` if the program is asked for, and nothing if it isn't
 abbrev pub TellsIfAsked : Bool → Files → ℕ → Above → ProgramLine → List ℕ → Type 0
 TellsIfAsked true files n a p text = TellsOfProgram files n a p text
 TellsIfAsked false files n a p text = text ≡ []
@@ -168,7 +169,7 @@ abbrev pub TellsOfLine : Files → Option (List ℕ) → ℕ → Above → Optio
 TellsOfLine files name n a None text = BeginsIf (is_none name) (line_fault n BadLine) text
 TellsOfLine files name n a (Some Comment) text = text ≡ []
 TellsOfLine files name n a (Some (Map shape)) text =
-    MatchResult (with_map (so_far a) shape) (λ _. text ≡ []) (λ why. BeginsIf (is_none name) (line_fault n why) text)
+    MatchResult (with_map standard (so_far a) shape) (λ _. text ≡ []) (λ why. BeginsIf (is_none name) (line_fault n why) text)
 TellsOfLine files name n a (Some (Program p)) text = TellsIfAsked (is_asked name (Some (Program p))) files n a p text
 
 -- of one line after another, from line n on; C1 behind the last where there is no map and no name is given
@@ -178,8 +179,8 @@ TellsOfLines files name n a (l ∷ ls) text =
     (told : List ℕ)
     × (rest : List ℕ)
     × (text ≡ told ++ rest)
-    × TellsOfLine files name n a (line_meaning l) told
-    × TellsOfLines files name (next_line n) (with_line n l (line_meaning l) a) ls rest
+    × TellsOfLine files name n a (line_meaning standard l) told
+    × TellsOfLines files name (next_line n) (with_line n l (line_meaning standard l) a) ls rest
 
 -- of all lines of a manifest
 abbrev pub TellsOfAll : Files → Option (List ℕ) → List ℕ → List ℕ → Type 0

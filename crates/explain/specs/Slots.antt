@@ -136,7 +136,7 @@ frame_told t jumps falls before (Some now) = reached_told t jumps falls before +
 unfoldable pub told_at : List Form → (ℕ → Option Frame) → ℕ → List ℕ
 told_at p known t = frame_told t (slots_into p Jump t) (falls_into p known t) (line_above known (slots_into p Jump t) (falls_into p known t)) (known t)
 
--- the same of the joined frames: what is known there on every way
+-- `told_at` of the joined frames: what is known at the slot on every way
 abbrev pub slot_told : List Form → ℕ → List ℕ
 slot_told p t = told_at p (joined_frame p) t
 

@@ -11,7 +11,7 @@ use Rattle.explain.specs.Listing.{kinds_refusal, signature_of, Lists}
 use Rattle.explain.specs.Slots.{falls_into, told_upto}
 use Rattle.explain.specs.Told.{Adds}
 
--- its frames are the joined ones, up to the refusal by kinds, and that is the program's
+-- the study's frames are the joined ones, up to the refusal by kinds, and that is the program's
 pub record IsStudy (s : Study) : Type 0 where
   pub frames : HasGoodSize s.subject.program.now → AreKnown s.subject.program.now s.known.kinds s.known.frames.items
   pub kinds : size s.subject.program.now ≤ MAX_SLOTS → s.known.kinds ≡ kinds_refusal s.subject.program.now (signature_of s.subject)

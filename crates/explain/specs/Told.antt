@@ -1,11 +1,11 @@
 -- What what is told begins with, and where it stands.
 use Rattle.std.specs.Prelude.{◌≡◌, ℕ, Bool, true, false, List, [], ◌++◌}
 
--- it begins with these words
+-- the text begins with these words
 abbrev pub BeginsWith : List ℕ → List ℕ → Type 0
 BeginsWith words told = (more : List ℕ) × (told ≡ words ++ more)
 
--- it begins with these words where that is so, and else it is nothing
+-- the text begins with these words if that is so, and else it is empty
 abbrev pub BeginsIf : Bool → List ℕ → List ℕ → Type 0
 BeginsIf true words told = BeginsWith words told
 BeginsIf false words told = told ≡ []

@@ -27,11 +27,11 @@ kind_words (Map map) = concat (codes "map " ∷ decimal map ∷ [])
 kind_words (Value map by) = concat (codes "value of map " ∷ decimal map ∷ offset_words by ∷ [])
 kind_words (ValueOrNull map) = concat (codes "value of map " ∷ decimal map ∷ codes ", or null" ∷ [])
 
--- that register r has it
+-- the words that say that register r has a kind
 abbrev pub register_words : ℕ → Kind → List ℕ
 register_words r kind = concat (codes "; r" ∷ decimal r ∷ codes " = " ∷ kind_words kind ∷ [])
 
--- that cell c of the stack has it; places in the stack are counted down from its end
+-- the words that say that cell c of the stack has a kind; places in the stack are counted down from its end
 abbrev pub pointer_words : ℕ → Kind → List ℕ
 pointer_words c kind = concat (codes "; stack -" ∷ decimal (512 - 8 * c) ∷ codes " holds " ∷ kind_words kind ∷ [])
 
@@ -41,7 +41,7 @@ byte_words bytes.Number = codes "written"
 byte_words bytes.Unwritten = codes "unwritten"
 byte_words bytes.Pointer = codes "a pointer"
 
--- that so are the bytes from the first of these two to the last, counted from the stack's lower end
+-- the words that say that the bytes from the first of these two to the last are so, counted from the stack's lower end
 abbrev pub row_words : Byte → ℕ → ℕ → List ℕ
 row_words known first last =
     if first == last then concat (codes "; stack -" ∷ decimal (512 - first) ∷ codes " " ∷ byte_words known ∷ [])

@@ -1,9 +1,9 @@
 // Programs by their slots: what is known there, and the ways that lead there.
 
-ghost use Rattle.std.specs.Prelude.{◌≡◌, ◌↔◌, ◌<◌, ◌≤◌, ◌++◌, ◌∷◌, [], ℕ, pos, Some, if◌then◌else◌, option_map, IfOk, IfSome, IsSome, OnOk};
+ghost use Rattle.std.specs.Prelude.{◌≡◌, ◌↔◌, ◌<◌, ◌≤◌, ◌++◌, ◌∷◌, [], ℕ, pos, Some, if◌then◌else◌, option_map, IfOk, IfSome, IsOk, IsSome, OnOk};
 ghost use Rattle.insn.specs.declared.instruction.TheConstants.{MAX_SLOTS};
 ghost use Rattle.insn.specs.Layout.{size, LeadsTo};
-ghost use Rattle.maps.specs.Shapes.{AreShapesOk};
+ghost use Rattle.maps.specs.Shapes.{AreShapesSupported};
 ghost use Rattle.maps.specs.declared.shapes.TheConstants.{MAX_ARG_LEN};
 ghost use Rattle.verifier.specs.Joined.{frame_in, leads};
 ghost use Rattle.explain.specs.Listing.{verdict_on};
@@ -19,7 +19,7 @@ use helpers::Helper;
 use insn::Operation::Mov;
 use insn::{Condition, Edge, Form, Insn, MAX_SLOTS, Source};
 pub use listing::explain_program;
-use maps::{MAX_ARG_LEN, Shape, shapes_ok};
+use maps::{MAX_ARG_LEN, MapLimits, Shape, ShapeFault, shapes_within};
 use regkind::{Cell, Frame, Kind};
 use std::alloc::{AllocError, Global};
 use verifier::{Explained, Mode, Signature, explain, frame_on_edge};
@@ -30,7 +30,7 @@ const STACK_BYTES: usize = 512;
 /// A program as a line of a manifest names it.
 #[derive(Clone, Copy)]
 pub struct Subject<'a> {
-    /// Its name.
+    /// The program's name.
     pub name: &'a str,
     /// The number of its line.
     pub line: u32,
@@ -42,7 +42,7 @@ pub struct Subject<'a> {
     pub arg_len: usize,
     /// The maps, in order.
     pub shapes: &'a [Shape],
-    /// Its instructions, in order.
+    /// The program's instructions, in order.
     pub program: &'a [Insn],
 }
 
@@ -194,16 +194,23 @@ fn steps_to(alloc: Global, program: &[Insn], to: usize) -> Result<Vec<Step>, All
     Ok(steps)
 }
 
+// Whether maps may have these shapes by the widest limits; if not, why.
+fn shapes_supported(shapes: &[Shape]) -> Result<(), ShapeFault>
+    ensures ok { IsOk result ↔ AreShapesSupported shapes.now }
+{
+    shapes_within(&MapLimits::widest(), shapes)
+}
+
 impl<'a> Study<'a> {
     // What is known of a program; nothing where no store has such maps or arguments.
     pub(crate) fn of(alloc: Global, subject: Subject<'a>) -> Result<Option<Study<'a>>, AllocError>
-        ensures some { AreShapesOk subject.entry.shapes.now → subject.entry.arg_len ≤ MAX_ARG_LEN → IfOk result IsSome }
+        ensures some { AreShapesSupported subject.entry.shapes.now → subject.entry.arg_len ≤ MAX_ARG_LEN → IfOk result IsSome }
         ensures same { IfOk result (λ o. IfSome o (λ s. s.subject ≡ subject.entry)) }
         ensures refused { IfOk result (λ o. IfSome o (λ s. s.known.refused ≡ verdict_on subject.entry)) }
         ensures known { IfOk result (λ o. IfSome o IsStudy) }
     {
         let (program, shapes, arg_len) = (subject.program, subject.shapes, subject.arg_len);
-        if shapes_ok(shapes).is_err() || arg_len > MAX_ARG_LEN {
+        if shapes_supported(shapes).is_err() || arg_len > MAX_ARG_LEN {
             return Ok(None);
         }
         let known = explain(alloc, program, shapes, arg_len, subject.mode)?;
@@ -249,7 +256,7 @@ impl<'a> Study<'a> {
         self.edges.get(slot).map_or(&[], |steps| steps.as_slice())
     }
 
-    // Those of them that are jumps.
+    // The edges of `steps_into` that are jumps.
     pub(crate) fn jumps_into(&self, slot: usize) -> &[Step] {
         let steps = self.steps_into(slot);
         match steps.split_last() {
@@ -285,7 +292,7 @@ impl<'a> Study<'a> {
         let insn = *self.begins.get(step.from)?;
         let before = self.frame_at(step.from)?;
         let (shapes, arg_len) = (self.subject.shapes, self.subject.arg_len);
-        if shapes_ok(shapes).is_err() || arg_len > MAX_ARG_LEN {
+        if shapes_supported(shapes).is_err() || arg_len > MAX_ARG_LEN {
             return None;
         }
         let signature = Signature::new(shapes, arg_len, self.subject.mode);

@@ -51,17 +51,17 @@ fn lack_at(study: &Study<'_>, refused: Refused) -> Option<Lack> {
 fn broken_kinds(way: &Way<'_>, why: VerifyFault) -> Option<Told<'static>> {
     let line = Field(u64::from(way.study.subject.line));
     match why {
-        VerifyFault::UnreadableRegister => way.unreadable(),
+        VerifyFault::UnreadableRegister => way.unreadable_register(),
         VerifyFault::FramePointerWritten => Some(say(STACK_END_WRITTEN, &[])),
-        VerifyFault::UndefinedOperation => way.undefined(),
+        VerifyFault::UndefinedOperation => way.undefined_operation(),
         VerifyFault::OffsetOutOfRange => way.moved_out(),
-        VerifyFault::OutOfRegion => way.outside(),
-        VerifyFault::UninitialisedStack => way.unwritten(),
+        VerifyFault::OutOfRegion => way.access_outside(),
+        VerifyFault::UninitialisedStack => way.unwritten_stack(),
         VerifyFault::ArgumentWritten => Some(say(ARGUMENT_WRITTEN, &[Register(way.base())])),
         VerifyFault::PointerStored => way.stored_pointer(),
         UncheckedNull => Some(way.maybe_null()),
         VerifyFault::HelperArgument => Some(way.wrong_argument()),
-        VerifyFault::UnknownHelperOrMap => way.unknown(),
+        VerifyFault::UnknownHelperOrMap => way.unknown_name(),
         VerifyFault::PointerReply => Some(way.pointer_reply()),
         VerifyFault::WriteInReadMode => Some(say(WRITE_IN_READ_MODE, &[line])),
         _ => None,
@@ -112,7 +112,7 @@ fn jump_text(why: VerifyFault, is_loop: bool, is_at_end: bool) -> &'static str {
     }
 }
 
-// The same in words.
+// Says why a jump is refused: the text of `jump_text`, with the words for its gaps.
 fn wrong_jump(study: &Study<'_>, refused: Refused) -> Result<Told<'static>, AllocError> {
     let (slot, slots) = (refused.slot as usize, study.slots());
     let target = study.form_at(slot).and_then(|form| jump_target(form, slot));
@@ -128,7 +128,7 @@ fn wrong_jump(study: &Study<'_>, refused: Refused) -> Result<Told<'static>, Allo
 }
 
 // Why nothing leads to the instruction at a slot.
-fn unreached(study: &Study<'_>, slot: usize) -> Told<'static> {
+fn unreached_reason(study: &Study<'_>, slot: usize) -> Told<'static> {
     // The slot above this one at which the answer of a lookup is used without a test.
     let kinds = study.known.kinds.filter(|kinds| kinds.why == UncheckedNull);
     let used = kinds.map(|kinds| kinds.slot as usize);
@@ -152,7 +152,7 @@ fn unreached(study: &Study<'_>, slot: usize) -> Told<'static> {
 }
 
 // Why the program runs off its end.
-fn endless(study: &Study<'_>, slot: usize) -> Told<'static> {
+fn end_reason(study: &Study<'_>, slot: usize) -> Told<'static> {
     let text = match study.form_at(slot) {
         None => "The program has no instruction.|The shortest program is `mov64 r0, 0` and `exit`.",
         Some(_) if study.known.frames.is_empty() =>
@@ -173,8 +173,8 @@ pub(crate) fn broken_structure(
     let slot = refused.slot as usize;
     Ok(match refused.why {
         TargetOutside | TargetNotForward | TargetInsideWide => Some(wrong_jump(study, refused)?),
-        VerifyFault::RunsOffTheEnd => Some(endless(study, slot)),
-        VerifyFault::Unreachable => Some(unreached(study, slot)),
+        VerifyFault::RunsOffTheEnd => Some(end_reason(study, slot)),
+        VerifyFault::Unreachable => Some(unreached_reason(study, slot)),
         _ => None,
     })
 }

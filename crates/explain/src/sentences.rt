@@ -12,7 +12,7 @@ use std::alloc::{AllocError, Global};
 use std::fmt::Write;
 use verifier::VerifyFault;
 
-// That something was added to a text, or no memory is left.
+// The outcome of adding to a text: done, or no memory is left.
 pub(crate) type Written = Result<(), AllocError>;
 
 // Adds these texts, one behind another.
@@ -50,7 +50,7 @@ pub(crate) enum Word<'a> {
     Register(u8),
     // What a register has.
     Known(Kind),
-    // So many bytes.
+    // A number of bytes.
     Bytes(usize),
     // The first and the last of some places in a row.
     Range(i64, i64),
@@ -159,7 +159,7 @@ pub(crate) fn put(out: &mut String, text: &str, words: &[Word<'_>]) -> Written {
 }
 
 impl Told<'_> {
-    // It as a text.
+    // `put`, but into a new text.
     pub(crate) fn text(&self, alloc: Global, to_do: &str) -> Result<String, AllocError> {
         let mut out = String::new(alloc);
         self.put(&mut out, to_do)?;

@@ -53,7 +53,7 @@ no_test : structure_fault (counts (Alu true Mov 5 (Imm (pos 0)))) ≡ Some (faul
 unfolding structure_fault lowest_fault first_rule reached_slots
 no_test = refl
 
--- its first instructions alone
+-- the first broken rule of the first n instructions of `null_test`
 abbrev front : ℕ → Option Broken
 front n = structure_fault (take n (counts null_test))
 

@@ -9,7 +9,7 @@ use Rattle.insn.specs.declared.instruction.Form.TheVariants.{Imm64, MapRef}
 use Rattle.insn.specs.Layout.{layout, size, slot_count, instruction_at, LeadsTo}
 use Rattle.insn.specs.declared.instruction.Edge.{Edge}
 use Rattle.insn.specs.declared.instruction.Edge.TheVariants.{Fall, Jump}
-use Rattle.insn.proofs.Places.{next_stands}
+use Rattle.insn.proofs.Export.{next_stands}
 use Rattle.flow.specs.declared.rules.StructureRule.TheVariants.{TargetOutside, TargetNotForward, TargetInsideWide, RunsOffTheEnd}
 use Rattle.flow.specs.Structure.{IsStructured, StandsAt}
 

@@ -9,3 +9,4 @@ pub mod Positions
 pub mod Pass
 pub mod Judged
 mod Examples
+pub mod Export

@@ -7,7 +7,7 @@ use Rattle.std.proofs.Math.Seq.{take-suc}
 use Rattle.std.proofs.lemmas.Bool.{cases_eq, ne_eqb, eq-eqb}
 use Rattle.insn.specs.declared.instruction.Form.{Form}
 use Rattle.insn.specs.Layout.{slot_contents, slot_count, layout, size, instruction_at}
-use Rattle.insn.proofs.Places.{cells_shape}
+use Rattle.insn.proofs.Export.{cells_shape}
 use Rattle.flow.specs.Structure.{StandsAt}
 use Rattle.flow.specs.Faults.{is_half, is_second_half}
 use Rattle.flow.proofs.Forward.{width_some}
@@ -79,7 +79,7 @@ placed p k s i h e at = record {
   within = omega (arith, at, size_next p k i h e, size_within p (k + 1));
 }
 
--- it begins before the program's end
+-- an instruction begins before the program's end
 pub begins_within : {p : List Form} {i : Form} {s : ℕ} → Placed p i s → s < size p
 begins_within {p} {i} at = omega (arith, at.within, width_some i)
 

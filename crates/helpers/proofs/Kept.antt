@@ -10,9 +10,7 @@ use Rattle.maps.specs.Maps.{Maps, MapState, Entries, AreBytes, IsValueOf, IsMapS
 use Rattle.maps.specs.Values.{MachineValue, Num, IsMachineValue}
 use Rattle.helpers.specs.Helpers.{enoent, e2big, eexist, einval, noexist, exist, found, update_error, delete_error, changed_unless, with_entries, update_answer, delete_answer, HelperCall, LookupCall, UpdateCall, DeleteCall, HelperAnswer, HelperAnswers}
 use Rattle.helpers.specs.Laws.{Names, FitsMaps}
-use Rattle.maps.proofs.Kept.{MayPut, put_keeps, put_key, take_keeps}
-use Rattle.maps.proofs.Stored.{all_get}
-use Rattle.maps.proofs.Written.{all_set}
+use Rattle.maps.proofs.Export.{MayPut, put_keeps, put_key, take_keeps, all_get, all_set}
 use Rattle.helpers.proofs.Places.{map_set, option_map_some}
 use Rattle.helpers.proofs.Answers.{IsErrno, update_errno, delete_errno, value_there, value_after, value_elsewhere, inserted_other, removed_other}
 

@@ -4,3 +4,4 @@ pub mod Answers
 pub mod Kept
 pub mod Sequence
 pub mod MapChanges
+pub mod Export

@@ -11,8 +11,7 @@ use Rattle.maps.specs.Shapes.{IsHash, entry_count, value_size}
 use Rattle.maps.specs.Maps.{MapState, value_at}
 use Rattle.maps.specs.Values.{Num}
 use Rattle.maps.specs.MapSets.{Contents, maps_of, stored_shapes, put_value, take_key, write_value, PutsWritten, HasRoom}
-use Rattle.maps.proofs.Stored.{map_there}
-use Rattle.maps.proofs.Written.{put_value_at, take_key_at, others_kept}
+use Rattle.maps.proofs.Export.{map_there, put_value_at, take_key_at, others_kept}
 use Rattle.helpers.specs.Helpers.{e2big, enoent, exist, noexist, negative_errno, update_error, delete_error, changed_unless, update_answer, delete_answer, answer_of, HelperAnswers, UpdateCall, DeleteCall}
 use Rattle.helpers.proofs.Answers.{value_there}
 

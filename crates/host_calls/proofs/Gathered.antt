@@ -4,18 +4,18 @@ use Rattle.std.specs.List.{list_all}
 use Rattle.std.specs.declared.alloc.Global.{Global}
 use Rattle.std.specs.declared.boxed.Box.{Box}
 use Rattle.host_calls.specs.declared.attached.Attached.{Attached}
-use Rattle.host_calls.specs.Leaving.{session_at, sessions_back}
+use Rattle.host_calls.specs.Leaving.{sessions_at, sessions_back}
 
-alone : (p : Option (Box Attached Global)) → session_at p ≡ session_at p ++ []
+alone : (p : Option (Box Attached Global)) → sessions_at p ≡ sessions_at p ++ []
 alone None = refl
 alone (Some a) = refl
 
 -- of places with one more at the end
-pub back_more : (ps : List (Option (Box Attached Global))) (p : Option (Box Attached Global)) → sessions_back (ps ++ p ∷ []) ≡ session_at p ++ sessions_back ps
+pub back_more : (ps : List (Option (Box Attached Global))) (p : Option (Box Attached Global)) → sessions_back (ps ++ p ∷ []) ≡ sessions_at p ++ sessions_back ps
 back_more [] p = alone p
-back_more (q ∷ ps) p = ap (λ z. z ++ session_at q) (back_more ps p) ∙ append_assoc (session_at p) (sessions_back ps) (session_at q)
+back_more (q ∷ ps) p = ap (λ z. z ++ sessions_at q) (back_more ps p) ∙ append_assoc (sessions_at p) (sessions_back ps) (sessions_at q)
 
-pub at_most_one : (p : Option (Box Attached Global)) → length (session_at p) ≤ 1
+pub at_most_one : (p : Option (Box Attached Global)) → length (sessions_at p) ≤ 1
 at_most_one None = omega arith
 at_most_one (Some a) = omega arith
 

@@ -9,9 +9,10 @@ use Rattle.accounts.specs.declared.sessions.SessionNote.{SessionNote}
 use Rattle.accounts.specs.Accounts.{Extends}
 use Rattle.accounts.specs.Moves.{answered_with}
 use Rattle.accounts.specs.Told.{Tells}
+use Rattle.store_steps.specs.Polling.{HasAskedFor}
 use Rattle.store_steps.specs.Views.{SessionView}
 use Rattle.store.specs.Polled.{HasPostedFor}
-use Rattle.store_steps.proofs.StoreLaws.{store_laws}
+use Rattle.store_steps.proofs.Export.{store_laws}
 use Rattle.host_calls.specs.declared.attached.Told.{Told}
 use Rattle.host_calls.specs.declared.attached.Told.TheVariants.{Busy, Again, Answered, Refused, NotOpen, IsOut, NoWord}
 use Rattle.host_calls.specs.Told.{HasGrown, TellsOut, TellsPosting, TellsRefused, TellsUpdate}
@@ -21,7 +22,7 @@ none_of None never = refl
 none_of (Some a) never = absurd (never a refl)
 
 -- what is told of a request that was posted within the call
-out_from : (old mid new : SessionView) (o : Pending) (told : Told) → mid.session ≡ old.session → mid.note ≡ record old.note { pending = Some o } → TellsOut mid new o told → TellsOut old new o told
+out_from : (old mid new : SessionView) (o : Pending) (told : Told) → mid.session ≡ old.session → record mid.note { batch = [] } ≡ record old.note { pending = Some o; batch = [] } → TellsOut mid new o told → TellsOut old new o told
 out_from old mid new o Again same note t = (t.0, t.1 ∙ ap (λ (n : SessionNote). n.answered) note)
 out_from old mid new o (Answered place reply) same note t =
     let at = subst (λ n. Tells store_meaning new.progress mid.session (length n.answered) o (Placed place reply) × (new.note ≡ answered_with (record n { batch = [] }) o.op (Placed place reply))) note t in
@@ -43,7 +44,11 @@ posting op old new o NotOpen is seen t = absurd t
 posting op old new o IsOut is seen t = absurd t
 posting op old new o NoWord is seen t = absurd t
 
-pub posted_then : (op : Operation) (refused : Option StoreRefused) (old mid new : SessionView) (told : Told) → old.note.pending ≡ None → refused ≡ None → HasPostedFor old mid op → mid.session ≡ old.session
+-- who has posted has asked
+pub asked_for : (old mid : SessionView) (op : Operation) → HasPostedFor old mid op → HasAskedFor old mid op
+asked_for old mid op (o, is, seen, note) = (o, is, seen, ap (λ (n : SessionNote). record n { batch = [] }) note)
+
+pub posted_then : (op : Operation) (refused : Option StoreRefused) (old mid new : SessionView) (told : Told) → old.note.pending ≡ None → refused ≡ None → HasAskedFor old mid op → mid.session ≡ old.session
     → Extends old.progress mid.progress → HasGrown mid new → ((o : Pending) → mid.note.pending ≡ Some o → TellsOut mid new o told) → TellsUpdate op refused old new told
 posted_then op refused old mid new told idle none (o, is, seen, note) same grew grown tells =
     let at = posting op old new o told is seen (out_from old mid new o told same note (tells o (ap (λ (n : SessionNote). n.pending) note))) in (

@@ -2,7 +2,7 @@
 use Rattle.std.proofs.Common.{ℕ, zero, suc, ◌<◌, List, [], ◌∷◌, length, get_or, subst, refl}
 use Rattle.std.proofs.lemmas.List.Elements.{All-head, All-tail}
 use mathlib.Core.Option.{some-injective}
-use Rattle.accounts.proofs.Lists.{at_none}
+use Rattle.accounts.proofs.Export.{at_none}
 use native.Mathlib.Nat.{not-suc-le-zero, le_of_suc-le-suc}
 use Rattle.std.specs.List.{All}
 use Rattle.ownlock.specs.Seats.{At}

@@ -9,7 +9,8 @@ use Rattle.replica.specs.Refusals.{early_refusal, store_fault_number}
 use Rattle.replica.specs.declared.refusals.StoreRefused.{StoreRefused}
 use Rattle.replica.specs.declared.refusals.StoreRefused.TheVariants.{NotDecoded, NotAccepted}
 use Rattle.store_steps.specs.Views.{SessionView, op_of}
-use Rattle.store.specs.Sessions.{StoreView, install_of, install_refused}
+use Rattle.store.specs.Sessions.{StoreView, install_of, install_refused, new_program}
+use Rattle.store.specs.Within.{within_refusal}
 use Rattle.host_calls.specs.declared.attached.Told.{Told}
 use Rattle.host_calls.specs.declared.attached.Told.TheVariants.{Busy, Again, Answered as Answers, Refused, NotOpen, IsOut, NoWord}
 use Rattle.host_calls.specs.declared.handles.Asked.{Asked}
@@ -37,11 +38,20 @@ asks_read store program argument = Reads (op_of program argument) (early_refusal
 abbrev pub asks_install : StoreView → Mode → ℕ → List ℕ → Asks
 asks_install store mode argument bytes = Updates (install_of mode argument bytes) (install_refused store mode argument bytes)
 
+-- of a program that may name these maps alone
+abbrev pub asks_within : StoreView → (maps : ℕ) → Mode → ℕ → List ℕ → Asks
+asks_within store maps mode argument bytes = Updates (install_of mode argument bytes) (within_refusal store.catalogue.shapes maps (new_program mode argument bytes))
+
+-- which the word `program` has
+abbrev pub asks_confined : StoreView → Asked → List ℕ → Asks
+asks_confined store a bytes = if a.mode == 0 then asks_within store a.program Update a.argument bytes else if a.mode == 1 then asks_within store a.program Read a.argument bytes else Nothing
+
 abbrev pub asks_of : StoreView → Asked → List ℕ → Asks
 asks_of store a bytes =
     if a.call == 0 then asks_update store a.program bytes
     else if a.call == 1 then asks_read store a.program bytes
     else if a.call == 2 then (if a.mode == 0 then asks_install store Update a.argument bytes else if a.mode == 1 then asks_install store Read a.argument bytes else Nothing)
+    else if a.call == 3 then asks_confined store a bytes
     else Nothing
 
 -- by the words, whose bytes have room for so many
@@ -64,7 +74,7 @@ pub record TellsAttached (a : Asked) (old new : AttachedView) (told : Told) : Ty
 abbrev pub status_of : Told → ℕ
 status_of Busy = busy
 status_of Again = again
-status_of (Answers place reply) = done
+status_of (Answers point reply) = done
 status_of (Refused why) = refusal letter_S (store_fault_number why)
 status_of NotOpen = not_open
 status_of IsOut = is_out
@@ -76,18 +86,18 @@ inner_of (Refused (NotDecoded why)) = (refusal letter_D (decode_number why.why),
 inner_of (Refused (NotAccepted why)) = (refusal letter_V (verify_number why.why), why.slot)
 inner_of told = (0, 0)
 
--- the place and the reply of an answer; where there is none, those that stood there
-abbrev pub place_and_reply : Answered → Told → ℕ × ℕ
-place_and_reply before (Answers place reply) = (place, reply)
-place_and_reply before told = (before.place, before.reply)
+-- the point and the reply of an answer; where there is none, those that stood there
+abbrev pub point_and_reply : Answered → Told → ℕ × ℕ
+point_and_reply before (Answers point reply) = (point, reply)
+point_and_reply before told = (before.point, before.reply)
 
 abbrev pub written : Answered → Told → Answered
 written before told = record {
   status = status_of told;
   inner = (inner_of told).0;
   slot = (inner_of told).1;
-  place = (place_and_reply before told).0;
-  reply = (place_and_reply before told).1;
+  point = (point_and_reply before told).0;
+  reply = (point_and_reply before told).1;
   count = before.count;
   next = before.next;
 }

@@ -19,14 +19,14 @@ use Rattle.host_calls.specs.Stores.{IsStatusAlone}
 -- ---- the state
 
 -- the session at a place
-abbrev pub session_at : Option (Box Attached Global) → List SessionView
-session_at None = []
-session_at (Some a) = a.value.session ∷ []
+abbrev pub sessions_at : Option (Box Attached Global) → List SessionView
+sessions_at None = []
+sessions_at (Some a) = a.value.session ∷ []
 
 -- the sessions at places, the last first
 abbrev pub sessions_back : List (Option (Box Attached Global)) → List SessionView
 sessions_back [] = []
-sessions_back (p ∷ ps) = sessions_back ps ++ session_at p
+sessions_back (p ∷ ps) = sessions_back ps ++ sessions_at p
 
 -- the state after the whole history of a store whose sessions are these
 abbrev pub IsLastOf : StoreView → List SessionView → StoreState → Type 0

@@ -3,12 +3,13 @@ use Rattle.std.specs.Prelude.{◌≡◌, ℕ, ◌<◌, ◌≤◌, List, Ok, Err,
 use Rattle.std.specs.Str.{IsUtf8}
 use Rattle.insn.specs.Refusal.{fault_number as decode_number}
 use Rattle.verifier.specs.Numbers.{fault_number as verify_number}
+use Rattle.maps.specs.Shapes.{AreLimits}
 use Rattle.loader.specs.CatalogueView.{CatalogueView}
 use Rattle.loader.specs.StoreState.{StoreState}
 use Rattle.loader.specs.Refusal.{line_of, number_of}
 use Rattle.loader.specs.declared.installed.InstallRefusal.{InstallRefusal}
 use Rattle.loader.specs.declared.installed.InstallRefusal.TheVariants as installs
-use Rattle.loader.specs.declared.installed.TheConstants.{MAX_PLACES}
+use Rattle.loader.specs.declared.installed.TheConstants.{MOST_SPARE}
 use Rattle.loader.specs.declared.refusals.LoadError.TheVariants as errors
 use Rattle.dumps.specs.Loading.{loaded_state}
 use Rattle.dumps.specs.Refusal.{LoadFails, line_of as dump_line, number_of as dump_number}
@@ -20,21 +21,22 @@ use Rattle.host_calls.specs.declared.handles.Opening.{Opening as Asked}
 use Rattle.host_calls.specs.declared.handles.StateAnswered.{StateAnswered}
 use Rattle.host_calls.specs.declared.handles.StateHandle.{StateHandle}
 use Rattle.host_calls.specs.declared.loading.NotLoaded.{NotLoaded}
-use Rattle.host_calls.specs.declared.loading.NotLoaded.TheVariants.{NoText, Manifest, TooManyPlaces, Text}
+use Rattle.host_calls.specs.declared.loading.NotLoaded.TheVariants.{BadLimits, NoText, Manifest, TooManyPlaces, Text}
 use Rattle.host_calls.specs.Leaving.{only_state}
 use Rattle.host_calls.specs.Openings.{AreTexts, Says, inner_in, reading_of}
 use Rattle.host_calls.specs.Statuses.{done, letter_C, letter_D, letter_E, letter_V, no_text, out_of_limits, refusal}
 
 -- the state that this text says, for stores of the catalogue that the manifest says, with so many places
 abbrev pub IsStateOf : Asked → List ℕ → StoreState → Type 0
-IsStateOf o text s = (c : CatalogueView) × Says o c × (o.spare ≤ MAX_PLACES) × (loaded_state c.shapes o.spare text ≡ Ok s)
+IsStateOf o text s = (c : CatalogueView) × Says o c × (o.spare ≤ MOST_SPARE) × (loaded_state c.shapes o.spare text ≡ Ok s)
 
 -- why there is none
 abbrev pub IsLoadReason : Asked → List ℕ → NotLoaded → Type 0
+IsLoadReason o text BadLimits = (AreLimits o.limits → ⊥)
 IsLoadReason o text NoText = (AreTexts o × IsUtf8 text → ⊥)
 IsLoadReason o text (Manifest errors.NoMemory) = Unit {0}
 IsLoadReason o text (Manifest (errors.Refused bad)) = AreTexts o × (reading_of o ≡ Err bad)
-IsLoadReason o text TooManyPlaces = AreTexts o × (MAX_PLACES < o.spare)
+IsLoadReason o text TooManyPlaces = AreTexts o × (MOST_SPARE < o.spare)
 IsLoadReason o text (Text why) = (c : CatalogueView) × Says o c × LoadFails why (loaded_state c.shapes o.spare text)
 
 -- why a program of the text is refused, and at which slot
@@ -52,6 +54,7 @@ text_inner (dumps.Refused bad) = fault_inner bad.why
 
 -- the words that say it
 abbrev pub load_words : NotLoaded → StateAnswered
+load_words BadLimits = only_state out_of_limits
 load_words NoText = only_state no_text
 load_words (Manifest why) = record { status = refusal letter_C (number_of why); line = line_of why; inner = (inner_in why).0; slot = (inner_in why).1 }
 load_words TooManyPlaces = only_state out_of_limits

@@ -38,7 +38,7 @@ use Rattle.host_calls.specs.Views.{AttachedView, IsSame}
 -- a look that isn't refused: a place was held, and what the call is to fill stays as it was; or P is what is known of what was seen
 abbrev pub TellsSight : (kept : Type 0) → (Looked → Type 0) → Looked → Type 0
 TellsSight kept P Busy = kept
-TellsSight kept P (Seen place count next) = P (Seen place count next)
+TellsSight kept P (Seen point count next) = P (Seen point count next)
 TellsSight kept P told = ⊥
 
 -- what is refused changes nothing
@@ -122,7 +122,7 @@ pub record HasCaughtUp (old new : SessionView) (point : ℕ) : Type 0 where
   pub before : List (ShelfStep Value)
   pub last : new.steps ≡ Put (replica_place old.progress.config node) value ∷ before
 
--- they were answered, so many, at such a point; and the node has caught up with it, also if none is asked
+-- the questions were answered at one point; and the node has caught up with it, also if none is asked
 pub record TellsReplies (questions : List Question) (replies : List ℕ) (old new : SessionView) (told : Looked) : Type 0 where
   pub point : ℕ
   pub seen : told ≡ Seen point (length questions) AT_END
@@ -163,7 +163,7 @@ TellsSnapped state left old new told = MatchOption old.session.note.pending (Tel
 
 abbrev pub look_status : Looked → ℕ
 look_status Busy = busy
-look_status (Seen place count next) = done
+look_status (Seen point count next) = done
 look_status (Refused status number) = status
 look_status NotOpen = not_open
 look_status IsOut = is_out
@@ -176,7 +176,7 @@ look_number told = 0
 
 -- what was seen; where nothing was, the words that stood there
 abbrev pub with_sight : Answered → Looked → Answered
-with_sight before (Seen place count next) = record before { place = place; count = count; next = next }
+with_sight before (Seen point count next) = record before { point = point; count = count; next = next }
 with_sight before told = before
 
 abbrev pub noted : Answered → Looked → Answered

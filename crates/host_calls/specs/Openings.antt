@@ -8,7 +8,8 @@ use Rattle.insn.specs.Refusal.{fault_number as decode_number}
 use Rattle.verifier.specs.Numbers.{fault_number as verify_number}
 use Rattle.loader.specs.CatalogueView.{CatalogueView, MayOpenOn, opened_on, with_places}
 use Rattle.loader.specs.StoreState.{StoreState}
-use Rattle.loader.specs.Loading.{loaded}
+use Rattle.maps.specs.Shapes.{AreLimits}
+use Rattle.loader.specs.Loading.{loaded_within}
 use Rattle.loader.specs.ProgramFiles.{Files}
 use Rattle.loader.specs.Refusal.{line_of, number_of}
 use Rattle.loader.specs.declared.refusals.LoadError.{LoadError}
@@ -30,9 +31,9 @@ use Rattle.host_calls.specs.declared.handles.Opening.{Opening as Asked}
 use Rattle.host_calls.specs.declared.handles.StoreAnswered.{StoreAnswered}
 use Rattle.host_calls.specs.declared.handles.StoreHandle.{StoreHandle}
 use Rattle.host_calls.specs.declared.opening.NotOpened.{NotOpened}
-use Rattle.host_calls.specs.declared.opening.NotOpened.TheVariants.{NoText, Loading, Opening}
+use Rattle.host_calls.specs.declared.opening.NotOpened.TheVariants.{BadLimits, NoText, Loading, Opening}
 use Rattle.host_calls.specs.declared.pool.Pool.{Pool}
-use Rattle.host_calls.specs.Statuses.{done, letter_C, letter_D, letter_O, letter_V, no_text, refusal}
+use Rattle.host_calls.specs.Statuses.{done, letter_C, letter_D, letter_O, letter_V, no_text, out_of_limits, refusal}
 use Rattle.host_calls.specs.Views.{AttachedView}
 
 -- ---- what is asked
@@ -50,7 +51,7 @@ texts_of files = map (λ f. (f.name.now, f.text.now)) files
 
 -- what the manifest says
 abbrev pub reading_of : Asked → Result CatalogueView LoadRefusal
-reading_of o = loaded o.manifest.now (texts_of o.files.now)
+reading_of o = loaded_within o.limits o.manifest.now (texts_of o.files.now)
 
 -- the files' names and texts are UTF-8
 abbrev pub AreUtf8 : List File → Type 0
@@ -108,6 +109,7 @@ abbrev pub IsOther : CatalogueView → Option StoreState → Type 0
 IsOther c on = MatchOption on ⊥ (λ s. MayOpenOn c s → ⊥)
 
 abbrev pub IsReason : Asked → Option StoreState → NotOpened → Type 0
+IsReason o on BadLimits = (AreLimits o.limits → ⊥)
 IsReason o on NoText = (AreTexts o → ⊥)
 IsReason o on (Loading errors.NoMemory) = Unit {0}
 IsReason o on (Loading (errors.Refused bad)) = AreTexts o × (reading_of o ≡ Err bad)
@@ -115,8 +117,9 @@ IsReason o on (Opening OutOfLimits) = AreTexts o × (AreSizes (sizes_asked o) �
 IsReason o on (Opening NoMemory) = Unit {0}
 IsReason o on (Opening OtherState) = AreSizes (sizes_asked o) × ((c : CatalogueView) × Says o c × IsOther (with_places c o.spare) on)
 
--- it says something of the texts, and not of the sizes or the state
+-- it says something of the limits of maps or the texts, and not of the sizes or the state
 abbrev pub IsOfTexts : NotOpened → Type 0
+IsOfTexts BadLimits = Unit {0}
 IsOfTexts NoText = Unit {0}
 IsOfTexts (Loading why) = Unit {0}
 IsOfTexts (Opening why) = ⊥
@@ -131,13 +134,14 @@ only status = record { status = status; line = 0; inner = 0; slot = 0; number = 
 
 -- the words that say it
 abbrev pub words_of : NotOpened → StoreAnswered
+words_of BadLimits = only out_of_limits
 words_of NoText = only no_text
 words_of (Opening why) = only (refusal letter_O (open_fault_number why))
 words_of (Loading why) = record { status = refusal letter_C (number_of why); line = line_of why; inner = (inner_in why).0; slot = (inner_in why).1; number = 0 }
 
 -- ---- the handle
 
--- it is closed, and says why; or it is open, with a store as it was asked for, on this state, or on a new one where there is none
+-- the handle is closed, and says why; or it is open, with a store as it was asked for, on this state, or on a new one where there is none
 abbrev pub IsOpened : Asked → Option StoreState → StoreHandle → Type 0
 IsOpened o on after =
     MatchOption after.own ((why : NotOpened) × IsReason o on why × (after.answered ≡ words_of why)) (λ b. IsPoolOf o on b.value × (after.answered ≡ only done))

@@ -28,7 +28,7 @@ IsOfNode p node k = (k < length p.places.items) × (0 < p.slots) × (k / p.slots
 abbrev pub NoneIsFree : Pool → ℕ → Type 0
 NoneIsFree p node = (k : ℕ) → IsOfNode p node k → seated p k ≡ None
 
--- the same store, and as many sessions a node
+-- the pool has the same store, and as many sessions a node
 abbrev pub IsKept : (p q : Pool) → Type 0
 IsKept p q = (q.store ≡ p.store) × (q.slots ≡ p.slots)
 

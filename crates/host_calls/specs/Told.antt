@@ -22,7 +22,7 @@ pub record HasGrown (old new : SessionView) : Type 0 where
 -- the reply there; or that history has its last record, and none of the request
 abbrev pub TellsOut : (old new : SessionView) → Pending → Told → Type 0
 TellsOut old new o Again = (new.note.pending ≡ Some o) × (new.note.answered ≡ old.note.answered)
-TellsOut old new o (Answered place reply) = TellsDone old new o (Placed place reply)
+TellsOut old new o (Answered point reply) = TellsDone old new o (Placed point reply)
 TellsOut old new o (Refused why) = (why ≡ TheEnd) × TellsDone old new o Ended
 TellsOut old new o Busy = ⊥
 TellsOut old new o NotOpen = ⊥

@@ -4,7 +4,7 @@ ghost use Rattle.std.specs.Prelude.{◌≡◌, ◌≤◌, None, Some, true, fals
 ghost use Rattle.std.specs.Arc.{arc_value};
 ghost use Rattle.accounts.specs.declared.sessions.Pending.{Pending};
 ghost use Rattle.store.specs.Sessions.{IsOf};
-ghost use Rattle.host_calls.specs.Calls.{TellsCall, asks_install, asks_read, asks_update};
+ghost use Rattle.host_calls.specs.Calls.{TellsCall, asks_install, asks_read, asks_update, asks_within};
 ghost use Rattle.host_calls.specs.Looks.{TellsAnswers, TellsGot, TellsMany, TellsScanned, TellsSnapped, look_each, next_word, questions_of};
 ghost use Rattle.host_calls.specs.Told.{HasGrown, TellsOut};
 ghost use Rattle.host_calls.specs.Views.{IsSame};
@@ -15,15 +15,15 @@ use std::alloc::Global;
 use std::marker::Model;
 use std::sync::Arc;
 use store::{
-    Beginning, MapKey, Mode, Polled, Question, QuestionRefused, Session, Store, StoreRefused,
-    StoreState,
+    Beginning, Confined, MapKey, Mode, Polled, Question, QuestionRefused, Session, Store,
+    StoreRefused, StoreState,
 };
 
 /// A session and the store that it is of.
 #[derive(Drop)]
 pub struct Attached {
     store: Arc<Store, Global>,
-    // Where it stands in the pool of its store.
+    // The session's place in the pool of its store.
     place: usize,
     session: Polled,
 }
@@ -50,8 +50,8 @@ pub enum Told {
     Busy,
     /// An update is posted, and not answered.
     Again,
-    /// A place or a point, and the reply there.
-    Answered { place: u64, reply: u64 },
+    //// A point, and the reply there.
+    Answered { point: u64, reply: u64 },
     /// The store refuses the call.
     Refused(StoreRefused),
     /// H2: the handle is not open.
@@ -68,7 +68,7 @@ pub enum Looked {
     /// Another session held a place, and nothing has changed.
     Busy,
     /// How many operations were seen, how many entries were given, and where to go on.
-    Seen { place: u64, count: u64, next: u64 },
+    Seen { point: u64, count: u64, next: u64 },
     /// The call is refused, with this status, of several reads for the one of this number.
     Refused { status: u64, number: u64 },
     /// H2: a handle is not open.
@@ -100,7 +100,7 @@ fn look_each(tried: Result<Option<u64>, QuestionRefused>, count: u64) -> Looked
         },
         Ok(None) => Looked::Busy,
         Ok(Some(point)) => Looked::Seen {
-            place: point,
+            point,
             count,
             next: AT_END,
         },
@@ -165,7 +165,7 @@ impl Attached {
         session.into_session()
     }
 
-    /// Where it stands in its pool.
+    /// The session's place in the pool.
     pub fn place(&self) -> usize
         ensures place { result ≡ self.now.place }
     {
@@ -191,7 +191,7 @@ impl Attached {
             None => Told::Again,
             Some(Err(why)) => Told::Refused(why),
             Some(Ok(answer)) => Told::Answered {
-                place: answer.index,
+                point: answer.index,
                 reply: answer.reply,
             },
         }
@@ -206,7 +206,7 @@ impl Attached {
             return self.go_on();
         }
         let Attached { store, session, .. } = &mut *self;
-        match session.try_post(store, program, argument) {
+        match session.try_update(store, program, argument) {
             Err(why) => Told::Refused(why),
             Ok(None) => Told::Busy,
             Ok(Some(())) => self.go_on(),
@@ -229,6 +229,28 @@ impl Attached {
         }
     }
 
+    /// Posts an install of a program that may name these maps alone, or goes on with the update that is out.
+    pub fn install_within(&mut self, maps: u16, mode: Mode, argument: u64, bytes: &[u8]) -> Told
+        ensures same { IsSame self.old self.new }
+        ensures tells { TellsCall (asks_within self.old.store maps mode argument bytes.now) self.old.session self.new.session result }
+    {
+        if self.is_waiting() {
+            return self.go_on();
+        }
+        let program = Confined {
+            maps,
+            mode,
+            arg_len: argument as usize,
+            bytes,
+        };
+        let Attached { store, session, .. } = &mut *self;
+        match session.try_install_within(store, program) {
+            Err(why) => Told::Refused(why),
+            Ok(None) => Told::Busy,
+            Ok(Some(())) => self.go_on(),
+        }
+    }
+
     /// Reads, where no update is out.
     pub fn read(&mut self, program: u16, argument: &[u8]) -> Told
         ensures same { IsSame self.old self.new }
@@ -242,7 +264,7 @@ impl Attached {
             Err(why) => Told::Refused(why),
             Ok(None) => Told::Busy,
             Ok(Some(answer)) => Told::Answered {
-                place: answer.point,
+                point: answer.point,
                 reply: answer.reply,
             },
         }
@@ -264,7 +286,7 @@ impl Attached {
             },
             Ok(None) => Looked::Busy,
             Ok(Some(found)) => Looked::Seen {
-                place: found.point,
+                point: found.point,
                 count: if found.found { 1 } else { 0 },
                 next: AT_END,
             },
@@ -287,7 +309,7 @@ impl Attached {
             },
             Ok(None) => Looked::Busy,
             Ok(Some(scan)) => Looked::Seen {
-                place: scan.point,
+                point: scan.point,
                 count: scan.count as u64,
                 next: next_word(scan.next),
             },
@@ -339,7 +361,7 @@ impl Attached {
         match session.try_snapshot(store, into) {
             None => Looked::Busy,
             Some(point) => Looked::Seen {
-                place: point,
+                point,
                 count: 0,
                 next: AT_END,
             },

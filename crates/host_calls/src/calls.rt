@@ -1,7 +1,8 @@
 // The words of a session's handle: which call they ask for, and what is answered there.
 
 ghost use Rattle.std.specs.Prelude.{◌≡◌};
-ghost use Rattle.host_calls.specs.Calls.{Goes, TellsAttached, inner_of, status_of, written};
+ghost use Rattle.host_calls.specs.Calls.{Goes, TellsAttached, TellsCall, asks_confined, inner_of, status_of, written};
+ghost use Rattle.host_calls.specs.Views.{IsSame};
 
 use crate::attached::{Attached, Told};
 use crate::handles::{Answered, Asked, CALL_ROOM, SessionHandle};
@@ -16,6 +17,9 @@ const READ: u64 = 1;
 
 // An install.
 const INSTALL: u64 = 2;
+
+// An install of a program that may name some maps alone: the word `program` has them.
+const INSTALL_WITHIN: u64 = 3;
 
 // A program that updates, as the word `mode` has it.
 const UPDATES: u64 = 0;
@@ -53,6 +57,18 @@ fn inner_of(told: Told) -> (u64, u64)
     }
 }
 
+// Installs the program of these bytes, which may name the maps in the words alone.
+fn tell_within(attached: &mut Attached, asked: &Asked, bytes: &[u8]) -> Told
+    ensures same { IsSame attached.old attached.new }
+    ensures tells { TellsCall (asks_confined attached.old.store asked.now bytes.now) attached.old.session attached.new.session result }
+{
+    match asked.mode {
+        UPDATES => attached.install_within(asked.program, Mode::Update, asked.argument, bytes),
+        READS => attached.install_within(asked.program, Mode::Read, asked.argument, bytes),
+        _ => Told::NoWord,
+    }
+}
+
 // Makes the call that the words ask for.
 fn tell(attached: &mut Attached, asked: &Asked) -> Told
     ensures tells { TellsAttached asked.now attached.old attached.new result }
@@ -69,11 +85,12 @@ fn tell(attached: &mut Attached, asked: &Asked) -> Told
             READS => attached.install(Mode::Read, asked.argument, bytes),
             _ => Told::NoWord,
         },
+        INSTALL_WITHIN => tell_within(attached, asked, bytes),
         _ => Told::NoWord,
     }
 }
 
-// Writes what is told. Without an answer its place and its reply stay what they were.
+// Writes what is told. Without an answer its point and its reply stay what they were.
 fn write(answered: &mut Answered, told: Told)
     ensures written { answered.new ≡ written answered.old told }
 {
@@ -81,8 +98,8 @@ fn write(answered: &mut Answered, told: Told)
     answered.status = status_of(told);
     answered.inner = inner;
     answered.slot = slot;
-    if let Told::Answered { place, reply } = told {
-        answered.place = place;
+    if let Told::Answered { point, reply } = told {
+        answered.point = point;
         answered.reply = reply;
     }
 }

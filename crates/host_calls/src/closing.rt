@@ -4,7 +4,7 @@ ghost use Rattle.std.specs.Prelude.{◌≡◌, [], ◌++◌, ◌<◌, ◌≤◌,
 ghost use Rattle.std.specs.List.{list_all};
 ghost use Rattle.std.specs.Arc.{arc_value};
 ghost use Rattle.store.specs.Sessions.{IsOf, StoreView};
-ghost use Rattle.host_calls.specs.Leaving.{IsLastOf, Leaves, session_at, sessions_back};
+ghost use Rattle.host_calls.specs.Leaving.{IsLastOf, Leaves, sessions_at, sessions_back};
 ghost use Rattle.host_calls.specs.Seating.{IsIdleSeat, IsSeatOf};
 
 use crate::attached::Attached;
@@ -20,7 +20,7 @@ use store::{Session, StoreState};
 fn push_session(place: Option<Box<Attached>>, sessions: &mut Vec<Session>)
     requires idle { IsIdleSeat place }
     requires room { length sessions.old.items < vec_capacity sessions.old }
-    ensures pushed { sessions.new.items ≡ sessions.old.items ++ session_at place }
+    ensures pushed { sessions.new.items ≡ sessions.old.items ++ sessions_at place }
     ensures capacity { vec_capacity sessions.new ≡ vec_capacity sessions.old }
     ensures own { (store : StoreView) → IsSeatOf store place → All (IsOf store) sessions.old.items → All (IsOf store) sessions.new.items }
 {

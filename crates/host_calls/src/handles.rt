@@ -4,7 +4,7 @@ ghost use Rattle.std.specs.Prelude.{◌≡◌};
 
 use crate::attached::Attached;
 use crate::pool::Pool;
-use store::StoreState;
+use store::{MapLimits, StoreState};
 
 /// How many bytes the name of a program may have.
 pub const NAME_ROOM: usize = 32;
@@ -44,6 +44,8 @@ pub struct Opening<'a> {
     pub limit: u32,
     /// Programs that may be installed.
     pub spare: u32,
+    /// How large the maps of the manifest may be.
+    pub limits: MapLimits,
 }
 
 /// What the host asks of a store, in words.
@@ -81,7 +83,7 @@ pub struct StoreHandle {
     pub own: Option<Box<Pool>>,
     /// What the host asks.
     pub asked: StoreAsked,
-    /// What it is answered.
+    /// What the host is answered.
     pub answered: StoreAnswered,
 }
 
@@ -89,9 +91,9 @@ pub struct StoreHandle {
 #[repr(C)]
 #[derive(Clone, Copy)]
 pub struct Asked {
-    /// 0 an update, 1 a read, 2 an install.
+    /// 0 an update, 1 a read, 2 an install, 3 an install of a program that may name some maps alone.
     pub call: u64,
-    /// An update or a read: the program's number.
+    /// An update or a read: the program's number. 3: the maps, bit m for map m.
     pub program: u16,
     /// An install: 0 for a program that updates, 1 for one that reads.
     pub mode: u64,
@@ -114,7 +116,7 @@ pub struct Answered {
     /// The slot of the program that is to blame.
     pub slot: u64,
     /// An update's index in the history, or how many operations a read has seen.
-    pub place: u64,
+    pub point: u64,
     /// What the program replied there.
     pub reply: u64,
     /// A scan, or a get: how many entries it gave. Several reads: how many were answered.
@@ -130,7 +132,7 @@ pub struct SessionHandle {
     pub own: Option<Box<Attached>>,
     /// What the host asks.
     pub asked: Asked,
-    /// What it is answered.
+    /// What the host is answered.
     pub answered: Answered,
 }
 
@@ -217,7 +219,7 @@ impl StoreHandle {
 }
 
 impl StoreAnswered {
-    /// This status, and nothing else.
+    /// An answer with this status, and nothing else.
     pub fn of(status: u64) -> StoreAnswered
         ensures { result ≡ record { status = status; line = 0; inner = 0; slot = 0; number = 0 } }
     {
@@ -232,7 +234,7 @@ impl StoreAnswered {
 }
 
 impl StateAnswered {
-    /// This status, and nothing else.
+    /// An answer with this status, and nothing else.
     pub fn of(status: u64) -> StateAnswered
         ensures { result ≡ record { status = status; line = 0; inner = 0; slot = 0 } }
     {
@@ -284,7 +286,7 @@ impl SessionHandle {
             status,
             inner: 0,
             slot: 0,
-            place: 0,
+            point: 0,
             reply: 0,
             count: 0,
             next: 0,

@@ -7,18 +7,20 @@ use crate::handles::{Opening, StateAnswered, StateHandle};
 use crate::opening::{NotOpened, inner_of, loaded};
 use crate::statuses::{DONE, NO_TEXT, OUT_OF_LIMITS, refusal};
 use dumps::{DumpError, DumpFault, load};
-use loader::{InstallRefusal, LoadError, MAX_PLACES};
+use loader::{InstallRefusal, LoadError, MOST_SPARE};
 use std::alloc::Global;
 use store::StoreState;
 
 /// Why a text is not loaded as a state.
 #[derive(Clone, Copy)]
 pub enum NotLoaded {
+    // The limits of maps are wider than the widest, or too narrow for an array's index.
+    BadLimits,
     // A text is not UTF-8.
     NoText,
     // The manifest is refused.
     Manifest(LoadError),
-    // There may not be so many places.
+    // The opening asks for too many places.
     TooManyPlaces,
     // The text is refused.
     Text(DumpError),
@@ -33,12 +35,13 @@ fn state_of(alloc: Global, opening: &Opening, text: &[u8]) -> Result<StoreState,
     };
     let catalogue = match loaded(alloc, opening) {
         Ok(catalogue) => catalogue,
+        Err(NotOpened::BadLimits) => return Err(NotLoaded::BadLimits),
         Err(NotOpened::NoText) => return Err(NotLoaded::NoText),
         Err(NotOpened::Loading(error)) => return Err(NotLoaded::Manifest(error)),
         Err(NotOpened::Opening(_)) => unreachable!(),
     };
     let places = opening.spare as usize;
-    if places > MAX_PLACES {
+    if places > MOST_SPARE {
         return Err(NotLoaded::TooManyPlaces);
     }
     match load(alloc, catalogue.shapes(), places, text) {
@@ -62,7 +65,7 @@ fn fault_inner(why: DumpFault) -> (u64, u64)
     }
 }
 
-// The same of a text.
+// `fault_inner`, but of the text's error.
 fn text_inner(error: DumpError) -> (u64, u64)
     ensures inner { result ≡ text_inner error }
 {
@@ -77,6 +80,7 @@ fn answered(why: NotLoaded) -> StateAnswered
     ensures words { result ≡ load_words why }
 {
     match why {
+        NotLoaded::BadLimits => StateAnswered::of(OUT_OF_LIMITS),
         NotLoaded::NoText => StateAnswered::of(NO_TEXT),
         NotLoaded::TooManyPlaces => StateAnswered::of(OUT_OF_LIMITS),
         NotLoaded::Manifest(error) => {

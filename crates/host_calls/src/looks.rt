@@ -32,15 +32,15 @@ fn number_of(told: Looked) -> u64
     }
 }
 
-// Writes what is told. Where nothing was seen, its place, its count and where to go on stay what they were.
+// Writes what is told. Where nothing was seen, its point, its count and where to go on stay what they were.
 fn note(answered: &mut Answered, told: Looked)
     ensures noted { answered.new ≡ noted answered.old told }
 {
     answered.status = status_of(told);
     answered.inner = 0;
     answered.slot = number_of(told);
-    if let Looked::Seen { place, count, next } = told {
-        answered.place = place;
+    if let Looked::Seen { point, count, next } = told {
+        answered.point = point;
         answered.count = count;
         answered.next = next;
     }

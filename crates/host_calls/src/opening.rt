@@ -16,17 +16,19 @@ ghost use Rattle.host_calls.specs.Openings.{AreUtf8, IsOfTexts, IsOpened, IsOthe
 use crate::attached::Attached;
 use crate::handles::{File, Opening, StateHandle, StoreAnswered, StoreHandle};
 use crate::pool::Pool;
-use crate::statuses::{DONE, NO_TEXT, refusal};
+use crate::statuses::{DONE, NO_TEXT, OUT_OF_LIMITS, refusal};
 use loader::{LoadError, LoadFault};
 use std::alloc::{AllocError, Global};
 use std::sync::Arc;
 use store::{
-    Catalogue, ENDLESS, OpenError, Polled, Session, Sizes, Store, StoreState, load_manifest,
+    Catalogue, ENDLESS, OpenError, Polled, Session, Sizes, Store, StoreState, load_manifest_within,
 };
 
 /// Why a store is not opened.
 #[derive(Clone, Copy)]
 pub enum NotOpened {
+    // The limits of maps are wider than the widest, or too narrow for an array's index.
+    BadLimits,
     // A text is not UTF-8.
     NoText,
     // The manifest is refused.
@@ -73,6 +75,9 @@ pub(crate) fn loaded(alloc: Global, opening: &Opening) -> Result<Catalogue, NotO
     ensures texts { IfErr result IsOfTexts }
     ensures loaded { MatchResult result (Says opening.now) (λ why. (on : Option State) → IsReason opening.now on why) }
 {
+    if !opening.limits.is_within_limits() {
+        return Err(NotOpened::BadLimits);
+    }
     let Ok(manifest) = str::from_utf8(opening.manifest) else {
         return Err(NotOpened::NoText);
     };
@@ -81,7 +86,7 @@ pub(crate) fn loaded(alloc: Global, opening: &Opening) -> Result<Catalogue, NotO
         Ok(None) => return Err(NotOpened::NoText),
         Err(_) => return Err(NotOpened::Loading(LoadError::NoMemory)),
     };
-    match load_manifest(alloc, manifest, texts.as_slice()) {
+    match load_manifest_within(alloc, &opening.limits, manifest, texts.as_slice()) {
         Ok(catalogue) => Ok(catalogue),
         Err(error) => Err(NotOpened::Loading(error)),
     }
@@ -151,7 +156,7 @@ pub fn let_go(mut sessions: Vec<Session>) {
     sessions.destroy_empty();
 }
 
-// So many places with nothing there.
+// Makes `count` empty places.
 fn empty_places(alloc: Global, count: usize) -> Result<Vec<Option<Box<Attached>>>, AllocError>
     ensures count { IfOk result (λ v. length v.items ≡ count) }
 {
@@ -227,6 +232,7 @@ fn answered(why: NotOpened) -> StoreAnswered
     ensures words { result ≡ words_of why }
 {
     match why {
+        NotOpened::BadLimits => StoreAnswered::of(OUT_OF_LIMITS),
         NotOpened::NoText => StoreAnswered::of(NO_TEXT),
         NotOpened::Opening(error) => StoreAnswered::of(refusal(b'O', error.number())),
         NotOpened::Loading(error) => {
@@ -261,7 +267,7 @@ pub fn opened(alloc: Global, opening: &Opening) -> StoreHandle
     opened_with(alloc, opening, None)
 }
 
-/// The same, on the state of a handle, or on a new one where that has none.
+/// `opened`, but on the state of a handle, or on a new one if the handle has none.
 pub fn opened_on(alloc: Global, opening: &Opening, state: &mut StateHandle) -> StoreHandle
     ensures opened { (state.new ≡ state.old) × IsOpened opening.now state.old.own result }
 {

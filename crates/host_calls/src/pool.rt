@@ -23,7 +23,7 @@ pub struct Seats {
     pub(crate) places: Vec<Option<Box<Attached>>>,
 }
 
-/// The same, where at these places none but the store's own sessions stand, for which nothing is out.
+/// Seats at which only sessions of the store itself are, with no update out.
 #[derive(Drop)]
 pub struct Pool {
     seats: Seats,

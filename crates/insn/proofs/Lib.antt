@@ -9,3 +9,4 @@ pub mod Laws
 pub mod Answered
 pub mod OneForOne
 pub mod Places
+pub mod Export

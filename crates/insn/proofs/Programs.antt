@@ -100,7 +100,7 @@ refuses_fault all e fault =
 
 -- ---- what an answer says
 
--- the same as `FaultAt`, counted from a slot on
+-- `FaultAt`, but counted from a slot on
 pub record FaultFrom (all : List Fields) (at : ℕ) (e : DecodeRefusal) : Type 0 where
   pub before : List Form
   pub each : AllByRecursion HasEncoding before

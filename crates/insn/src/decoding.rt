@@ -29,7 +29,7 @@ pub enum DecodeFault {
     /// The opcode is that of no instruction (RFC 9669, sections 4 and 5).
     #[error("D4: the opcode is unknown")]
     UnknownOpcode,
-    /// There are the registers 0 to 10 (RFC 9669, section 3.1); a field that is not in use is held to it too.
+    /// A register number is not one of 0 to 10 (RFC 9669, section 3.1), also in a field that is not in use.
     #[error("D5: a register number is above 10")]
     RegisterAbove10,
     /// A field in use has a value without a meaning (RFC 9669, sections 4 and 5).
@@ -130,7 +130,7 @@ pub fn decode(alloc: Global, bytes: &[u8]) -> Result<Vec<Insn>, DecodeError>
     ensures only { (p : List Form) → Decodes bytes.now p → IsOnly result p }
     // A refusal is the first one, unless memory ran out.
     ensures first { IfErr result (IsFirst bytes.now) }
-    // The same, by the function that callers cite.
+    // `decode` answers what the function `decoded` gives, which callers cite.
     ensures reading { MatchResult result
         (λ v. decoded bytes.now ≡ Ok v.items)
         (λ e. DecodeFails e (decoded bytes.now)) }

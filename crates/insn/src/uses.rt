@@ -9,7 +9,7 @@ use crate::instruction::Fields;
 use opcodes::{Use, Uses, uses_of};
 
 // Whether a field that is in use has none of its values.
-fn leaves_undefined(uses: Uses, fields: Fields) -> bool
+fn has_undefined_field(uses: Uses, fields: Fields) -> bool
     ensures { result ≡ some_field is_undefined (Some uses) fields }
 {
     is_undefined(uses.dst, i32::from(fields.dst))
@@ -19,7 +19,7 @@ fn leaves_undefined(uses: Uses, fields: Fields) -> bool
 }
 
 // Whether a field that is not in use is not zero.
-fn leaves_unused_set(uses: Uses, fields: Fields) -> bool
+fn has_unused_field_set(uses: Uses, fields: Fields) -> bool
     ensures { result ≡ some_field is_set_though_unused (Some uses) fields }
 {
     is_set_though_unused(uses.dst, i32::from(fields.dst))
@@ -57,8 +57,8 @@ pub(crate) fn fault_of(fields: Fields) -> Option<DecodeFault>
     match uses_of(fields.opcode) {
         None => Some(DecodeFault::UnknownOpcode),
         Some(_) if fields.dst > 10 || fields.src > 10 => Some(DecodeFault::RegisterAbove10),
-        Some(uses) if leaves_undefined(uses, fields) => Some(DecodeFault::UndefinedValue),
-        Some(uses) if leaves_unused_set(uses, fields) => Some(DecodeFault::UnusedFieldSet),
+        Some(uses) if has_undefined_field(uses, fields) => Some(DecodeFault::UndefinedValue),
+        Some(uses) if has_unused_field_set(uses, fields) => Some(DecodeFault::UnusedFieldSet),
         Some(_) => None,
     }
 }

@@ -9,3 +9,4 @@ pub mod Dropped
 pub mod Empty
 pub mod Listed
 pub mod Callers
+pub mod Export

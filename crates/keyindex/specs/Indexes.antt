@@ -1,6 +1,6 @@
 -- Keys in a flat block, linked as walks find them.
 use Rattle.std.specs.Prelude.{◌≡◌, ℕ, zero, suc, ◌+◌, ◌*◌, ◌<◌, ◌≤◌, List, [], ◌∷◌, slice_index, take, drop, length, Option, Some, None}
-use Rattle.keyindex.specs.declared.index.TheConstants.{MAX_KEY_SIZE, MAX_PLACES, MAX_BUCKETS}
+use Rattle.keyindex.specs.declared.index.TheConstants.{MAX_KEY_SIZE, MAX_INDEX_PLACES, MAX_BUCKETS}
 use Rattle.keyindex.specs.Walks.{IsLinked}
 
 -- the number at a place of a list
@@ -33,7 +33,7 @@ pub record HasRoom (size buckets : ℕ) (links depths keys free : List ℕ) : Ty
   pub buckets_low : 0 < buckets
   pub buckets_high : buckets ≤ MAX_BUCKETS
   pub nodes_low : 0 < length depths
-  pub nodes_high : length depths ≤ MAX_PLACES + 1
+  pub nodes_high : length depths ≤ MAX_INDEX_PLACES + 1
   pub links_len : length links ≡ buckets + 2 * length depths
   pub keys_len : length keys ≡ length depths * size
   pub free_len : length free + 1 ≡ length depths

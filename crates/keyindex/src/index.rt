@@ -9,19 +9,19 @@ use crate::block::{is_key, move_in, write_at};
 use std::alloc::{AllocError, Global};
 
 /// The most bytes of a key.
-pub const MAX_KEY_SIZE: usize = 64;
+pub const MAX_KEY_SIZE: usize = 512;
 
 /// The most places of an index.
-pub const MAX_PLACES: usize = 65_536;
+pub const MAX_INDEX_PLACES: usize = 2_147_483_648;
 
 /// The most buckets of an index.
-pub const MAX_BUCKETS: usize = 131_072;
+pub const MAX_BUCKETS: usize = 4_294_967_296;
 
 /// The limits that the definitions cite, as numbers.
 pub fn limits()
-    ensures bytes_of_a_key { MAX_KEY_SIZE ≡ 64 }
-    ensures places_of_an_index { MAX_PLACES ≡ 65536 }
-    ensures buckets_of_an_index { MAX_BUCKETS ≡ 131072 }
+    ensures bytes_of_a_key { MAX_KEY_SIZE ≡ 512 }
+    ensures places_of_an_index { MAX_INDEX_PLACES ≡ 2147483648 }
+    ensures buckets_of_an_index { MAX_BUCKETS ≡ 4294967296 }
 {}
 
 /// Keys of one size, each at a place. All room is taken by [`KeyIndex::open`]. A place keeps its key until the next
@@ -83,7 +83,7 @@ impl KeyIndex {
     ) -> Result<KeyIndex, AllocError>
         requires size_low { 0 < size }
         requires size_high { size ≤ MAX_KEY_SIZE }
-        requires entries { entries ≤ MAX_PLACES }
+        requires entries { entries ≤ MAX_INDEX_PLACES }
         requires buckets_low { 0 < buckets }
         requires buckets_high { buckets ≤ MAX_BUCKETS }
         ensures sizes { IfOk result (λ s. HasSizes s size entries buckets) }

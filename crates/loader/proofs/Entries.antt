@@ -2,15 +2,14 @@
 use Rattle.std.proofs.Common.{◌≡◌, ◌≤◌, ℕ, List, [], ◌∷◌, map, Option, Some, None, Result, Ok, Err, refl, sym, ap, ap₂, subst, ◌∙◌}
 use Rattle.std.specs.List.{AllZip}
 use Rattle.text.specs.Digits.{spaced_bytes}
-use Rattle.text.proofs.SpacedBytes.{spaced_are_bytes}
+use Rattle.text.proofs.Export.{spaced_are_bytes}
 use Rattle.insn.specs.declared.instruction.Form.{Form}
 use Rattle.insn.specs.declared.decoding.DecodeRefusal.{DecodeRefusal}
 use Rattle.insn.specs.Decoded.{decoded}
 use Rattle.insn.specs.Refusal.{AreBytes, Decodes}
-use Rattle.insn.proofs.Slots.{are_bytes as as_bytes}
-use Rattle.insn.proofs.Laws.{read_is_spelled, spelled_is_read}
+use Rattle.insn.proofs.Export.{are_bytes as as_bytes, read_is_spelled, spelled_is_read}
 use Rattle.maps.specs.declared.shapes.Shape.{Shape}
-use Rattle.maps.specs.Shapes.{AreShapesOk}
+use Rattle.maps.specs.Shapes.{AreShapesSupported}
 use Rattle.verifier.specs.declared.refusal.Mode.{Mode}
 use Rattle.verifier.specs.declared.refusal.Refused.{Refused}
 use Rattle.maps.specs.declared.shapes.TheConstants.{MAX_ARG_LEN}
@@ -18,7 +17,7 @@ use Rattle.verifier.specs.Signature.{signature}
 use Rattle.verifier.specs.Typing.{IsTypable}
 use Rattle.verifier.specs.Verdict.{verdict}
 use Rattle.verifier.specs.Accepted.{Checked, checked, IsAccepted}
-use Rattle.verifier.proofs.VerdictLaws.{accepted_iff}
+use Rattle.verifier.proofs.Export.{accepted_iff}
 use Rattle.loader.specs.declared.refusals.LoadFault.{LoadFault}
 use Rattle.loader.specs.Grammar.{ProgramLine}
 use Rattle.loader.specs.CatalogueView.{Entry}
@@ -131,7 +130,7 @@ entries_to fs shapes (l ∷ ls) [] h = absurd h
 entries_to fs shapes (l ∷ ls) (e ∷ es) h = ap₂ ◌∷◌ (entry_to fs shapes l e h.0) (entries_to fs shapes ls es h.1)
 
 -- what is an entry for good maps and an argument within its limit was accepted
-pub entry_accepted : (fs : Files) (shapes : List Shape) (line : ProgramLine) (e : Entry) → AreShapesOk shapes → line.arg_len ≤ MAX_ARG_LEN → IsEntryFor fs shapes line e → IsAccepted e.checked
+pub entry_accepted : (fs : Files) (shapes : List Shape) (line : ProgramLine) (e : Entry) → AreShapesSupported shapes → line.arg_len ≤ MAX_ARG_LEN → IsEntryFor fs shapes line e → IsAccepted e.checked
 entry_accepted fs shapes line e good fits k =
     subst IsAccepted (sym k.checked_for)
     (record { typable = k.typable; instructions = k.spelled.each; shapes = good; argument = fits })

@@ -11,10 +11,9 @@ use Rattle.insn.specs.Decoded.{decoded}
 use Rattle.insn.specs.Encoding.{program_slots, HasEncoding}
 use Rattle.insn.specs.Layout.{size}
 use Rattle.insn.specs.Refusal.{AreBytes, Decodes}
-use Rattle.insn.proofs.Slots.{size_is, slot_bytes_length}
-use Rattle.insn.proofs.Laws.{read_is_spelled}
+use Rattle.insn.proofs.Export.{size_is, slot_bytes_length, read_is_spelled}
 use Rattle.maps.specs.declared.shapes.Shape.{Shape}
-use Rattle.maps.specs.Shapes.{AreShapesOk}
+use Rattle.maps.specs.Shapes.{AreShapesSupported}
 use Rattle.maps.specs.declared.shapes.TheConstants.{MAX_ARG_LEN}
 use Rattle.verifier.specs.declared.refusal.Mode.{Mode}
 use Rattle.verifier.specs.declared.refusal.Refused.{Refused}
@@ -22,7 +21,7 @@ use Rattle.verifier.specs.Signature.{signature}
 use Rattle.verifier.specs.Typing.{IsTypable}
 use Rattle.verifier.specs.Verdict.{verdict}
 use Rattle.verifier.specs.Accepted.{Checked, checked, IsAccepted}
-use Rattle.verifier.proofs.VerdictLaws.{accepts}
+use Rattle.verifier.proofs.Export.{accepts}
 use Rattle.loader.specs.Installed.{InstalledView, IsInstalled, IsShort, first_rooms, with_installed, unless_unsafe, accepted_program, installed_program}
 
 -- few bytes spell a short program
@@ -32,7 +31,7 @@ few_slots bytes p d few =
     omega (arith, count, size_is p, few)
 
 -- what is known of a program that was read and found typable
-pub short_and_accepted : (p : List Form) (shapes : List Shape) (n : ℕ) (mode : Mode) (c : Checked) → AllByRecursion HasEncoding p → size p ≤ MAX_INSTALLED_SLOTS → AreShapesOk shapes → n ≤ MAX_ARG_LEN
+pub short_and_accepted : (p : List Form) (shapes : List Shape) (n : ℕ) (mode : Mode) (c : Checked) → AllByRecursion HasEncoding p → size p ≤ MAX_INSTALLED_SLOTS → AreShapesSupported shapes → n ≤ MAX_ARG_LEN
     → IsTypable p (signature shapes n mode) → c ≡ checked p shapes n mode → (c.shapes ≡ shapes) × IsAccepted c × IsShort c
 short_and_accepted p shapes n mode c each few ok argument typable same = (
   ap (λ (x : Checked). x.shapes) same,
@@ -82,7 +81,7 @@ pub installed_reads : (shapes : List Shape) (mode : Mode) (n : ℕ) (bytes : Lis
 installed_reads shapes mode n bytes c e = read_as shapes mode n bytes c (decoded bytes) refl e
 
 -- and so it is accepted, and short
-pub installed_is_accepted : (shapes : List Shape) (mode : Mode) (n : ℕ) (bytes : List ℕ) (c : Checked) → AreShapesOk shapes → n ≤ MAX_ARG_LEN → AreBytes bytes → length bytes ≤ 8 * MAX_INSTALLED_SLOTS
+pub installed_is_accepted : (shapes : List Shape) (mode : Mode) (n : ℕ) (bytes : List ℕ) (c : Checked) → AreShapesSupported shapes → n ≤ MAX_ARG_LEN → AreBytes bytes → length bytes ≤ 8 * MAX_INSTALLED_SLOTS
     → installed_program shapes mode n bytes ≡ Ok c → (c.shapes ≡ shapes) × IsAccepted c × IsShort c
 installed_is_accepted shapes mode n bytes c ok argument are few e =
     let r = installed_reads shapes mode n bytes c e in

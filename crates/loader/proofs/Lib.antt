@@ -9,8 +9,10 @@ pub mod LoopLemmas
 pub mod Passed
 pub mod Offered
 pub mod Outcomes
+pub mod Widened
 pub mod Named
 pub mod Installing
 pub mod States
 pub mod Openings
 pub mod SameShapes
+pub mod Export

@@ -1,11 +1,12 @@
 -- The files that are listed are those that the loading asks for.
+use Rattle.maps.specs.declared.shapes.MapLimits.{MapLimits}
 use Rattle.std.proofs.Common.{◌≡◌, ◌⊎◌, inl, inr, ℕ, zero, suc, true, false, List, [], ◌∷◌, ◌++◌, codes, decimal, Option, Some, None, Result, Ok, Err, refl, sym, ap, subst, ◌∙◌, arith, append_assoc}
 use Rattle.std.specs.List.{Any, Contains, cons_option, filter_map, list_all}
 use Rattle.std.proofs.lemmas.Bool.{and_parts}
 use Rattle.std.proofs.lemmas.Bool.Decides.{nat_tests}
 use Rattle.text.specs.Fields.{is_space, has_no_space, split_at_space}
 use Rattle.text.specs.Lines.{lines_of, next_line}
-use Rattle.text.proofs.Cuts.{steps, split_to}
+use Rattle.text.proofs.Export.{steps, split_to}
 use Rattle.maps.specs.declared.shapes.Shape.{Shape}
 use Rattle.loader.specs.declared.grammar.FirstWord.{FirstWord}
 use Rattle.loader.specs.declared.grammar.FirstWord.TheVariants as words
@@ -14,7 +15,7 @@ use Rattle.loader.specs.Grammar.{is_path_byte, is_path, ProgramLine, Meaning, Co
 use Rattle.loader.specs.Spelling.{mode_word, program_spelling}
 use Rattle.loader.specs.CatalogueView.{CatalogueView}
 use Rattle.loader.specs.ProgramFiles.{Files, file_named, entry_for}
-use Rattle.loader.specs.Loading.{either, with_program, after_meaning, after_line, after_lines, nothing_yet, loaded}
+use Rattle.loader.specs.Loading.{either, with_program, after_meaning, after_line, after_lines, nothing_yet, loaded_within}
 use Rattle.loader.specs.NamedFiles.{last_word, file_behind, file_field, named_in, AreAlike, NamesAreFiles, IsProgramLine, NoOtherFile}
 use Rattle.loader.proofs.Spelled.{spelled}
 use Rattle.loader.proofs.Respelled.{no_space_from, fields}
@@ -42,19 +43,19 @@ spelled_file p path =
     ap last_word (sym (joined p.name (mode_word p.mode) (decimal p.arg_len) p.file)) ∙ last_behind (p.name ++ 32 ∷ (mode_word p.mode ++ 32 ∷ decimal p.arg_len)) p.file (no_space_in_path p.file path) in
     rw cut (ap Some last)
 
-line_file : (line : List ℕ) (p : ProgramLine) → line_meaning line ≡ Some (Program p) → file_field line ≡ Some p.file
-line_file line p e =
-    let s = (spelled line (Program p) e).1 in
+line_file : (lim : MapLimits) (line : List ℕ) (p : ProgramLine) → line_meaning lim line ≡ Some (Program p) → file_field line ≡ Some p.file
+line_file lim line p e =
+    let s = (spelled lim line (Program p) e).1 in
     subst (λ l. file_field l ≡ Some p.file) (sym s.0) (spelled_file p s.3)
 
 -- ---- files that are alike under the names that are listed
 
-module _ (fs gs : Files) where
+module _ (lim : MapLimits) (fs gs : Files) where
   same_entry : (shapes : List Shape) (p : ProgramLine) → file_named fs p.file ≡ file_named gs p.file → entry_for fs shapes p ≡ entry_for gs shapes p
   unfolding entry_for
   same_entry shapes p same = rw same refl
 
-  same_step : (v : CatalogueView) (o : Option Meaning) → ((p : ProgramLine) → o ≡ Some (Program p) → file_named fs p.file ≡ file_named gs p.file) → after_meaning fs v o ≡ after_meaning gs v o
+  same_step : (v : CatalogueView) (o : Option Meaning) → ((p : ProgramLine) → o ≡ Some (Program p) → file_named fs p.file ≡ file_named gs p.file) → after_meaning lim fs v o ≡ after_meaning lim gs v o
   unfolding with_program
   same_step v None same = refl
   same_step v (Some Comment) same = refl
@@ -68,25 +69,25 @@ module _ (fs gs : Files) where
   others_alike None names alike = alike
   others_alike (Some name) names alike = λ k d lt. alike (suc k) d (omega (arith, lt))
 
-  same_line : (v : CatalogueView) (l : List ℕ) (names : List (List ℕ)) → AreAlike (cons_option (file_field l) names) fs gs → after_line fs v l ≡ after_line gs v l
+  same_line : (v : CatalogueView) (l : List ℕ) (names : List (List ℕ)) → AreAlike (cons_option (file_field l) names) fs gs → after_line lim fs v l ≡ after_line lim gs v l
   unfolding after_line
-  same_line v l names alike = same_step v (line_meaning l) (λ p is. first_alike p.file (file_field l) names (line_file l p is) alike)
+  same_line v l names alike = same_step v (line_meaning lim l) (λ p is. first_alike p.file (file_field l) names (line_file lim l p is) alike)
 
-  same_rest : (n : ℕ) (ls : List (List ℕ)) (r : Result CatalogueView LoadFault) → ((w : CatalogueView) → after_lines fs (next_line n) w ls ≡ after_lines gs (next_line n) w ls)
-      → either (λ why. Err (record { line = n; why = why })) (λ after. after_lines fs (next_line n) after ls) r ≡ either (λ why. Err (record { line = n; why = why })) (λ after. after_lines gs (next_line n) after ls) r
+  same_rest : (n : ℕ) (ls : List (List ℕ)) (r : Result CatalogueView LoadFault) → ((w : CatalogueView) → after_lines lim fs (next_line n) w ls ≡ after_lines lim gs (next_line n) w ls)
+      → either (λ why. Err (record { line = n; why = why })) (λ after. after_lines lim fs (next_line n) after ls) r ≡ either (λ why. Err (record { line = n; why = why })) (λ after. after_lines lim gs (next_line n) after ls) r
   same_rest n ls (Ok w) same = same w
   same_rest n ls (Err why) same = refl
 
-  same_lines : (ls : List (List ℕ)) (n : ℕ) (v : CatalogueView) → AreAlike (filter_map file_field ls) fs gs → after_lines fs n v ls ≡ after_lines gs n v ls
+  same_lines : (ls : List (List ℕ)) (n : ℕ) (v : CatalogueView) → AreAlike (filter_map file_field ls) fs gs → after_lines lim fs n v ls ≡ after_lines lim gs n v ls
   unfolding after_lines
   same_lines [] n v alike = refl
   same_lines (l ∷ ls) n v alike =
       let rest = others_alike (file_field l) (filter_map file_field ls) alike in
-      rw (same_line v l (filter_map file_field ls) alike) (same_rest n ls (after_line gs v l) (λ w. same_lines ls (next_line n) w rest))
+      rw (same_line v l (filter_map file_field ls) alike) (same_rest n ls (after_line lim gs v l) (λ w. same_lines ls (next_line n) w rest))
 
 pub names_are_files : NamesAreFiles
-unfolding loaded named_in
-names_are_files text fs gs alike = same_lines fs gs (lines_of text) 1 nothing_yet alike
+unfolding loaded_within named_in
+names_are_files lim text fs gs alike = same_lines lim fs gs (lines_of text) 1 nothing_yet alike
 
 -- ---- what is listed is the last word of a line of a program
 

@@ -1,4 +1,5 @@
 -- What is offered is loaded, line after line.
+use Rattle.maps.specs.declared.shapes.MapLimits.{MapLimits}
 use Rattle.std.proofs.Common.{◌≡◌, ℕ, ◌+◌, ◌<◌, ◌≤◌, true, false, eqb, ltb, leb, List, [], ◌∷◌, ◌++◌, length, map, bytes_eq, Some, Ok, refl, sym, ap, ap₂, subst, ◌∙◌, arith, append_assoc, sum_by}
 use Rattle.std.specs.Prelude.{filter}
 use Rattle.std.specs.List.{AllByRecursion, IsDistinct, list_any}
@@ -6,7 +7,7 @@ use Rattle.std.proofs.lemmas.Bool.{lt-ltb, le-ltb, le-leb, leb-true, and_parts, 
 use Rattle.std.proofs.lemmas.List.{map-append, append-nil, length-append}
 use Rattle.std.proofs.lemmas.List.Sums.{sum_by-append}
 use Rattle.maps.specs.declared.shapes.Shape.{Shape}
-use Rattle.maps.specs.declared.shapes.TheConstants.{MAX_MAPS, MAX_TOTAL_BYTES}
+use Rattle.maps.specs.declared.shapes.TheConstants.{MAX_MAPS}
 use Rattle.maps.specs.Shapes.{room_of}
 use Rattle.loader.specs.Grammar.{ProgramLine, Meaning, Comment, Map, Program, line_meaning}
 use Rattle.loader.specs.CatalogueView.{Entry, CatalogueView, names_of}
@@ -17,12 +18,12 @@ use Rattle.loader.specs.declared.loading.TheConstants.{MAX_PROGRAMS}
 use Rattle.loader.proofs.Entries.{entry_from, entries_to}
 use Rattle.loader.proofs.Passed.{Passes}
 
-fewer : (xs ys : List Shape) → are_few (xs ++ ys) ≡ true → are_few xs ≡ true
-fewer xs ys few =
-    let both = and_parts (leb (length (xs ++ ys)) MAX_MAPS) (leb (sum_by room_of (xs ++ ys)) MAX_TOTAL_BYTES) few in
+fewer : (lim : MapLimits) (xs ys : List Shape) → are_few lim (xs ++ ys) ≡ true → are_few lim xs ≡ true
+fewer lim xs ys few =
+    let both = and_parts (leb (length (xs ++ ys)) MAX_MAPS) (leb (sum_by room_of (xs ++ ys)) lim.bytes) few in
     let count : length xs ≤ MAX_MAPS = omega (arith, leb-true _ _ both.0, length-append xs ys) in
-    let room : sum_by room_of xs ≤ MAX_TOTAL_BYTES = omega (arith, leb-true _ _ both.1, sum_by-append room_of xs ys) in
-    and_from (leb (length xs) MAX_MAPS) (leb (sum_by room_of xs) MAX_TOTAL_BYTES) (le-leb _ _ count) (le-leb _ _ room)
+    let room : sum_by room_of xs ≤ lim.bytes = omega (arith, leb-true _ _ both.1, sum_by-append room_of xs ys) in
+    and_from (leb (length xs) MAX_MAPS) (leb (sum_by room_of xs) lim.bytes) (le-leb _ _ count) (le-leb _ _ room)
 
 -- of distinct names none stands before another that equals it
 front_all : {X : Type 0} (P : X → Type 0) (xs : List X) (y : X) (ys : List X) → AllByRecursion P (xs ++ y ∷ ys) → P y
@@ -34,9 +35,9 @@ unfolding IsDistinct
 apart [] y ys h = refl
 apart (x ∷ xs) y ys h = rw (front_all (λ n. bytes_eq x n ≡ false) xs y ys h.0, apart xs y ys h.1) refl
 
-map_step : (v : CatalogueView) (s : Shape) → v.programs ≡ [] → are_few (v.shapes ++ s ∷ []) ≡ true → with_map v s ≡ Ok (record v { shapes = v.shapes ++ s ∷ [] })
+map_step : (lim : MapLimits) (v : CatalogueView) (s : Shape) → v.programs ≡ [] → are_few lim (v.shapes ++ s ∷ []) ≡ true → with_map lim v s ≡ Ok (record v { shapes = v.shapes ++ s ∷ [] })
 unfolding with_map
-map_step v s none few =
+map_step lim v s none few =
     let off : ltb 0 (length v.programs) ≡ false = le-ltb 0 (length v.programs) (omega (arith, ap length none)) in
     rw (off, few) refl
 
@@ -48,13 +49,13 @@ program_step fs v p e read some new few =
     rw (on, new, read, lt-ltb _ _ few) refl
 
 -- the limits of a catalogue
-pub record IsBounded (c : CatalogueView) : Type 0 where
-  pub few_maps : are_few c.shapes ≡ true
+pub record IsBounded (lim : MapLimits) (c : CatalogueView) : Type 0 where
+  pub few_maps : are_few lim c.shapes ≡ true
   pub distinct : IsDistinct bytes_eq (names_of c.programs)
   pub few : length c.programs ≤ MAX_PROGRAMS
 
 -- what is left to add, with a list of programs that is not empty only where there are maps
-pub record Left (fs : Files) (v c : CatalogueView) (ms : List Meaning) (maps : List Shape) (ps : List ProgramLine) (es : List Entry) : Type 0 where
+pub record Left (lim : MapLimits) (fs : Files) (v c : CatalogueView) (ms : List Meaning) (maps : List Shape) (ps : List ProgramLine) (es : List Entry) : Type 0 where
   pub in_order : filter says_something ms ≡ map Map maps ++ map Program ps
   pub checked : map (entry_for fs c.shapes) ps ≡ map Ok es
   pub shapes : c.shapes ≡ v.shapes ++ maps
@@ -64,22 +65,22 @@ pub record Left (fs : Files) (v c : CatalogueView) (ms : List Meaning) (maps : L
   pub places : v.places ≡ c.places
   pub opening : v.opening ≡ c.opening
 
-pub done : (fs : Files) (v c : CatalogueView) (maps : List Shape) (ps : List ProgramLine) (es : List Entry) → Left fs v c [] maps ps es → v ≡ c
-done fs v c (s ∷ ss) ps es k = absurd (let e = k.in_order in cc)
-done fs v c [] (p ∷ ps) es k = absurd (let e = k.in_order in cc)
-done fs v c [] [] (x ∷ es) k = absurd (let e = k.checked in cc)
-done fs v c [] [] [] k =
+pub done : (lim : MapLimits) (fs : Files) (v c : CatalogueView) (maps : List Shape) (ps : List ProgramLine) (es : List Entry) → Left lim fs v c [] maps ps es → v ≡ c
+done lim fs v c (s ∷ ss) ps es k = absurd (let e = k.in_order in cc)
+done lim fs v c [] (p ∷ ps) es k = absurd (let e = k.in_order in cc)
+done lim fs v c [] [] (x ∷ es) k = absurd (let e = k.checked in cc)
+done lim fs v c [] [] [] k =
     ap₂ (λ a b. record { shapes = a; programs = b; places = v.places; opening = v.opening }) (sym (k.shapes ∙ append-nil v.shapes)) (sym (k.all ∙ append-nil v.programs))
     ∙ ap₂ (λ p o. record c { places = p; opening = o }) k.places k.opening
 
 -- a line's step, and what is then left
-pub record Steps (fs : Files) (v c : CatalogueView) (m : Meaning) (ms : List Meaning) : Type 0 where
+pub record Steps (lim : MapLimits) (fs : Files) (v c : CatalogueView) (m : Meaning) (ms : List Meaning) : Type 0 where
   pub next : CatalogueView
-  pub step : after_meaning fs v (Some m) ≡ Ok next
+  pub step : after_meaning lim fs v (Some m) ≡ Ok next
   pub maps : List Shape
   pub programs : List ProgramLine
   pub entries : List Entry
-  pub left : Left fs next c ms maps programs entries
+  pub left : Left lim fs next c ms maps programs entries
 
 not_nil : {X : Type 0} (x : X) (xs : List X) → x ∷ xs ≡ [] → ⊥
 not_nil x xs e = absurd cc
@@ -91,17 +92,17 @@ empty_unless (p ∷ ps) s ss h = absurd (not_nil s ss (h (omega arith)))
 no_programs : (v : CatalogueView) (s : Shape) (ss : List Shape) → (0 < length v.programs → s ∷ ss ≡ []) → v.programs ≡ []
 no_programs v s ss h = empty_unless v.programs s ss h
 
-map_next : (fs : Files) (v c : CatalogueView) (s t : Shape) (ms : List Meaning) (ss : List Shape) (ps : List ProgramLine) (es : List Entry) → IsBounded c → Left fs v c (Map s ∷ ms) (t ∷ ss) ps es → Steps fs v c (Map s) ms
-map_next fs v c s t ms ss ps es b k =
+map_next : (lim : MapLimits) (fs : Files) (v c : CatalogueView) (s t : Shape) (ms : List Meaning) (ss : List Shape) (ps : List ProgramLine) (es : List Entry) → IsBounded lim c → Left lim fs v c (Map s ∷ ms) (t ∷ ss) ps es → Steps lim fs v c (Map s) ms
+map_next lim fs v c s t ms ss ps es b k =
     let order : Map s ∷ filter says_something ms ≡ Map t ∷ (map Map ss ++ map Program ps) = k.in_order in
     let same : s ≡ t = cc in
     let rest : filter says_something ms ≡ map Map ss ++ map Program ps = cc in
     let none = no_programs v t ss k.maps_first in
     let shapes : c.shapes ≡ (v.shapes ++ s ∷ []) ++ ss = k.shapes ∙ ap (λ x. v.shapes ++ x ∷ ss) (sym same) ∙ sym (append_assoc v.shapes (s ∷ []) ss) in
-    let few : are_few (v.shapes ++ s ∷ []) ≡ true = fewer (v.shapes ++ s ∷ []) ss (subst (λ x. are_few x ≡ true) shapes b.few_maps) in
+    let few : are_few lim (v.shapes ++ s ∷ []) ≡ true = fewer lim (v.shapes ++ s ∷ []) ss (subst (λ x. are_few lim x ≡ true) shapes b.few_maps) in
     record {
       next = record v { shapes = v.shapes ++ s ∷ [] };
-      step = map_step v s none few;
+      step = map_step lim v s none few;
       maps = ss;
       programs = ps;
       entries = es;
@@ -118,8 +119,8 @@ map_next fs v c s t ms ss ps es b k =
           };
     }
 
-program_next : (fs : Files) (v c : CatalogueView) (p q : ProgramLine) (e : Entry) (ms : List Meaning) (ps : List ProgramLine) (es : List Entry) → IsBounded c → Left fs v c (Program p ∷ ms) [] (q ∷ ps) (e ∷ es) → Steps fs v c (Program p) ms
-program_next fs v c p q e ms ps es b k =
+program_next : (lim : MapLimits) (fs : Files) (v c : CatalogueView) (p q : ProgramLine) (e : Entry) (ms : List Meaning) (ps : List ProgramLine) (es : List Entry) → IsBounded lim c → Left lim fs v c (Program p ∷ ms) [] (q ∷ ps) (e ∷ es) → Steps lim fs v c (Program p) ms
+program_next lim fs v c p q e ms ps es b k =
     let order : Program p ∷ filter says_something ms ≡ Program q ∷ map Program ps = k.in_order in
     let same : p ≡ q = cc in
     let rest : filter says_something ms ≡ map Program ps = cc in
@@ -153,8 +154,8 @@ program_next fs v c p q e ms ps es b k =
           };
     }
 
-pub next : (fs : Files) (v c : CatalogueView) (m : Meaning) (ms : List Meaning) (maps : List Shape) (ps : List ProgramLine) (es : List Entry) → IsBounded c → Left fs v c (m ∷ ms) maps ps es → Steps fs v c m ms
-next fs v c Comment ms maps ps es b k =
+pub next : (lim : MapLimits) (fs : Files) (v c : CatalogueView) (m : Meaning) (ms : List Meaning) (maps : List Shape) (ps : List ProgramLine) (es : List Entry) → IsBounded lim c → Left lim fs v c (m ∷ ms) maps ps es → Steps lim fs v c m ms
+next lim fs v c Comment ms maps ps es b k =
     record {
       next = v;
       step = refl;
@@ -173,33 +174,33 @@ next fs v c Comment ms maps ps es b k =
             opening = k.opening;
           };
     }
-next fs v c (Map s) ms [] [] es b k = absurd (let e = k.in_order in cc)
-next fs v c (Map s) ms [] (p ∷ ps) es b k = absurd (let e = k.in_order in cc)
-next fs v c (Map s) ms (t ∷ ss) ps es b k = map_next fs v c s t ms ss ps es b k
-next fs v c (Program p) ms (s ∷ ss) ps es b k = absurd (let e = k.in_order in cc)
-next fs v c (Program p) ms [] [] es b k = absurd (let e = k.in_order in cc)
-next fs v c (Program p) ms [] (q ∷ ps) [] b k = absurd (let e = k.checked in cc)
-next fs v c (Program p) ms [] (q ∷ ps) (e ∷ es) b k = program_next fs v c p q e ms ps es b k
+next lim fs v c (Map s) ms [] [] es b k = absurd (let e = k.in_order in cc)
+next lim fs v c (Map s) ms [] (p ∷ ps) es b k = absurd (let e = k.in_order in cc)
+next lim fs v c (Map s) ms (t ∷ ss) ps es b k = map_next lim fs v c s t ms ss ps es b k
+next lim fs v c (Program p) ms (s ∷ ss) ps es b k = absurd (let e = k.in_order in cc)
+next lim fs v c (Program p) ms [] [] es b k = absurd (let e = k.in_order in cc)
+next lim fs v c (Program p) ms [] (q ∷ ps) [] b k = absurd (let e = k.checked in cc)
+next lim fs v c (Program p) ms [] (q ∷ ps) (e ∷ es) b k = program_next lim fs v c p q e ms ps es b k
 
-taken : (fs : Files) (v w : CatalogueView) (l : List ℕ) (m : Meaning) → line_meaning l ≡ Some m → after_meaning fs v (Some m) ≡ Ok w → after_line fs v l ≡ Ok w
+taken : (lim : MapLimits) (fs : Files) (v w : CatalogueView) (l : List ℕ) (m : Meaning) → line_meaning lim l ≡ Some m → after_meaning lim fs v (Some m) ≡ Ok w → after_line lim fs v l ≡ Ok w
 unfolding after_line
-taken fs v w l m is step = ap (after_meaning fs v) is ∙ step
+taken lim fs v w l m is step = ap (after_meaning lim fs v) is ∙ step
 
-passes : (fs : Files) (ls : List (List ℕ)) (ms : List Meaning) (v c : CatalogueView) (maps : List Shape) (ps : List ProgramLine) (es : List Entry) → map line_meaning ls ≡ map Some ms → IsBounded c → Left fs v c ms maps ps es → Passes fs ls v c
-passes fs [] [] v c maps ps es each b k = done fs v c maps ps es k
-passes fs [] (m ∷ ms) v c maps ps es each b k = absurd cc
-passes fs (l ∷ ls) [] v c maps ps es each b k = absurd cc
-passes fs (l ∷ ls) (m ∷ ms) v c maps ps es each b k =
-    let is : line_meaning l ≡ Some m = cc in
-    let rest : map line_meaning ls ≡ map Some ms = cc in
-    let s = next fs v c m ms maps ps es b k in
-    (s.next, taken fs v s.next l m is s.step, passes fs ls ms s.next c s.maps s.programs s.entries rest b s.left)
+passes : (lim : MapLimits) (fs : Files) (ls : List (List ℕ)) (ms : List Meaning) (v c : CatalogueView) (maps : List Shape) (ps : List ProgramLine) (es : List Entry) → map (line_meaning lim) ls ≡ map Some ms → IsBounded lim c → Left lim fs v c ms maps ps es → Passes lim fs ls v c
+passes lim fs [] [] v c maps ps es each b k = done lim fs v c maps ps es k
+passes lim fs [] (m ∷ ms) v c maps ps es each b k = absurd cc
+passes lim fs (l ∷ ls) [] v c maps ps es each b k = absurd cc
+passes lim fs (l ∷ ls) (m ∷ ms) v c maps ps es each b k =
+    let is : line_meaning lim l ≡ Some m = cc in
+    let rest : map (line_meaning lim) ls ≡ map Some ms = cc in
+    let s = next lim fs v c m ms maps ps es b k in
+    (s.next, taken lim fs v s.next l m is s.step, passes lim fs ls ms s.next c s.maps s.programs s.entries rest b s.left)
 
 -- what is offered passes
-pub offers_to : (fs : Files) (ls : List (List ℕ)) (c : CatalogueView) → Offers fs ls c → Passes fs ls nothing_yet c
-offers_to fs ls c o =
-    let b : IsBounded c = record { few_maps = o.few_maps; distinct = o.distinct; few = o.few_programs } in
-    let left : Left fs nothing_yet c o.meanings c.shapes o.programs c.programs =
+pub offers_to : (lim : MapLimits) (fs : Files) (ls : List (List ℕ)) (c : CatalogueView) → Offers lim fs ls c → Passes lim fs ls nothing_yet c
+offers_to lim fs ls c o =
+    let b : IsBounded lim c = record { few_maps = o.few_maps; distinct = o.distinct; few = o.few_programs } in
+    let left : Left lim fs nothing_yet c o.meanings c.shapes o.programs c.programs =
     record {
       in_order = o.in_order;
       checked = entries_to fs c.shapes o.programs c.programs o.checked;
@@ -210,4 +211,4 @@ offers_to fs ls c o =
       places = sym o.no_places;
       opening = sym o.no_opening;
     } in
-    passes fs ls o.meanings nothing_yet c c.shapes o.programs c.programs o.each b left
+    passes lim fs ls o.meanings nothing_yet c c.shapes o.programs c.programs o.each b left

@@ -3,7 +3,7 @@ use Rattle.std.proofs.Common.{◌≡◌, ◌≤◌, List, length, Option, Some, 
 use Rattle.std.specs.Prelude.{IfSome}
 use Rattle.maps.specs.declared.shapes.Shape.{Shape}
 use Rattle.maps.specs.Maps.{HasShapes, shapes_of}
-use Rattle.loader.specs.declared.installed.TheConstants.{MAX_PLACES}
+use Rattle.loader.specs.declared.installed.TheConstants.{MOST_SPARE}
 use Rattle.loader.specs.Installed.{IsInstalled}
 use Rattle.loader.specs.StoreState.{StoreState, IsState, installed_in, with_room}
 use Rattle.loader.specs.CatalogueView.{CatalogueView, IsCatalogue, MayOpenOn, opened_on, opening_state, or_new, sizes_for}
@@ -17,7 +17,7 @@ opening_is_state c whole = opens c.opening whole.opening
     opens (Some s) h = h
 
 -- a state on which a store may open is one of its states, with room for as many programs as there are places
-pub may_is_state : (c : CatalogueView) (s : StoreState) → HasShapes (shapes_of s.maps) s.maps → IsInstalled (installed_in s) → MayOpenOn c s → c.places ≤ MAX_PLACES → IsState (sizes_for c) (with_room s c.places)
+pub may_is_state : (c : CatalogueView) (s : StoreState) → HasShapes (shapes_of s.maps) s.maps → IsInstalled (installed_in s) → MayOpenOn c s → c.places ≤ MOST_SPARE → IsState (sizes_for c) (with_room s c.places)
 may_is_state c s maps programs may limit = record {
   maps = subst (λ (x : List Shape). HasShapes x s.maps) may.shapes maps;
   places = refl;

@@ -1,4 +1,6 @@
 -- The outcome of a manifest, from its good lines and its first bad one.
+use Rattle.maps.specs.declared.shapes.MapLimits.{MapLimits}
+use Rattle.maps.specs.Shapes.{AreLimits}
 use Rattle.std.proofs.Common.{◌≡◌, ◌⊎◌, inl, inr, ℕ, ◌+◌, ◌-◌, ◌<◌, ◌≤◌, ◌^◌, min, Bool, true, false, cond, eqb, List, [], ◌∷◌, ◌++◌, length, Result, Ok, Err, refl, sym, ap, ap₂, subst, ◌∙◌, arith}
 use Rattle.std.proofs.lemmas.Bool.{ne_eqb, eqb-true, eqb-false, cases_lt}
 use Rattle.std.proofs.Math.Nat.{min-eq_left, min-eq_right, min-le_right}
@@ -9,7 +11,7 @@ use Rattle.loader.specs.declared.refusals.LoadRefusal.{LoadRefusal}
 use Rattle.text.specs.Lines.{lines_of, next_line}
 use Rattle.loader.specs.CatalogueView.{CatalogueView}
 use Rattle.loader.specs.ProgramFiles.{Files}
-use Rattle.loader.specs.Loading.{Outcome, either, after_line, after_lines, nothing_yet, loaded}
+use Rattle.loader.specs.Loading.{Outcome, either, after_line, after_lines, nothing_yet, loaded_within}
 use Rattle.loader.specs.Offers.{IsFirstBad, HasNoMap, LoadedIsOffered, RefusedIsFirstBad}
 use Rattle.loader.proofs.Passed.{Passes, offers_from}
 use Rattle.loader.proofs.Offered.{offers_to}
@@ -38,10 +40,10 @@ numbered n (l ∷ ls) le =
         let right : min (n + m) last ≡ last = min-eq_right (omega (arith, ge)) in
         left ∙ sym right
 
-pub through : (fs : Files) (before rest : List (List ℕ)) (n : ℕ) (v w : CatalogueView) → Passes fs before v w → after_lines fs n v (before ++ rest) ≡ after_lines fs (number_behind n before) w rest
+pub through : (lim : MapLimits) (fs : Files) (before rest : List (List ℕ)) (n : ℕ) (v w : CatalogueView) → Passes lim fs before v w → after_lines lim fs n v (before ++ rest) ≡ after_lines lim fs (number_behind n before) w rest
 unfolding after_lines
-through fs [] rest n v w p = ap (λ x. after_lines fs n x rest) p
-through fs (l ∷ ls) rest n v w (u, step, p) = rw step (through fs ls rest (next_line n) u w p)
+through lim fs [] rest n v w p = ap (λ x. after_lines lim fs n x rest) p
+through lim fs (l ∷ ls) rest n v w (u, step, p) = rw step (through lim fs ls rest (next_line n) u w p)
 
 -- ---- a good outcome
 
@@ -49,63 +51,63 @@ end_ok : (n : ℕ) (v c : CatalogueView) (t : Bool) → t ≡ eqb (length v.shap
 end_ok n v c true is e = absurd cc
 end_ok n v c false is e = (sym is, cc)
 
-first_ok : (fs : Files) (n : ℕ) (ls : List (List ℕ)) (c : CatalogueView) (r : Result CatalogueView LoadFault)
-    → either (λ why. Err (record { line = n; why = why })) (λ after. after_lines fs (next_line n) after ls) r ≡ Ok c → (w : CatalogueView) × (r ≡ Ok w) × (after_lines fs (next_line n) w ls ≡ Ok c)
-first_ok fs n ls c (Ok w) e = (w, refl, e)
-first_ok fs n ls c (Err why) e = absurd cc
+first_ok : (lim : MapLimits) (fs : Files) (n : ℕ) (ls : List (List ℕ)) (c : CatalogueView) (r : Result CatalogueView LoadFault)
+    → either (λ why. Err (record { line = n; why = why })) (λ after. after_lines lim fs (next_line n) after ls) r ≡ Ok c → (w : CatalogueView) × (r ≡ Ok w) × (after_lines lim fs (next_line n) w ls ≡ Ok c)
+first_ok lim fs n ls c (Ok w) e = (w, refl, e)
+first_ok lim fs n ls c (Err why) e = absurd cc
 
-pub ok_from : (fs : Files) (ls : List (List ℕ)) (n : ℕ) (v c : CatalogueView) → after_lines fs n v ls ≡ Ok c → Passes fs ls v c × (0 < length c.shapes)
+pub ok_from : (lim : MapLimits) (fs : Files) (ls : List (List ℕ)) (n : ℕ) (v c : CatalogueView) → after_lines lim fs n v ls ≡ Ok c → Passes lim fs ls v c × (0 < length c.shapes)
 unfolding after_lines
-ok_from fs [] n v c e =
+ok_from lim fs [] n v c e =
     let end = end_ok n v c (eqb (length v.shapes) 0) refl e in
     (end.1, subst (λ x. 0 < length x.shapes) end.1 (omega (arith, eqb-false _ _ end.0)))
-ok_from fs (l ∷ ls) n v c e =
-    let first = first_ok fs n ls c (after_line fs v l) e in
-    let rest = ok_from fs ls (next_line n) first.0 c first.2 in
+ok_from lim fs (l ∷ ls) n v c e =
+    let first = first_ok lim fs n ls c (after_line lim fs v l) e in
+    let rest = ok_from lim fs ls (next_line n) first.0 c first.2 in
     ((first.0, first.1, rest.0), rest.1)
 
-pub ok_to : (fs : Files) (ls : List (List ℕ)) (n : ℕ) (v c : CatalogueView) → Passes fs ls v c → 0 < length c.shapes → after_lines fs n v ls ≡ Ok c
+pub ok_to : (lim : MapLimits) (fs : Files) (ls : List (List ℕ)) (n : ℕ) (v c : CatalogueView) → Passes lim fs ls v c → 0 < length c.shapes → after_lines lim fs n v ls ≡ Ok c
 unfolding after_lines
-ok_to fs [] n v c p some =
+ok_to lim fs [] n v c p some =
     let on : eqb (length v.shapes) 0 ≡ false = ne_eqb _ _ (λ z. absurd (omega (arith, z, ap (λ x. length x.shapes) p, some))) in
     rw on (ap Ok p)
-ok_to fs (l ∷ ls) n v c (w, step, p) some = rw step (ok_to fs ls (next_line n) w c p some)
+ok_to lim fs (l ∷ ls) n v c (w, step, p) some = rw step (ok_to lim fs ls (next_line n) w c p some)
 
 pub loaded_is_offered : LoadedIsOffered
-unfolding loaded
-loaded_is_offered text files c = (
-  λ e. let p = ok_from files (lines_of text) 1 nothing_yet c e in (offers_from files (lines_of text) c p.0, p.1),
-  λ o. ok_to files (lines_of text) 1 nothing_yet c (offers_to files (lines_of text) c o.0) o.1,
+unfolding loaded_within
+loaded_is_offered lim text files c ok = (
+  λ e. let p = ok_from lim files (lines_of text) 1 nothing_yet c e in (offers_from lim files (lines_of text) c ok p.0, p.1),
+  λ o. ok_to lim files (lines_of text) 1 nothing_yet c (offers_to lim files (lines_of text) c o.0) o.1,
 )
 
 -- ---- a refusal
 
-pub record BadAt (fs : Files) (ls : List (List ℕ)) (n : ℕ) (v : CatalogueView) (e : LoadRefusal) : Type 0 where
+pub record BadAt (lim : MapLimits) (fs : Files) (ls : List (List ℕ)) (n : ℕ) (v : CatalogueView) (e : LoadRefusal) : Type 0 where
   pub before : List (List ℕ)
   pub line : List ℕ
   pub rest : List (List ℕ)
   pub split : ls ≡ before ++ line ∷ rest
   pub so_far : CatalogueView
-  pub good : Passes fs before v so_far
-  pub bad : after_line fs so_far line ≡ Err e.why
+  pub good : Passes lim fs before v so_far
+  pub bad : after_line lim fs so_far line ≡ Err e.why
   pub number : e.line ≡ number_behind n before
 
-pub record NoMapAt (fs : Files) (ls : List (List ℕ)) (n : ℕ) (v : CatalogueView) (e : LoadRefusal) : Type 0 where
+pub record NoMapAt (lim : MapLimits) (fs : Files) (ls : List (List ℕ)) (n : ℕ) (v : CatalogueView) (e : LoadRefusal) : Type 0 where
   pub so_far : CatalogueView
-  pub good : Passes fs ls v so_far
+  pub good : Passes lim fs ls v so_far
   pub none : so_far.shapes ≡ []
   pub why : e.why ≡ faults.BadLine
   pub number : e.line ≡ number_behind n ls
 
-abbrev pub RefusedAt : Files → List (List ℕ) → ℕ → CatalogueView → LoadRefusal → Type 0
-RefusedAt fs ls n v e = BadAt fs ls n v e ⊎ NoMapAt fs ls n v e
+abbrev pub RefusedAt : MapLimits → Files → List (List ℕ) → ℕ → CatalogueView → LoadRefusal → Type 0
+RefusedAt lim fs ls n v e = BadAt lim fs ls n v e ⊎ NoMapAt lim fs ls n v e
 
-end_err : (fs : Files) (n : ℕ) (v : CatalogueView) (e : LoadRefusal) (t : Bool) → t ≡ eqb (length v.shapes) 0 → cond {A = Outcome} t (Err (record { line = n; why = faults.BadLine })) (Ok v) ≡ Err e → NoMapAt fs [] n v e
-end_err fs n v e true is h = record { so_far = v; good = refl; none = nil_from_length v.shapes (eqb-true _ _ (sym is)); why = cc; number = cc }
-end_err fs n v e false is h = absurd cc
+end_err : (lim : MapLimits) (fs : Files) (n : ℕ) (v : CatalogueView) (e : LoadRefusal) (t : Bool) → t ≡ eqb (length v.shapes) 0 → cond {A = Outcome} t (Err (record { line = n; why = faults.BadLine })) (Ok v) ≡ Err e → NoMapAt lim fs [] n v e
+end_err lim fs n v e true is h = record { so_far = v; good = refl; none = nil_from_length v.shapes (eqb-true _ _ (sym is)); why = cc; number = cc }
+end_err lim fs n v e false is h = absurd cc
 
-later : (fs : Files) (l : List ℕ) (ls : List (List ℕ)) (n : ℕ) (v w : CatalogueView) (e : LoadRefusal) → after_line fs v l ≡ Ok w → RefusedAt fs ls (next_line n) w e → RefusedAt fs (l ∷ ls) n v e
-later fs l ls n v w e step (inl b) =
+later : (lim : MapLimits) (fs : Files) (l : List ℕ) (ls : List (List ℕ)) (n : ℕ) (v w : CatalogueView) (e : LoadRefusal) → after_line lim fs v l ≡ Ok w → RefusedAt lim fs ls (next_line n) w e → RefusedAt lim fs (l ∷ ls) n v e
+later lim fs l ls n v w e step (inl b) =
     inl
     (record {
       before = l ∷ b.before;
@@ -117,7 +119,7 @@ later fs l ls n v w e step (inl b) =
       bad = b.bad;
       number = b.number;
     })
-later fs l ls n v w e step (inr b) =
+later lim fs l ls n v w e step (inr b) =
     inr
     (record {
       so_far = b.so_far;
@@ -127,11 +129,11 @@ later fs l ls n v w e step (inr b) =
       number = b.number;
     })
 
-first_err : (fs : Files) (l : List ℕ) (ls : List (List ℕ)) (n : ℕ) (v : CatalogueView) (e : LoadRefusal) (r : Result CatalogueView LoadFault) → after_line fs v l ≡ r
-    → either (λ why. Err (record { line = n; why = why })) (λ after. after_lines fs (next_line n) after ls) r ≡ Err e
-    → ((w : CatalogueView) → after_lines fs (next_line n) w ls ≡ Err e → RefusedAt fs ls (next_line n) w e) → RefusedAt fs (l ∷ ls) n v e
-first_err fs l ls n v e (Ok w) is h more = later fs l ls n v w e is (more w h)
-first_err fs l ls n v e (Err why) is h more =
+first_err : (lim : MapLimits) (fs : Files) (l : List ℕ) (ls : List (List ℕ)) (n : ℕ) (v : CatalogueView) (e : LoadRefusal) (r : Result CatalogueView LoadFault) → after_line lim fs v l ≡ r
+    → either (λ why. Err (record { line = n; why = why })) (λ after. after_lines lim fs (next_line n) after ls) r ≡ Err e
+    → ((w : CatalogueView) → after_lines lim fs (next_line n) w ls ≡ Err e → RefusedAt lim fs ls (next_line n) w e) → RefusedAt lim fs (l ∷ ls) n v e
+first_err lim fs l ls n v e (Ok w) is h more = later lim fs l ls n v w e is (more w h)
+first_err lim fs l ls n v e (Err why) is h more =
     let same : why ≡ e.why = cc in
     inl
     (record {
@@ -145,45 +147,45 @@ first_err fs l ls n v e (Err why) is h more =
       number = cc;
     })
 
-pub err_from : (fs : Files) (ls : List (List ℕ)) (n : ℕ) (v : CatalogueView) (e : LoadRefusal) → after_lines fs n v ls ≡ Err e → RefusedAt fs ls n v e
+pub err_from : (lim : MapLimits) (fs : Files) (ls : List (List ℕ)) (n : ℕ) (v : CatalogueView) (e : LoadRefusal) → after_lines lim fs n v ls ≡ Err e → RefusedAt lim fs ls n v e
 unfolding after_lines
-err_from fs [] n v e h = inr (end_err fs n v e (eqb (length v.shapes) 0) refl h)
-err_from fs (l ∷ ls) n v e h = first_err fs l ls n v e (after_line fs v l) refl h (λ w g. err_from fs ls (next_line n) w e g)
+err_from lim fs [] n v e h = inr (end_err lim fs n v e (eqb (length v.shapes) 0) refl h)
+err_from lim fs (l ∷ ls) n v e h = first_err lim fs l ls n v e (after_line lim fs v l) refl h (λ w g. err_from lim fs ls (next_line n) w e g)
 
-stops_at : (fs : Files) (n : ℕ) (v : CatalogueView) (line : List ℕ) (rest : List (List ℕ)) (why : LoadFault) → after_line fs v line ≡ Err why → after_lines fs n v (line ∷ rest) ≡ Err (record { line = n; why = why })
+stops_at : (lim : MapLimits) (fs : Files) (n : ℕ) (v : CatalogueView) (line : List ℕ) (rest : List (List ℕ)) (why : LoadFault) → after_line lim fs v line ≡ Err why → after_lines lim fs n v (line ∷ rest) ≡ Err (record { line = n; why = why })
 unfolding after_lines
-stops_at fs n v line rest why bad = rw bad refl
+stops_at lim fs n v line rest why bad = rw bad refl
 
-ends_at : (fs : Files) (n : ℕ) (v : CatalogueView) → v.shapes ≡ [] → after_lines fs n v [] ≡ Err (record { line = n; why = faults.BadLine })
+ends_at : (lim : MapLimits) (fs : Files) (n : ℕ) (v : CatalogueView) → v.shapes ≡ [] → after_lines lim fs n v [] ≡ Err (record { line = n; why = faults.BadLine })
 unfolding after_lines
-ends_at fs n v none = rw none refl
+ends_at lim fs n v none = rw none refl
 
-pub err_to : (fs : Files) (ls : List (List ℕ)) (n : ℕ) (v : CatalogueView) (e : LoadRefusal) → RefusedAt fs ls n v e → after_lines fs n v ls ≡ Err e
-err_to fs ls n v e (inl b) =
-    ap (after_lines fs n v) b.split ∙ through fs b.before (b.line ∷ b.rest) n v b.so_far b.good ∙ stops_at fs (number_behind n b.before) b.so_far b.line b.rest e.why b.bad
+pub err_to : (lim : MapLimits) (fs : Files) (ls : List (List ℕ)) (n : ℕ) (v : CatalogueView) (e : LoadRefusal) → RefusedAt lim fs ls n v e → after_lines lim fs n v ls ≡ Err e
+err_to lim fs ls n v e (inl b) =
+    ap (after_lines lim fs n v) b.split ∙ through lim fs b.before (b.line ∷ b.rest) n v b.so_far b.good ∙ stops_at lim fs (number_behind n b.before) b.so_far b.line b.rest e.why b.bad
     ∙ ap (λ m. Err (record { line = m; why = e.why })) (sym b.number)
-err_to fs ls n v e (inr b) =
-    ap (after_lines fs n v) (sym (append-nil ls)) ∙ through fs ls [] n v b.so_far b.good ∙ ends_at fs (number_behind n ls) b.so_far b.none
+err_to lim fs ls n v e (inr b) =
+    ap (after_lines lim fs n v) (sym (append-nil ls)) ∙ through lim fs ls [] n v b.so_far b.good ∙ ends_at lim fs (number_behind n ls) b.so_far b.none
     ∙ ap₂ (λ m w. Err (record { line = m; why = w })) (sym b.number) (sym b.why)
 
 behind_one : (ls : List (List ℕ)) → number_behind 1 ls ≡ next_line (length ls)
 behind_one ls = numbered 1 ls (omega arith) ∙ ap (λ m. min m last) (omega arith)
 
-shown : (fs : Files) (ls : List (List ℕ)) (e : LoadRefusal) → RefusedAt fs ls 1 nothing_yet e → IsFirstBad fs ls e ⊎ HasNoMap fs ls e
-shown fs ls e (inl b) =
-    inl (record { before = b.before; line = b.line; rest = b.rest; split = b.split; so_far = b.so_far; good = offers_from fs b.before b.so_far b.good; bad = b.bad; number = b.number ∙ behind_one b.before })
-shown fs ls e (inr b) =
-    inr (record { so_far = b.so_far; good = offers_from fs ls b.so_far b.good; none = b.none; why = b.why; number = b.number ∙ behind_one ls })
+shown : (lim : MapLimits) (fs : Files) (ls : List (List ℕ)) (e : LoadRefusal) → AreLimits lim → RefusedAt lim fs ls 1 nothing_yet e → IsFirstBad lim fs ls e ⊎ HasNoMap lim fs ls e
+shown lim fs ls e ok (inl b) =
+    inl (record { before = b.before; line = b.line; rest = b.rest; split = b.split; so_far = b.so_far; good = offers_from lim fs b.before b.so_far ok b.good; bad = b.bad; number = b.number ∙ behind_one b.before })
+shown lim fs ls e ok (inr b) =
+    inr (record { so_far = b.so_far; good = offers_from lim fs ls b.so_far ok b.good; none = b.none; why = b.why; number = b.number ∙ behind_one ls })
 
-meant : (fs : Files) (ls : List (List ℕ)) (e : LoadRefusal) → IsFirstBad fs ls e ⊎ HasNoMap fs ls e → RefusedAt fs ls 1 nothing_yet e
-meant fs ls e (inl b) =
-    inl (record { before = b.before; line = b.line; rest = b.rest; split = b.split; so_far = b.so_far; good = offers_to fs b.before b.so_far b.good; bad = b.bad; number = b.number ∙ sym (behind_one b.before) })
-meant fs ls e (inr b) =
-    inr (record { so_far = b.so_far; good = offers_to fs ls b.so_far b.good; none = b.none; why = b.why; number = b.number ∙ sym (behind_one ls) })
+meant : (lim : MapLimits) (fs : Files) (ls : List (List ℕ)) (e : LoadRefusal) → IsFirstBad lim fs ls e ⊎ HasNoMap lim fs ls e → RefusedAt lim fs ls 1 nothing_yet e
+meant lim fs ls e (inl b) =
+    inl (record { before = b.before; line = b.line; rest = b.rest; split = b.split; so_far = b.so_far; good = offers_to lim fs b.before b.so_far b.good; bad = b.bad; number = b.number ∙ sym (behind_one b.before) })
+meant lim fs ls e (inr b) =
+    inr (record { so_far = b.so_far; good = offers_to lim fs ls b.so_far b.good; none = b.none; why = b.why; number = b.number ∙ sym (behind_one ls) })
 
 pub refused_is_first_bad : RefusedIsFirstBad
-unfolding loaded
-refused_is_first_bad text files e = (
-  λ h. shown files (lines_of text) e (err_from files (lines_of text) 1 nothing_yet e h),
-  λ b. err_to files (lines_of text) 1 nothing_yet e (meant files (lines_of text) e b),
+unfolding loaded_within
+refused_is_first_bad lim text files e ok = (
+  λ h. shown lim files (lines_of text) e ok (err_from lim files (lines_of text) 1 nothing_yet e h),
+  λ b. err_to lim files (lines_of text) 1 nothing_yet e (meant lim files (lines_of text) e b),
 )

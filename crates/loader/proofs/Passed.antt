@@ -1,4 +1,6 @@
 -- Lines that are good one after another are what their catalogue offers.
+use Rattle.maps.specs.declared.shapes.MapLimits.{MapLimits}
+use Rattle.maps.specs.Shapes.{AreLimits}
 use Rattle.std.proofs.Common.{◌≡◌, ℕ, ◌+◌, ◌<◌, List, [], ◌∷◌, ◌++◌, length, map, Option, Some, None, Ok, refl, sym, ap, ap₂, subst, ◌∙◌, arith, append_assoc}
 use Rattle.std.specs.Prelude.{filter}
 use Rattle.std.proofs.lemmas.Bool.{eqb-false}
@@ -14,18 +16,18 @@ use Rattle.loader.proofs.Entries.{entries_from}
 use Rattle.loader.proofs.Steps.{after_map, IsAfterProgram, after_program, stays, nothing_partial}
 
 -- each line in turn is good after those before it
-abbrev pub Passes : Files → List (List ℕ) → CatalogueView → CatalogueView → Type 0
-Passes fs [] v c = v ≡ c
-Passes fs (l ∷ ls) v c = (w : CatalogueView) × (after_line fs v l ≡ Ok w) × Passes fs ls w c
+abbrev pub Passes : MapLimits → Files → List (List ℕ) → CatalogueView → CatalogueView → Type 0
+Passes lim fs [] v c = v ≡ c
+Passes lim fs (l ∷ ls) v c = (w : CatalogueView) × (after_line lim fs v l ≡ Ok w) × Passes lim fs ls w c
 
-pub passes_stay : (fs : Files) (ls : List (List ℕ)) (v c : CatalogueView) → IsPartial v → Passes fs ls v c → IsPartial c
-passes_stay fs [] v c so_far p = subst IsPartial p so_far
-passes_stay fs (l ∷ ls) v c so_far p = passes_stay fs ls p.0 c (stays fs v l p.0 so_far p.1) p.2
+pub passes_stay : (lim : MapLimits) (fs : Files) (ls : List (List ℕ)) (v c : CatalogueView) → IsPartial lim v → Passes lim fs ls v c → IsPartial lim c
+passes_stay lim fs [] v c so_far p = subst (IsPartial lim) p so_far
+passes_stay lim fs (l ∷ ls) v c so_far p = passes_stay lim fs ls p.0 c (stays lim fs v l p.0 so_far p.1) p.2
 
 -- what the lines add to the catalogue so far
-pub record Adds (fs : Files) (ls : List (List ℕ)) (v c : CatalogueView) : Type 0 where
+pub record Adds (lim : MapLimits) (fs : Files) (ls : List (List ℕ)) (v c : CatalogueView) : Type 0 where
   pub meanings : List Meaning
-  pub each : map line_meaning ls ≡ map Some meanings
+  pub each : map (line_meaning lim) ls ≡ map Some meanings
   pub maps : List Shape
   pub programs : List ProgramLine
   pub in_order : filter says_something meanings ≡ map Map maps ++ map Program programs
@@ -36,8 +38,8 @@ pub record Adds (fs : Files) (ls : List (List ℕ)) (v c : CatalogueView) : Type
   pub maps_first : 0 < length v.programs → maps ≡ []
   pub some_map : 0 < length programs → 0 < length c.shapes
 
-adds_nothing : (fs : Files) (v c : CatalogueView) → v ≡ c → Adds fs [] v c
-adds_nothing fs v c same =
+adds_nothing : (lim : MapLimits) (fs : Files) (v c : CatalogueView) → v ≡ c → Adds lim fs [] v c
+adds_nothing lim fs v c same =
     record {
       meanings = [];
       each = refl;
@@ -52,8 +54,8 @@ adds_nothing fs v c same =
       some_map = λ lt. absurd (omega (arith, lt));
     }
 
-adds_comment : (fs : Files) (l : List ℕ) (ls : List (List ℕ)) (v w c : CatalogueView) → line_meaning l ≡ Some Comment → v ≡ w → Adds fs ls w c → Adds fs (l ∷ ls) v c
-adds_comment fs l ls v w c is same k =
+adds_comment : (lim : MapLimits) (fs : Files) (l : List ℕ) (ls : List (List ℕ)) (v w c : CatalogueView) → line_meaning lim l ≡ Some Comment → v ≡ w → Adds lim fs ls w c → Adds lim fs (l ∷ ls) v c
+adds_comment lim fs l ls v w c is same k =
     record {
       meanings = Comment ∷ k.meanings;
       each = ap₂ ◌∷◌ is k.each;
@@ -68,8 +70,8 @@ adds_comment fs l ls v w c is same k =
       some_map = k.some_map;
     }
 
-adds_map : (fs : Files) (l : List ℕ) (ls : List (List ℕ)) (v w c : CatalogueView) (s : Shape) → line_meaning l ≡ Some (Map s) → v.programs ≡ [] → record v { shapes = v.shapes ++ s ∷ [] } ≡ w → Adds fs ls w c → Adds fs (l ∷ ls) v c
-adds_map fs l ls v w c s is none same k =
+adds_map : (lim : MapLimits) (fs : Files) (l : List ℕ) (ls : List (List ℕ)) (v w c : CatalogueView) (s : Shape) → line_meaning lim l ≡ Some (Map s) → v.programs ≡ [] → record v { shapes = v.shapes ++ s ∷ [] } ≡ w → Adds lim fs ls w c → Adds lim fs (l ∷ ls) v c
+adds_map lim fs l ls v w c s is none same k =
     record {
       meanings = Map s ∷ k.meanings;
       each = ap₂ ◌∷◌ is k.each;
@@ -84,8 +86,8 @@ adds_map fs l ls v w c s is none same k =
       some_map = k.some_map;
     }
 
-adds_program : (fs : Files) (l : List ℕ) (ls : List (List ℕ)) (v w c : CatalogueView) (p : ProgramLine) → line_meaning l ≡ Some (Program p) → IsAfterProgram fs v p w → Adds fs ls w c → Adds fs (l ∷ ls) v c
-adds_program fs l ls v w c p is a k =
+adds_program : (lim : MapLimits) (fs : Files) (l : List ℕ) (ls : List (List ℕ)) (v w c : CatalogueView) (p : ProgramLine) → line_meaning lim l ≡ Some (Program p) → IsAfterProgram fs v p w → Adds lim fs ls w c → Adds lim fs (l ∷ ls) v c
+adds_program lim fs l ls v w c p is a k =
     let more : length w.programs ≡ length v.programs + 1 = ap (λ x. length x.programs) (sym a.same) ∙ length_push v.programs a.entry in
     let none : k.maps ≡ [] = k.maps_first (omega (arith, more)) in
     let shapes : c.shapes ≡ v.shapes = k.shapes ∙ ap₂ (λ x m. x.shapes ++ m) (sym a.same) none ∙ append-nil v.shapes in
@@ -104,27 +106,27 @@ adds_program fs l ls v w c p is a k =
       some_map = λ _. some;
     }
 
-inside_ok : (v w : CatalogueView) (o : Option Meaning) (fs : Files) → o ≡ Some Comment → after_meaning fs v o ≡ Ok w → v ≡ w
-inside_ok v w o fs is e = cc
+inside_ok : (lim : MapLimits) (v w : CatalogueView) (o : Option Meaning) (fs : Files) → o ≡ Some Comment → after_meaning lim fs v o ≡ Ok w → v ≡ w
+inside_ok lim v w o fs is e = cc
 
-adds_line : (fs : Files) (l : List ℕ) (ls : List (List ℕ)) (v w c : CatalogueView) (o : Option Meaning) → line_meaning l ≡ o → after_meaning fs v o ≡ Ok w → Adds fs ls w c → Adds fs (l ∷ ls) v c
-adds_line fs l ls v w c None is e k = absurd cc
-adds_line fs l ls v w c (Some Comment) is e k = adds_comment fs l ls v w c is (inside_ok v w (Some Comment) fs refl e) k
-adds_line fs l ls v w c (Some (Map s)) is e k =
-    let a = after_map v s w e in
-    adds_map fs l ls v w c s is a.0 a.2 k
-adds_line fs l ls v w c (Some (Program q)) is e k = adds_program fs l ls v w c q is (after_program fs v q w e) k
+adds_line : (lim : MapLimits) (fs : Files) (l : List ℕ) (ls : List (List ℕ)) (v w c : CatalogueView) (o : Option Meaning) → line_meaning lim l ≡ o → after_meaning lim fs v o ≡ Ok w → Adds lim fs ls w c → Adds lim fs (l ∷ ls) v c
+adds_line lim fs l ls v w c None is e k = absurd cc
+adds_line lim fs l ls v w c (Some Comment) is e k = adds_comment lim fs l ls v w c is (inside_ok lim v w (Some Comment) fs refl e) k
+adds_line lim fs l ls v w c (Some (Map s)) is e k =
+    let a = after_map lim v s w e in
+    adds_map lim fs l ls v w c s is a.0 a.2 k
+adds_line lim fs l ls v w c (Some (Program q)) is e k = adds_program lim fs l ls v w c q is (after_program fs v q w e) k
 
-pub adds : (fs : Files) (ls : List (List ℕ)) (v c : CatalogueView) → Passes fs ls v c → Adds fs ls v c
+pub adds : (lim : MapLimits) (fs : Files) (ls : List (List ℕ)) (v c : CatalogueView) → Passes lim fs ls v c → Adds lim fs ls v c
 unfolding after_line
-adds fs [] v c p = adds_nothing fs v c p
-adds fs (l ∷ ls) v c (w, e, p) = adds_line fs l ls v w c (line_meaning l) refl e (adds fs ls w c p)
+adds lim fs [] v c p = adds_nothing lim fs v c p
+adds lim fs (l ∷ ls) v c (w, e, p) = adds_line lim fs l ls v w c (line_meaning lim l) refl e (adds lim fs ls w c p)
 
 -- lines that pass are what their catalogue offers
-pub offers_from : (fs : Files) (ls : List (List ℕ)) (c : CatalogueView) → Passes fs ls nothing_yet c → Offers fs ls c
-offers_from fs ls c p =
-    let a = adds fs ls nothing_yet c p in
-    let s = passes_stay fs ls nothing_yet c nothing_partial p in
+pub offers_from : (lim : MapLimits) (fs : Files) (ls : List (List ℕ)) (c : CatalogueView) → AreLimits lim → Passes lim fs ls nothing_yet c → Offers lim fs ls c
+offers_from lim fs ls c ok p =
+    let a = adds lim fs ls nothing_yet c p in
+    let s = passes_stay lim fs ls nothing_yet c (nothing_partial lim ok) p in
     record {
       meanings = a.meanings;
       each = a.each;

@@ -1,4 +1,5 @@
 -- What is spelled so means that.
+use Rattle.maps.specs.declared.shapes.MapLimits.{MapLimits}
 use Rattle.std.proofs.Common.{◌≡◌, inl, inr, ℕ, ◌<◌, ◌≤◌, ◌^◌, Bool, true, false, eqb, leb, ◌&&◌, List, [], ◌∷◌, ◌++◌, ◌∙◌, length, codes, decimal, Some, refl, sym, subst, arith}
 use Rattle.std.specs.List.{list_all}
 use Rattle.std.proofs.lemmas.Bool.{le-leb, and_parts}
@@ -8,15 +9,13 @@ use Rattle.maps.specs.declared.shapes.Shape.TheVariants.{Array, Hash}
 use Rattle.verifier.specs.declared.refusal.Mode.{Mode}
 use Rattle.verifier.specs.declared.refusal.Mode.TheVariants.{Update, Read}
 use Rattle.text.specs.Fields.{split_at_space}
-use Rattle.maps.specs.declared.shapes.TheConstants.{MAX_ARG_LEN, MAX_KEY_BYTES, MAX_VALUE_BYTES, MAX_ENTRIES}
+use Rattle.maps.specs.declared.shapes.TheConstants.{MAX_ARG_LEN}
+use Rattle.maps.specs.Shapes.{AreLimits}
 use Rattle.text.specs.Words.{IsFrom, number_within, is_name_byte, is_name}
 use Rattle.text.specs.declared.lines.TheConstants.{LINE_BYTES}
-use Rattle.text.proofs.LineReadings.{by_words, by_hash, by_empty}
+use Rattle.text.proofs.Export.{by_words, by_hash, by_empty, own, numerals_are_decimals, split_to}
 use Rattle.loader.specs.Grammar.{is_path, ProgramLine, Meaning, Comment, Map, Program, array_meaning, hash_meaning, by_kind_of_map, map_meaning, mode_of, program_meaning, words_of, words_meaning, line_meaning}
 use Rattle.loader.specs.Spelling.{mode_word, Spells}
-use Rattle.text.proofs.Numbers.{own}
-use Rattle.text.proofs.Numerals.{numerals_are_decimals}
-use Rattle.text.proofs.Cuts.{split_to}
 use Rattle.text.specs.Fields.{is_space, has_no_space}
 
 small : (high n : ℕ) → n ≤ high → high < 2 ^ 64 → n < 2 ^ 64
@@ -56,26 +55,26 @@ pub mode_to : (m : Mode) → mode_of (mode_word m) ≡ Some m
 mode_to Update = refl
 mode_to Read = refl
 
-array_to : (v e : ℕ) → IsFrom 1 MAX_VALUE_BYTES v → IsFrom 1 MAX_ENTRIES e → array_meaning (decimal v ++ 32 ∷ decimal e) ≡ Some (Map (Array v e))
+array_to : (l : MapLimits) (v e : ℕ) → IsFrom 1 l.value v → IsFrom 1 l.entries e → AreLimits l → array_meaning l (decimal v ++ 32 ∷ decimal e) ≡ Some (Map (Array v e))
 unfolding array_meaning
-array_to v e hv he =
-    rw (split_to (decimal v) (decimal e) (no_space_in_number v (omega (arith, hv.1))), within 1 MAX_VALUE_BYTES v hv (omega arith), within 1 MAX_ENTRIES e he (omega arith)) refl
+array_to l v e hv he ok =
+    rw (split_to (decimal v) (decimal e) (no_space_in_number v (omega (arith, hv.1, ok.value))), within 1 l.value v hv (omega (arith, ok.value)), within 1 l.entries e he (omega (arith, ok.entries))) refl
 
-hash_to : (k v e : ℕ) → IsFrom 1 MAX_KEY_BYTES k → IsFrom 1 MAX_VALUE_BYTES v → IsFrom 1 MAX_ENTRIES e → hash_meaning (decimal k ++ 32 ∷ (decimal v ++ 32 ∷ decimal e)) ≡ Some (Map (Hash k v e))
+hash_to : (l : MapLimits) (k v e : ℕ) → IsFrom 1 l.key k → IsFrom 1 l.value v → IsFrom 1 l.entries e → AreLimits l → hash_meaning l (decimal k ++ 32 ∷ (decimal v ++ 32 ∷ decimal e)) ≡ Some (Map (Hash k v e))
 unfolding hash_meaning
-hash_to k v e hk hv he =
+hash_to l k v e hk hv he ok =
     rw (
-      split_to (decimal k) (decimal v ++ 32 ∷ decimal e) (no_space_in_number k (omega (arith, hk.1))),
-      split_to (decimal v) (decimal e) (no_space_in_number v (omega (arith, hv.1))),
-      within 1 MAX_KEY_BYTES k hk (omega arith),
-      within 1 MAX_VALUE_BYTES v hv (omega arith),
-      within 1 MAX_ENTRIES e he (omega arith),
+      split_to (decimal k) (decimal v ++ 32 ∷ decimal e) (no_space_in_number k (omega (arith, hk.1, ok.key.1))),
+      split_to (decimal v) (decimal e) (no_space_in_number v (omega (arith, hv.1, ok.value))),
+      within 1 l.key k hk (omega (arith, ok.key.1)),
+      within 1 l.value v hv (omega (arith, ok.value)),
+      within 1 l.entries e he (omega (arith, ok.entries)),
     ) refl
 
 -- a line of a map, by its second word
-map_to : (word rest : List ℕ) (x : Meaning) → has_no_space word ≡ true → by_kind_of_map word rest ≡ Some x → words_meaning (codes "map " ++ (word ++ 32 ∷ rest)) ≡ Some x
+map_to : (l : MapLimits) (word rest : List ℕ) (x : Meaning) → has_no_space word ≡ true → by_kind_of_map l word rest ≡ Some x → words_meaning l (codes "map " ++ (word ++ 32 ∷ rest)) ≡ Some x
 unfolding words_meaning words_of map_meaning
-map_to word rest x plain is =
+map_to l word rest x plain is =
     let first : split_at_space (codes "map" ++ 32 ∷ (word ++ 32 ∷ rest)) ≡ Some (codes "map", word ++ 32 ∷ rest) = split_to (codes "map") _ refl in
     let second : split_at_space (word ++ 32 ∷ rest) ≡ Some (word, rest) = split_to word rest plain in
     rw (first, second) is
@@ -96,30 +95,30 @@ fields_to p name len path =
       path,
     ) refl
 
-program_to : (p : ProgramLine) → is_name p.name ≡ true → p.arg_len ≤ MAX_ARG_LEN → is_path p.file ≡ true → words_meaning (codes "program " ++ fields p) ≡ Some (Program p)
+program_to : (l : MapLimits) (p : ProgramLine) → is_name p.name ≡ true → p.arg_len ≤ MAX_ARG_LEN → is_path p.file ≡ true → words_meaning l (codes "program " ++ fields p) ≡ Some (Program p)
 unfolding words_meaning words_of
-program_to p name len path =
+program_to l p name len path =
     let first : split_at_space (codes "program" ++ 32 ∷ fields p) ≡ Some (codes "program", fields p) = split_to (codes "program") _ refl in
     rw first (fields_to p name len path)
 
-of_words : (c : ℕ) (cs : List ℕ) (x : Meaning) → length (c ∷ cs) ≤ LINE_BYTES → eqb c 35 ≡ false → words_meaning (c ∷ cs) ≡ Some x → line_meaning (c ∷ cs) ≡ Some x
+of_words : (l : MapLimits) (c : ℕ) (cs : List ℕ) (x : Meaning) → length (c ∷ cs) ≤ LINE_BYTES → eqb c 35 ≡ false → words_meaning l (c ∷ cs) ≡ Some x → line_meaning l (c ∷ cs) ≡ Some x
 unfolding line_meaning
-of_words c cs x le other e = by_words Comment (words_meaning (c ∷ cs)) c cs le other ∙ e
+of_words l c cs x le other e = by_words Comment (words_meaning l (c ∷ cs)) c cs le other ∙ e
 
-comment_to : (cs : List ℕ) → length (35 ∷ cs) ≤ LINE_BYTES → line_meaning (35 ∷ cs) ≡ Some Comment
+comment_to : (l : MapLimits) (cs : List ℕ) → length (35 ∷ cs) ≤ LINE_BYTES → line_meaning l (35 ∷ cs) ≡ Some Comment
 unfolding line_meaning
-comment_to cs le = by_hash Comment (words_meaning (35 ∷ cs)) cs le
+comment_to l cs le = by_hash Comment (words_meaning l (35 ∷ cs)) cs le
 
-empty_to : line_meaning [] ≡ Some Comment
+empty_to : (l : MapLimits) → line_meaning l [] ≡ Some Comment
 unfolding line_meaning
-empty_to = by_empty Comment (words_meaning [])
+empty_to l = by_empty Comment (words_meaning l [])
 
-pub respelled : (line : List ℕ) (x : Meaning) → length line ≤ LINE_BYTES → Spells x line → line_meaning line ≡ Some x
-respelled line Comment le (inl empty) = subst (λ l. line_meaning l ≡ Some Comment) (sym empty) empty_to
-respelled line Comment le (inr (rest, whole)) = subst (λ l. length l ≤ LINE_BYTES → line_meaning l ≡ Some Comment) (sym whole) (comment_to rest) le
-respelled line (Map (Array v e)) le h =
-    subst (λ l. length l ≤ LINE_BYTES → line_meaning l ≡ Some (Map (Array v e))) (sym h.0) (λ s. of_words _ _ _ s refl (map_to (codes "array") _ _ refl (array_to v e h.1 h.2))) le
-respelled line (Map (Hash k v e)) le h =
-    subst (λ l. length l ≤ LINE_BYTES → line_meaning l ≡ Some (Map (Hash k v e))) (sym h.0) (λ s. of_words _ _ _ s refl (map_to (codes "hash") _ _ refl (hash_to k v e h.1 h.2 h.3))) le
-respelled line (Program p) le h =
-    subst (λ l. length l ≤ LINE_BYTES → line_meaning l ≡ Some (Program p)) (sym h.0) (λ s. of_words _ _ _ s refl (program_to p h.1 h.2 h.3)) le
+pub respelled : (l : MapLimits) (line : List ℕ) (x : Meaning) → AreLimits l → length line ≤ LINE_BYTES → Spells l x line → line_meaning l line ≡ Some x
+respelled l line Comment ok le (inl empty) = subst (λ y. line_meaning l y ≡ Some Comment) (sym empty) (empty_to l)
+respelled l line Comment ok le (inr (rest, whole)) = subst (λ y. length y ≤ LINE_BYTES → line_meaning l y ≡ Some Comment) (sym whole) (comment_to l rest) le
+respelled l line (Map (Array v e)) ok le h =
+    subst (λ y. length y ≤ LINE_BYTES → line_meaning l y ≡ Some (Map (Array v e))) (sym h.0) (λ s. of_words l _ _ _ s refl (map_to l (codes "array") _ _ refl (array_to l v e h.1 h.2 ok))) le
+respelled l line (Map (Hash k v e)) ok le h =
+    subst (λ y. length y ≤ LINE_BYTES → line_meaning l y ≡ Some (Map (Hash k v e))) (sym h.0) (λ s. of_words l _ _ _ s refl (map_to l (codes "hash") _ _ refl (hash_to l k v e h.1 h.2 h.3 ok))) le
+respelled l line (Program p) ok le h =
+    subst (λ y. length y ≤ LINE_BYTES → line_meaning l y ≡ Some (Program p)) (sym h.0) (λ s. of_words l _ _ _ s refl (program_to l p h.1 h.2 h.3)) le

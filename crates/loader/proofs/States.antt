@@ -2,12 +2,12 @@
 use Rattle.std.proofs.Common.{◌≡◌, ◌≤◌, List, [], ◌∷◌, refl, ap, arith}
 use Rattle.std.proofs.lemmas.List.Elements.{All-nil}
 use Rattle.maps.specs.declared.shapes.Shape.{Shape}
-use Rattle.maps.specs.Shapes.{AreShapesOk}
+use Rattle.maps.specs.Shapes.{AreShapesSupported}
 use Rattle.maps.specs.Maps.{shapes_of}
 use Rattle.maps.specs.MapSets.{opening_maps}
-use Rattle.maps.proofs.OpeningShapes.{opening_shapes}
+use Rattle.maps.proofs.Export.{opening_shapes}
 use Rattle.verifier.specs.Accepted.{Checked, IsAccepted}
-use Rattle.loader.specs.declared.installed.TheConstants.{MAX_PLACES}
+use Rattle.loader.specs.declared.installed.TheConstants.{MOST_SPARE}
 use Rattle.loader.specs.Installed.{IsShort}
 use Rattle.loader.specs.StoreState.{StoreState, StateSizes, sizes_of, IsState, opened_state}
 
@@ -20,7 +20,7 @@ pub state_sizes : {z : StateSizes} {s : StoreState} → IsState z s → sizes_of
 state_sizes h i = record { shapes = h.maps.same i; places = h.places i }
 
 -- a new state has the sizes that it was opened with
-pub opened_is_state : (z : StateSizes) → AreShapesOk z.shapes → z.places ≤ MAX_PLACES → IsState z (opened_state z)
+pub opened_is_state : (z : StateSizes) → AreShapesSupported z.shapes → z.places ≤ MOST_SPARE → IsState z (opened_state z)
 opened_is_state z shapes limit = record {
   maps = opening_shapes z.shapes shapes;
   places = refl;

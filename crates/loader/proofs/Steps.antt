@@ -1,8 +1,9 @@
 -- What is kept from line to line.
+use Rattle.maps.specs.declared.shapes.MapLimits.{MapLimits}
 use Rattle.std.proofs.Common.{◌≡◌, ℕ, ◌<◌, ◌≤◌, Bool, true, false, cond, eqb, ltb, ◌||◌, List, [], ◌∷◌, ◌++◌, length, bytes_eq, Option, Some, None, Result, Ok, Err, refl, sym, ap, subst, arith}
 use Rattle.std.specs.Prelude.{IfSome}
 use Rattle.std.specs.List.{All, IsDistinct, list_any}
-use Rattle.std.proofs.lemmas.Bool.{ltb-true, ltb-false, eqb-false}
+use Rattle.std.proofs.lemmas.Bool.{le-leb, ltb-true, ltb-false, eqb-false}
 use Rattle.std.proofs.lemmas.List.{length_push, map-append, nil_from_length}
 use Rattle.loader.specs.declared.refusals.LoadFault.{LoadFault}
 use Rattle.loader.specs.declared.refusals.LoadFault.TheVariants as faults
@@ -10,7 +11,7 @@ use Rattle.maps.specs.declared.shapes.Shape.{Shape}
 use Rattle.maps.specs.declared.shapes.TheConstants.{MAX_ARG_LEN}
 use Rattle.verifier.specs.Accepted.{IsAccepted}
 use Rattle.loader.specs.Grammar.{ProgramLine, Meaning, Comment, Map, Program, line_meaning}
-use Rattle.maps.specs.Shapes.{IsShapeOk, AreShapesOk}
+use Rattle.maps.specs.Shapes.{IsShapeWithin, AreShapesSupported, AreLimits}
 use Rattle.std.proofs.lemmas.List.Elements.{All-push}
 use Rattle.loader.specs.CatalogueView.{Entry, CatalogueView, IsCatalogue, AreAccepted, AreFor, names_of, sizes_for}
 use Rattle.loader.specs.StoreState.{IsState}
@@ -47,22 +48,22 @@ distinct_push (x ∷ xs) y apart new =
     let both = neither (bytes_eq x y) (list_any (λ n. bytes_eq n y) xs) new in
     (all_push (λ n. bytes_eq x n ≡ false) xs y apart.0 both.0, distinct_push xs y apart.1 both.1)
 
-map_within : (s : Shape) (line : List ℕ) → Spells (Map s) line → IsShapeOk s
-map_within (Array v e) line h = record { key = (omega arith, omega arith); value = h.1; entries = h.2 }
-map_within (Hash k v e) line h = record { key = h.1; value = h.2; entries = h.3 }
+map_within : (l : MapLimits) (s : Shape) (line : List ℕ) → AreLimits l → Spells l (Map s) line → IsShapeWithin l s
+map_within l (Array v e) line ok h = let key = ok.key in record { key = (omega arith, key.0); value = h.1; entries = h.2 }
+map_within l (Hash k v e) line ok h = record { key = h.1; value = h.2; entries = h.3 }
 
-program_within : (p : ProgramLine) (line : List ℕ) → Spells (Program p) line → p.arg_len ≤ MAX_ARG_LEN
-program_within p line h = h.2
+program_within : (l : MapLimits) (p : ProgramLine) (line : List ℕ) → Spells l (Program p) line → p.arg_len ≤ MAX_ARG_LEN
+program_within l p line h = h.2
 
 no_programs : {X : Type 0} (ps : List X) → ltb 0 (length ps) ≡ false → ps ≡ []
 no_programs ps e = nil_from_length ps (omega (arith, ltb-false 0 (length ps) e))
 
-pub after_map : (v : CatalogueView) (s : Shape) (w : CatalogueView) → with_map v s ≡ Ok w
-    → (v.programs ≡ []) × (are_few (v.shapes ++ s ∷ []) ≡ true) × (record v { shapes = v.shapes ++ s ∷ [] } ≡ w)
+pub after_map : (l : MapLimits) (v : CatalogueView) (s : Shape) (w : CatalogueView) → with_map l v s ≡ Ok w
+    → (v.programs ≡ []) × (are_few l (v.shapes ++ s ∷ []) ≡ true) × (record v { shapes = v.shapes ++ s ∷ [] } ≡ w)
 unfolding with_map
-after_map v s w e =
+after_map l v s w e =
     let first = unless (ltb 0 (length v.programs)) faults.BadLine _ w e in
-    let second = where_true (are_few (v.shapes ++ s ∷ [])) faults.TooMany _ w first.1 in
+    let second = where_true (are_few l (v.shapes ++ s ∷ [])) faults.TooMany _ w first.1 in
     (no_programs v.programs first.0, second.0, second.1)
 
 pub record IsAfterProgram (fs : Files) (v : CatalogueView) (p : ProgramLine) (w : CatalogueView) : Type 0 where
@@ -85,10 +86,11 @@ after_program fs v p w e =
 none_at_all : {X : Type 0} (P : X → Type 0) → All P []
 none_at_all P k d lt = absurd (omega (arith, lt))
 
-with_one_map : (v : CatalogueView) (s : Shape) → IsPartial v → IsShapeOk s → v.programs ≡ [] → are_few (v.shapes ++ s ∷ []) ≡ true → IsPartial (record v { shapes = v.shapes ++ s ∷ [] })
-with_one_map v s so_far within none few =
+with_one_map : (l : MapLimits) (v : CatalogueView) (s : Shape) → IsPartial l v → IsShapeWithin l s → v.programs ≡ [] → are_few l (v.shapes ++ s ∷ []) ≡ true → IsPartial l (record v { shapes = v.shapes ++ s ∷ [] })
+with_one_map l v s so_far within none few =
     record {
-      within = All-push IsShapeOk v.shapes s so_far.within within;
+      limits = so_far.limits;
+      within = All-push (IsShapeWithin l) v.shapes s so_far.within within;
       few_maps = few;
       accepted = subst (AreFor (v.shapes ++ s ∷ [])) (sym none) (none_at_all (λ e. e.checked.shapes ≡ v.shapes ++ s ∷ []));
       checked = subst AreAccepted (sym none) (none_at_all (λ e. IsAccepted e.checked));
@@ -98,14 +100,15 @@ with_one_map v s so_far within none few =
       no_opening = so_far.no_opening;
     }
 
-with_one_program : (fs : Files) (v : CatalogueView) (p : ProgramLine) (w : CatalogueView) → IsPartial v → p.arg_len ≤ MAX_ARG_LEN → (a : IsAfterProgram fs v p w) → IsPartial (record v { programs = v.programs ++ a.entry ∷ [] })
-with_one_program fs v p w so_far fits a =
+with_one_program : (l : MapLimits) (fs : Files) (v : CatalogueView) (p : ProgramLine) (w : CatalogueView) → IsPartial l v → p.arg_len ≤ MAX_ARG_LEN → (a : IsAfterProgram fs v p w) → IsPartial l (record v { programs = v.programs ++ a.entry ∷ [] })
+with_one_program l fs v p w so_far fits a =
     let is = entry_from fs v.shapes p a.entry a.read in
     let some : 0 < length v.shapes = omega (arith, eqb-false _ _ a.some_map) in
-    let good : AreShapesOk v.shapes = shapes_are_ok v.shapes some so_far.within so_far.few_maps in
+    let good : AreShapesSupported v.shapes = shapes_are_ok l v.shapes so_far.limits some so_far.within so_far.few_maps in
     let new : list_any (λ n. bytes_eq n a.entry.name) (names_of v.programs) ≡ false = subst (λ m. list_any (λ n. bytes_eq n m) (names_of v.programs) ≡ false) (sym is.name) a.new in
     let names : names_of (v.programs ++ a.entry ∷ []) ≡ names_of v.programs ++ a.entry.name ∷ [] = map-append (λ e. e.name) v.programs (a.entry ∷ []) in
     record {
+      limits = so_far.limits;
       within = so_far.within;
       few_maps = so_far.few_maps;
       accepted = All-push (λ e. e.checked.shapes ≡ v.shapes) v.programs a.entry so_far.accepted (ap (λ x. x.shapes) is.checked_for);
@@ -120,24 +123,24 @@ inside_ok : (v w : CatalogueView) → same_result (Ok v) (Ok w) → v ≡ w
 inside_ok v w e = cc
 
 -- what is kept from line to line
-pub stays : (fs : Files) (v : CatalogueView) (line : List ℕ) (w : CatalogueView) → IsPartial v → after_line fs v line ≡ Ok w → IsPartial w
+pub stays : (l : MapLimits) (fs : Files) (v : CatalogueView) (line : List ℕ) (w : CatalogueView) → IsPartial l v → after_line l fs v line ≡ Ok w → IsPartial l w
 unfolding after_line
-stays fs v line w so_far e = by_meaning (line_meaning line) refl e
+stays l fs v line w so_far e = by_meaning (line_meaning l line) refl e
   where
-    by_meaning : (o : Option Meaning) → line_meaning line ≡ o → after_meaning fs v o ≡ Ok w → IsPartial w
+    by_meaning : (o : Option Meaning) → line_meaning l line ≡ o → after_meaning l fs v o ≡ Ok w → IsPartial l w
     by_meaning None is e = absurd cc
-    by_meaning (Some Comment) is e = subst IsPartial (inside_ok v w e) so_far
+    by_meaning (Some Comment) is e = subst (IsPartial l) (inside_ok v w e) so_far
     by_meaning (Some (Map s)) is e =
-        let a = after_map v s w e in
-        subst IsPartial a.2 (with_one_map v s so_far (map_within s line (spelled line (Map s) is).1) a.0 a.1)
+        let a = after_map l v s w e in
+        subst (IsPartial l) a.2 (with_one_map l v s so_far (map_within l s line so_far.limits (spelled l line (Map s) is).1) a.0 a.1)
     by_meaning (Some (Program p)) is e =
         let a = after_program fs v p w e in
-        subst IsPartial a.same (with_one_program fs v p w so_far (program_within p line (spelled line (Program p) is).1) a)
+        subst (IsPartial l) a.same (with_one_program l fs v p w so_far (program_within l p line (spelled l line (Program p) is).1) a)
 
-pub is_catalogue : (v : CatalogueView) → IsPartial v → 0 < length v.shapes → IsCatalogue v
-is_catalogue v so_far some =
+pub is_catalogue : (l : MapLimits) (v : CatalogueView) → IsPartial l v → 0 < length v.shapes → IsCatalogue v
+is_catalogue l v so_far some =
     record {
-      shapes = shapes_are_ok v.shapes some so_far.within so_far.few_maps;
+      shapes = shapes_are_ok l v.shapes so_far.limits some so_far.within so_far.few_maps;
       accepted = so_far.accepted;
       checked = so_far.checked;
       distinct = so_far.distinct;
@@ -146,6 +149,6 @@ is_catalogue v so_far some =
       opening = subst (λ o. IfSome o (IsState (sizes_for v))) (sym so_far.no_opening) tt;
     }
 
-pub nothing_partial : IsPartial (record { shapes = []; programs = []; places = 0; opening = None })
+pub nothing_partial : (l : MapLimits) → AreLimits l → IsPartial l (record { shapes = []; programs = []; places = 0; opening = None })
 unfolding IsDistinct
-nothing_partial = record { within = none_at_all IsShapeOk; few_maps = refl; accepted = none_at_all (λ e. e.checked.shapes ≡ []); checked = none_at_all (λ e. IsAccepted e.checked); distinct = tt; few = omega arith; no_places = refl; no_opening = refl }
+nothing_partial l ok = record { limits = ok; within = none_at_all (IsShapeWithin l); few_maps = le-leb 0 l.bytes (omega arith); accepted = none_at_all (λ e. e.checked.shapes ≡ []); checked = none_at_all (λ e. IsAccepted e.checked); distinct = tt; few = omega arith; no_places = refl; no_opening = refl }

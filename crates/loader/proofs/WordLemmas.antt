@@ -7,7 +7,7 @@ use Rattle.std.proofs.lemmas.List.Sums.{suffix_len_is, AllPass-from_list_all}
 use Rattle.std.proofs.lemmas.Slice.Eq.{bytes_eq-Decides}
 use Rattle.std.proofs.Math.Seq.{get_or-append-add, get_or-append_seam, drop-append-add}
 use Rattle.text.specs.Fields.{is_space, has_no_space, split_at_space}
-use Rattle.text.proofs.Cuts.{steps, split_from}
+use Rattle.text.proofs.Export.{steps, split_from}
 use Rattle.loader.specs.declared.grammar.FirstWord.{FirstWord}
 use Rattle.loader.specs.declared.grammar.FirstWord.TheVariants as words
 use Rattle.loader.specs.Grammar.{first_word, words_of}

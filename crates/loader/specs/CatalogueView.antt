@@ -3,10 +3,10 @@ use Rattle.std.specs.Prelude.{◌≡◌, ℕ, ◌≤◌, List, length, map, Opti
 use Rattle.std.specs.Borrow.{Bor}
 use Rattle.std.specs.List.{All, IsDistinct, position_from}
 use Rattle.maps.specs.declared.shapes.Shape.{Shape}
-use Rattle.maps.specs.Shapes.{AreShapesOk}
+use Rattle.maps.specs.Shapes.{AreShapesSupported}
 use Rattle.maps.specs.Maps.{shapes_of}
 use Rattle.verifier.specs.Accepted.{Checked, IsAccepted}
-use Rattle.loader.specs.declared.installed.TheConstants.{MAX_PLACES}
+use Rattle.loader.specs.declared.installed.TheConstants.{MOST_SPARE}
 use Rattle.loader.specs.declared.loading.TheConstants.{MAX_PROGRAMS}
 use Rattle.loader.specs.StoreState.{StoreState, StateSizes, IsState, opened_state, with_room}
 
@@ -23,7 +23,7 @@ pub record CatalogueView : Type 0 where
   pub places : ℕ
   pub opening : Option StoreState
 
--- the same, behind whose programs so many may be installed, and whose stores open on a new state
+-- the catalogue with `places` places for installed programs, so that its stores open on a new state
 abbrev pub with_places : CatalogueView → ℕ → CatalogueView
 with_places c places = record c { places = places; opening = None }
 
@@ -33,7 +33,7 @@ sizes_for c = record { shapes = c.shapes; places = c.places }
 
 -- ---- what a store opens on
 
--- this state, or a new one
+-- the state, or a new one if there is none
 abbrev pub or_new : StateSizes → Option StoreState → StoreState
 or_new z None = opened_state z
 or_new z (Some s) = s
@@ -47,7 +47,7 @@ pub record MayOpenOn (c : CatalogueView) (s : StoreState) : Type 0 where
   pub shapes : shapes_of s.maps ≡ c.shapes
   pub few : length s.programs ≤ c.places
 
--- the same catalogue, of which a store opens on this state
+-- the catalogue, except that its stores open on this state
 abbrev pub opened_on : CatalogueView → StoreState → CatalogueView
 opened_on c s = record c { opening = Some (with_room s c.places) }
 
@@ -69,15 +69,15 @@ AreFor shapes entries = All (λ e. e.checked.shapes ≡ shapes) entries
 abbrev pub AreAccepted : List Entry → Type 0
 AreAccepted entries = All (λ e. IsAccepted e.checked) entries
 
--- a store may have these maps, each program was accepted, and for them, no name stands twice, there are at most 256 programs, and 16 places
+-- a store may have these maps, each program was accepted, and for them, no name stands twice, there are at most 256 programs, and 4,096 places
 -- behind them, and a store may open on what it opens on
 pub record IsCatalogue (c : CatalogueView) : Type 0 where
-  pub shapes : AreShapesOk c.shapes
+  pub shapes : AreShapesSupported c.shapes
   pub accepted : AreFor c.shapes c.programs
   pub checked : AreAccepted c.programs
   pub distinct : IsDistinct bytes_eq (names_of c.programs)
   pub few : length c.programs ≤ MAX_PROGRAMS
-  pub few_places : c.places ≤ MAX_PLACES
+  pub few_places : c.places ≤ MOST_SPARE
   pub opening : IfSome c.opening (IsState (sizes_for c))
 
 -- the number of the first program of this name, from 0

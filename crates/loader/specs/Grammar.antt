@@ -10,7 +10,8 @@ use Rattle.text.specs.Fields.{split_at_space}
 use Rattle.text.specs.Words.{◌>>=◌, number_within, is_name}
 use Rattle.loader.specs.declared.grammar.FirstWord.{FirstWord}
 use Rattle.loader.specs.declared.grammar.FirstWord.TheVariants as words
-use Rattle.maps.specs.declared.shapes.TheConstants.{MAX_ARG_LEN, MAX_KEY_BYTES, MAX_VALUE_BYTES, MAX_ENTRIES}
+use Rattle.maps.specs.declared.shapes.TheConstants.{MAX_ARG_LEN}
+use Rattle.maps.specs.declared.shapes.MapLimits.{MapLimits}
 use Rattle.loader.specs.declared.paths.TheConstants.{PATH_BYTES}
 
 -- a printable character of ASCII, but no space
@@ -35,34 +36,34 @@ pub data Meaning : Type 0 where
   Program : ProgramLine → Meaning
 
 -- VALUE ENTRIES
-unfoldable pub array_meaning : List ℕ → Option Meaning
-array_meaning text = do
+unfoldable pub array_meaning : MapLimits → List ℕ → Option Meaning
+array_meaning l text = do
   value ← split_at_space text
-  size ← number_within 1 MAX_VALUE_BYTES value.0
-  entries ← number_within 1 MAX_ENTRIES value.1
+  size ← number_within 1 l.value value.0
+  entries ← number_within 1 l.entries value.1
   Some (Map (shapes.Array size entries))
 
 -- KEY VALUE ENTRIES
-unfoldable pub hash_meaning : List ℕ → Option Meaning
-hash_meaning text = do
+unfoldable pub hash_meaning : MapLimits → List ℕ → Option Meaning
+hash_meaning l text = do
   key ← split_at_space text
   value ← split_at_space key.1
-  bytes ← number_within 1 MAX_KEY_BYTES key.0
-  size ← number_within 1 MAX_VALUE_BYTES value.0
-  entries ← number_within 1 MAX_ENTRIES value.1
+  bytes ← number_within 1 l.key key.0
+  size ← number_within 1 l.value value.0
+  entries ← number_within 1 l.entries value.1
   Some (Map (shapes.Hash bytes size entries))
 
-abbrev pub by_kind_of_map : List ℕ → List ℕ → Option Meaning
-by_kind_of_map kind rest =
-    if bytes_eq kind (codes "array") then array_meaning rest
-    else if bytes_eq kind (codes "hash") then hash_meaning rest
+abbrev pub by_kind_of_map : MapLimits → List ℕ → List ℕ → Option Meaning
+by_kind_of_map l kind rest =
+    if bytes_eq kind (codes "array") then array_meaning l rest
+    else if bytes_eq kind (codes "hash") then hash_meaning l rest
     else None
 
 -- array VALUE ENTRIES, or hash KEY VALUE ENTRIES
-unfoldable pub map_meaning : List ℕ → Option Meaning
-map_meaning text = do
+unfoldable pub map_meaning : MapLimits → List ℕ → Option Meaning
+map_meaning l text = do
   kind ← split_at_space text
-  by_kind_of_map kind.0 kind.1
+  by_kind_of_map l kind.0 kind.1
 
 abbrev pub mode_of : List ℕ → Option Mode
 mode_of text =
@@ -93,16 +94,16 @@ words_of line = do
   w ← split_at_space line
   Some (first_word w.0, w.1)
 
-abbrev pub by_first_word : FirstWord → List ℕ → Option Meaning
-by_first_word words.Map rest = map_meaning rest
-by_first_word words.Program rest = program_meaning rest
-by_first_word words.Other rest = None
+abbrev pub by_first_word : MapLimits → FirstWord → List ℕ → Option Meaning
+by_first_word l words.Map rest = map_meaning l rest
+by_first_word l words.Program rest = program_meaning rest
+by_first_word l words.Other rest = None
 
-unfoldable pub words_meaning : List ℕ → Option Meaning
-words_meaning line = do
+unfoldable pub words_meaning : MapLimits → List ℕ → Option Meaning
+words_meaning l line = do
   w ← words_of line
-  by_first_word w.0 w.1
+  by_first_word l w.0 w.1
 
 -- a line over 512 bytes is bad whatever it holds; an empty line and one that begins with # say nothing
-unfoldable pub line_meaning : List ℕ → Option Meaning
-line_meaning line = by_kind Comment (words_meaning line) (kind_of line)
+unfoldable pub line_meaning : MapLimits → List ℕ → Option Meaning
+line_meaning l line = by_kind Comment (words_meaning l line) (kind_of line)

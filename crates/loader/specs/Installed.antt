@@ -7,7 +7,7 @@ use Rattle.insn.specs.declared.decoding.TheConstants.{MAX_INSTALLED_SLOTS}
 use Rattle.insn.specs.Decoded.{decoded}
 use Rattle.insn.specs.Layout.{size}
 use Rattle.maps.specs.declared.shapes.Shape.{Shape}
-use Rattle.maps.specs.Shapes.{AreShapesOk}
+use Rattle.maps.specs.Shapes.{AreShapesSupported}
 use Rattle.verifier.specs.declared.refusal.Mode.{Mode}
 use Rattle.verifier.specs.declared.refusal.Refused.{Refused}
 use Rattle.verifier.specs.Signature.{signature}
@@ -15,7 +15,7 @@ use Rattle.verifier.specs.Accepted.{Checked, checked, IsAccepted}
 use Rattle.verifier.specs.Verdict.{verdict}
 use Rattle.loader.specs.declared.installed.InstallRefusal.{InstallRefusal}
 use Rattle.loader.specs.declared.installed.InstallRefusal.TheVariants.{Decode, Verify}
-use Rattle.loader.specs.declared.installed.TheConstants.{MAX_PLACES}
+use Rattle.loader.specs.declared.installed.TheConstants.{MOST_SPARE}
 
 -- programs that were installed behind a catalogue's, in order, for maps of these shapes, and how many there may be
 pub record InstalledView : Type 0 where
@@ -37,12 +37,12 @@ IsShort c = size c.program ≤ MAX_INSTALLED_SLOTS
 
 -- a store may have these maps; each program was accepted, for these maps, and is short; there are no more than there may be
 pub record IsInstalled (v : InstalledView) : Type 0 where
-  pub shapes : AreShapesOk v.shapes
+  pub shapes : AreShapesSupported v.shapes
   pub accepted : All (λ c. c.shapes ≡ v.shapes) v.programs
   pub checked : All IsAccepted v.programs
   pub short : All IsShort v.programs
   pub few : length v.programs ≤ v.places
-  pub limit : v.places ≤ MAX_PLACES
+  pub limit : v.places ≤ MOST_SPARE
 
 -- ---- what bytes are installed as
 

@@ -11,9 +11,10 @@ pub mod Installed
 -- What operations change.
 pub mod StoreState
 pub mod Codes
--- The same as functions, line by line, which laws tie to those: the crates above cite them.
+-- Loading as functions, line by line, which the crates above cite. Laws prove that they agree with the definitions above.
 pub mod Loading
 pub mod Spelling
+pub mod Wider
 -- What is kept of the lines before the one that is read.
 pub mod LineShown
 pub mod PartialView

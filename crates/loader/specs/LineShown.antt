@@ -1,7 +1,8 @@
 -- What a line that was read means, without where its text lies. Clauses of private functions alone cite this.
 use Rattle.std.specs.Prelude.{◌≤◌, length}
 use Rattle.text.specs.declared.words.TheConstants.{NAME_BYTES}
-use Rattle.maps.specs.Shapes.{IsShapeOk}
+use Rattle.maps.specs.declared.shapes.MapLimits.{MapLimits}
+use Rattle.maps.specs.Shapes.{IsShapeWithin}
 use Rattle.maps.specs.declared.shapes.TheConstants.{MAX_ARG_LEN}
 use Rattle.loader.specs.declared.grammar.ProgramLine.{ProgramLine as TheLine}
 use Rattle.loader.specs.declared.grammar.Line.{Line}
@@ -17,7 +18,7 @@ meaning_of (lines.Map shape) = Map shape
 meaning_of (lines.Program p) = Program (program_of p)
 
 -- what a line names is within its limits
-abbrev pub LineFits : Line → Type 0
-LineFits lines.Comment = Unit {0}
-LineFits (lines.Map shape) = IsShapeOk shape
-LineFits (lines.Program p) = (p.arg_len ≤ MAX_ARG_LEN) × (length p.name.now ≤ NAME_BYTES)
+abbrev pub LineFits : MapLimits → Line → Type 0
+LineFits l lines.Comment = Unit {0}
+LineFits l (lines.Map shape) = IsShapeWithin l shape
+LineFits l (lines.Program p) = (p.arg_len ≤ MAX_ARG_LEN) × (length p.name.now ≤ NAME_BYTES)

@@ -1,4 +1,5 @@
 -- The files that a manifest names.
+use Rattle.maps.specs.declared.shapes.MapLimits.{MapLimits}
 use Rattle.std.specs.Prelude.{◌≡◌, ◌⊎◌, ℕ, true, List, ◌∷◌, ◌++◌, Option, Some, None, codes}
 use Rattle.std.specs.List.{All, Any, Contains, after_last, filter_map}
 use Rattle.text.specs.Fields.{is_space, has_no_space}
@@ -8,7 +9,7 @@ use Rattle.loader.specs.declared.grammar.FirstWord.{FirstWord}
 use Rattle.loader.specs.declared.grammar.FirstWord.TheVariants as words
 use Rattle.loader.specs.Grammar.{words_of}
 use Rattle.loader.specs.ProgramFiles.{Files, file_named}
-use Rattle.loader.specs.Loading.{loaded}
+use Rattle.loader.specs.Loading.{loaded_within}
 
 -- what stands behind the last space
 abbrev pub last_word : List ℕ → List ℕ
@@ -37,7 +38,7 @@ AreAlike names files others = All (λ name. file_named files name ≡ file_named
 
 -- the loading asks for the files that are listed alone: what else is handed in changes nothing
 abbrev pub NamesAreFiles : Type 0
-NamesAreFiles = (text : List ℕ) (files others : Files) → AreAlike (named_in text) files others → loaded text files ≡ loaded text others
+NamesAreFiles = (l : MapLimits) (text : List ℕ) (files others : Files) → AreAlike (named_in text) files others → loaded_within l text files ≡ loaded_within l text others
 
 -- the line begins with the word program, and this is its last word
 pub record IsProgramLine (name line : List ℕ) : Type 0 where

@@ -8,7 +8,7 @@ use Rattle.loader.specs.CatalogueView.{Entry, number_named}
 abbrev pub IsNumbering : {Y : Type 0} → BTreeMap (String Y) ℕ → List Entry → Type 0
 IsNumbering numbers programs = (name : List ℕ) → get_by_text numbers name ≡ number_named programs name
 
--- the same where the programs begin with number k
+-- `IsNumbering`, but the programs begin with number k
 abbrev pub IsNumberingFrom : {Y : Type 0} → ℕ → BTreeMap (String Y) ℕ → List Entry → Type 0
 IsNumberingFrom k numbers programs = (name : List ℕ) → get_by_text numbers name ≡ position_from (λ e. bytes_eq e.name name) k programs
 

@@ -9,12 +9,14 @@ use Rattle.loader.specs.declared.loading.TheConstants.{MAX_PROGRAMS}
 use Rattle.text.specs.Digits.{spaced_bytes}
 use Rattle.insn.specs.Refusal.{Decodes}
 use Rattle.maps.specs.declared.shapes.Shape.{Shape}
+use Rattle.maps.specs.declared.shapes.MapLimits.{MapLimits}
+use Rattle.maps.specs.Shapes.{AreLimits}
 use Rattle.verifier.specs.Signature.{signature}
 use Rattle.verifier.specs.Typing.{IsTypable}
 use Rattle.verifier.specs.Accepted.{checked}
 use Rattle.loader.specs.CatalogueView.{Entry, CatalogueView, names_of}
 use Rattle.loader.specs.ProgramFiles.{Files, file_named}
-use Rattle.loader.specs.Loading.{are_few, after_line, loaded}
+use Rattle.loader.specs.Loading.{are_few, after_line, loaded_within}
 
 -- neither a comment nor an empty line
 abbrev pub says_something : Meaning → Bool
@@ -37,50 +39,50 @@ pub record IsEntryFor (files : Files) (shapes : List Shape) (line : ProgramLine)
   pub typable : IsTypable e.checked.program (signature shapes line.arg_len line.mode)
 
 -- these lines are the catalogue's maps and then its programs, beside comments and empty lines; it has no places, and opens on a new state
-pub record Offers (files : Files) (lines : List (List ℕ)) (c : CatalogueView) : Type 0 where
+pub record Offers (l : MapLimits) (files : Files) (lines : List (List ℕ)) (c : CatalogueView) : Type 0 where
   pub meanings : List Meaning
-  pub each : map line_meaning lines ≡ map Some meanings
+  pub each : map (line_meaning l) lines ≡ map Some meanings
   pub programs : List ProgramLine
   pub in_order : filter says_something meanings ≡ map Map c.shapes ++ map Program programs
   pub checked : AllZip (IsEntryFor files c.shapes) programs c.programs
   pub some_map : 0 < length programs → 0 < length c.shapes
-  pub few_maps : are_few c.shapes ≡ true
+  pub few_maps : are_few l c.shapes ≡ true
   pub distinct : IsDistinct bytes_eq (names_of c.programs)
   pub few_programs : length c.programs ≤ MAX_PROGRAMS
   pub no_places : c.places ≡ 0
   pub no_opening : c.opening ≡ None
 
 -- a manifest offers a catalogue of at least one map
-abbrev pub IsOffered : List ℕ → Files → CatalogueView → Type 0
-IsOffered text files c = Offers files (lines_of text) c × (0 < length c.shapes)
+abbrev pub IsOffered : MapLimits → List ℕ → Files → CatalogueView → Type 0
+IsOffered l text files c = Offers l files (lines_of text) c × (0 < length c.shapes)
 
 -- the lines before this one are good, and this one is not, for this reason
-pub record IsFirstBad (files : Files) (lines : List (List ℕ)) (e : LoadRefusal) : Type 0 where
+pub record IsFirstBad (l : MapLimits) (files : Files) (lines : List (List ℕ)) (e : LoadRefusal) : Type 0 where
   pub before : List (List ℕ)
   pub line : List ℕ
   pub rest : List (List ℕ)
   pub split : lines ≡ before ++ line ∷ rest
   pub so_far : CatalogueView
-  pub good : Offers files before so_far
-  pub bad : after_line files so_far line ≡ Err e.why
+  pub good : Offers l files before so_far
+  pub bad : after_line l files so_far line ≡ Err e.why
   pub number : e.line ≡ next_line (length before)
 
 -- all lines are good, and none is a map
-pub record HasNoMap (files : Files) (lines : List (List ℕ)) (e : LoadRefusal) : Type 0 where
+pub record HasNoMap (l : MapLimits) (files : Files) (lines : List (List ℕ)) (e : LoadRefusal) : Type 0 where
   pub so_far : CatalogueView
-  pub good : Offers files lines so_far
+  pub good : Offers l files lines so_far
   pub none : so_far.shapes ≡ []
   pub why : e.why ≡ faults.BadLine
   pub number : e.line ≡ next_line (length lines)
 
 -- the manifest is refused at this line for this reason
-abbrev pub IsRefused : List ℕ → Files → LoadRefusal → Type 0
-IsRefused text files e = IsFirstBad files (lines_of text) e ⊎ HasNoMap files (lines_of text) e
+abbrev pub IsRefused : MapLimits → List ℕ → Files → LoadRefusal → Type 0
+IsRefused l text files e = IsFirstBad l files (lines_of text) e ⊎ HasNoMap l files (lines_of text) e
 
 -- what is loaded is what the manifest offers, and nothing else
 abbrev pub LoadedIsOffered : Type 0
-LoadedIsOffered = (text : List ℕ) (files : Files) (c : CatalogueView) → (loaded text files ≡ Ok c) ↔ IsOffered text files c
+LoadedIsOffered = (l : MapLimits) (text : List ℕ) (files : Files) (c : CatalogueView) → AreLimits l → (loaded_within l text files ≡ Ok c) ↔ IsOffered l text files c
 
 -- what is refused is refused at the first bad line
 abbrev pub RefusedIsFirstBad : Type 0
-RefusedIsFirstBad = (text : List ℕ) (files : Files) (e : LoadRefusal) → (loaded text files ≡ Err e) ↔ IsRefused text files e
+RefusedIsFirstBad = (l : MapLimits) (text : List ℕ) (files : Files) (e : LoadRefusal) → AreLimits l → (loaded_within l text files ≡ Err e) ↔ IsRefused l text files e

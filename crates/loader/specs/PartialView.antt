@@ -4,7 +4,8 @@ use Rattle.std.specs.List.{All, IsDistinct}
 use Rattle.loader.specs.declared.loading.PartialCatalogue.{PartialCatalogue}
 use Rattle.loader.specs.CatalogueView.{CatalogueView, AreFor, AreAccepted, names_of}
 use Rattle.loader.specs.declared.loading.TheConstants.{MAX_PROGRAMS}
-use Rattle.maps.specs.Shapes.{IsShapeOk}
+use Rattle.maps.specs.declared.shapes.MapLimits.{MapLimits}
+use Rattle.maps.specs.Shapes.{IsShapeWithin, AreLimits}
 use Rattle.loader.specs.Loading.{are_few}
 
 -- the catalogue that they make
@@ -12,9 +13,10 @@ abbrev pub view_of : PartialCatalogue → CatalogueView
 view_of s = record { shapes = s.shapes.items; programs = s.programs.items; places = 0; opening = None }
 
 -- a catalogue without places that opens on a new state, but for its first map
-pub record IsPartial (c : CatalogueView) : Type 0 where
-  pub within : All IsShapeOk c.shapes
-  pub few_maps : are_few c.shapes ≡ true
+pub record IsPartial (l : MapLimits) (c : CatalogueView) : Type 0 where
+  pub limits : AreLimits l
+  pub within : All (IsShapeWithin l) c.shapes
+  pub few_maps : are_few l c.shapes ≡ true
   pub accepted : AreFor c.shapes c.programs
   pub checked : AreAccepted c.programs
   pub distinct : IsDistinct bytes_eq (names_of c.programs)

@@ -1,5 +1,5 @@
 -- Refusals, and that no memory is left, which is no line's fault.
-use Rattle.std.specs.Prelude.{◌≡◌, ℕ, Result, Ok, Err}
+use Rattle.std.specs.Prelude.{◌≡◌, ℕ, Result, Ok, Err, MatchResult}
 use Rattle.loader.specs.declared.refusals.LoadFault.{LoadFault}
 use Rattle.loader.specs.declared.refusals.LoadFault.TheVariants as faults
 use Rattle.loader.specs.declared.refusals.LoadRefusal.{LoadRefusal}
@@ -29,6 +29,10 @@ line_of (errors.Refused refusal) = refusal.line
 abbrev pub LoadFails : {Y : Type 0} → LoadError → Result Y LoadRefusal → Type 0
 LoadFails errors.NoMemory read = Unit {0}
 LoadFails (errors.Refused refusal) read = read ≡ Err refusal
+
+-- what is answered is what this reading gives, or why it fails
+abbrev pub IsLoadAnswer : {Y : Type 0} → Result Y LoadRefusal → Result Y LoadError → Type 0
+IsLoadAnswer read answer = MatchResult answer (λ y. read ≡ Ok y) (λ e. LoadFails e read)
 
 -- ---- clauses of private functions alone cite what follows
 

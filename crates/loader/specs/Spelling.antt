@@ -5,19 +5,21 @@ use Rattle.maps.specs.declared.shapes.Shape.TheVariants.{Array, Hash}
 use Rattle.verifier.specs.declared.refusal.Mode.{Mode}
 use Rattle.verifier.specs.declared.refusal.Mode.TheVariants.{Update, Read}
 use Rattle.text.specs.declared.lines.TheConstants.{LINE_BYTES}
-use Rattle.maps.specs.declared.shapes.TheConstants.{MAX_ARG_LEN, MAX_KEY_BYTES, MAX_VALUE_BYTES, MAX_ENTRIES}
+use Rattle.maps.specs.declared.shapes.TheConstants.{MAX_ARG_LEN}
+use Rattle.maps.specs.declared.shapes.MapLimits.{MapLimits}
+use Rattle.maps.specs.Shapes.{AreLimits}
 use Rattle.text.specs.Words.{IsFrom, is_name}
 use Rattle.loader.specs.Grammar.{is_path, ProgramLine, Meaning, Comment, Map, Program, line_meaning}
 
 -- how a map is spelled
-abbrev pub SpellsMap : Shape → List ℕ → Type 0
-SpellsMap (Array value entries) line =
-    (line ≡ codes "map array " ++ (decimal value ++ (codes " " ++ decimal entries))) × IsFrom 1 MAX_VALUE_BYTES value × IsFrom 1 MAX_ENTRIES entries
-SpellsMap (Hash key value entries) line =
+abbrev pub SpellsMap : MapLimits → Shape → List ℕ → Type 0
+SpellsMap l (Array value entries) line =
+    (line ≡ codes "map array " ++ (decimal value ++ (codes " " ++ decimal entries))) × IsFrom 1 l.value value × IsFrom 1 l.entries entries
+SpellsMap l (Hash key value entries) line =
     (line ≡ codes "map hash " ++ (decimal key ++ (codes " " ++ (decimal value ++ (codes " " ++ decimal entries)))))
-    × IsFrom 1 MAX_KEY_BYTES key
-    × IsFrom 1 MAX_VALUE_BYTES value
-    × IsFrom 1 MAX_ENTRIES entries
+    × IsFrom 1 l.key key
+    × IsFrom 1 l.value value
+    × IsFrom 1 l.entries entries
 
 abbrev pub mode_word : Mode → List ℕ
 mode_word Update = codes "update"
@@ -32,11 +34,11 @@ abbrev pub SpellsProgram : ProgramLine → List ℕ → Type 0
 SpellsProgram p line = (line ≡ program_spelling p) × (is_name p.name ≡ true) × (p.arg_len ≤ MAX_ARG_LEN) × (is_path p.file ≡ true)
 
 -- the line spells this
-abbrev pub Spells : Meaning → List ℕ → Type 0
-Spells Comment line = (line ≡ []) ⊎ ((rest : List ℕ) × (line ≡ 35 ∷ rest))
-Spells (Map shape) line = SpellsMap shape line
-Spells (Program p) line = SpellsProgram p line
+abbrev pub Spells : MapLimits → Meaning → List ℕ → Type 0
+Spells l Comment line = (line ≡ []) ⊎ ((rest : List ℕ) × (line ≡ 35 ∷ rest))
+Spells l (Map shape) line = SpellsMap l shape line
+Spells l (Program p) line = SpellsProgram p line
 
 -- a line means this exactly where it is spelled so, in at most 512 bytes
 abbrev pub EachLineIsItsSpelling : Type 0
-EachLineIsItsSpelling = (line : List ℕ) (x : Meaning) → (line_meaning line ≡ Some x) ↔ ((length line ≤ LINE_BYTES) × Spells x line)
+EachLineIsItsSpelling = (l : MapLimits) (line : List ℕ) (x : Meaning) → AreLimits l → (line_meaning l line ≡ Some x) ↔ ((length line ≤ LINE_BYTES) × Spells l x line)

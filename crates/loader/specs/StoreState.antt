@@ -38,6 +38,6 @@ pub record IsState (z : StateSizes) (s : StoreState) : Type 0 where
 abbrev pub opened_state : StateSizes → StoreState
 opened_state z = record { maps = opening_maps z.shapes; programs = []; places = z.places }
 
--- the same state, with room for so many programs
+-- the state, with room for so many programs
 abbrev pub with_room : StoreState → ℕ → StoreState
 with_room s places = record s { places = places }

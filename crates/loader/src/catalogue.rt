@@ -1,11 +1,11 @@
 // The maps and the programs of a store.
 
 ghost use Rattle.std.specs.Prelude.{◌≡◌, ◌↔◌, ◌≤◌, length, option_map, slice_get, IfSome, IsTrue, None};
-ghost use Rattle.maps.specs.Shapes.{AreShapesOk};
+ghost use Rattle.maps.specs.Shapes.{AreShapesSupported};
 ghost use Rattle.loader.specs.CatalogueView.{IsCatalogue, MayOpenOn, number_named, opened_on, with_places};
 ghost use Rattle.loader.specs.Numbering.{IsNumbering};
 
-use crate::installed::MAX_PLACES;
+use crate::installed::MOST_SPARE;
 use crate::loading::MAX_PROGRAMS;
 use crate::opened_on::OpenedOn;
 use crate::store_state::StoreState;
@@ -111,15 +111,15 @@ impl Catalogue {
     /// How many programs may be installed behind these: a manifest has none.
     pub fn places(&self) -> usize
         ensures places { result ≡ self.now.places }
-        ensures few { result ≤ MAX_PLACES }
+        ensures few { result ≤ MOST_SPARE }
         ensures whole { IsCatalogue self.now }
     {
         self.places
     }
 
-    /// The same catalogue, behind whose programs so many may be installed. Its stores open on a new state.
+    /// Gives the catalogue `places` places for programs to be installed. Its stores open on a new state.
     pub fn with_places(mut self, places: usize) -> Catalogue
-        requires few { places ≤ MAX_PLACES }
+        requires few { places ≤ MOST_SPARE }
         ensures places { result ≡ with_places self places }
     {
         self.places = places;
@@ -135,7 +135,7 @@ impl Catalogue {
         state.has_shapes(&self.shapes) && state.programs().len() <= self.places
     }
 
-    /// The same catalogue, whose stores open on this state. What such a store explains begins with the state as it is now; no copy of it is
+    /// Makes the stores of the catalogue open on `state`. What such a store explains begins with the state as it is now; no copy of it is
     /// kept.
     pub fn on(mut self, state: &StoreState) -> Catalogue
         requires fits { MayOpenOn self state.now }
@@ -176,7 +176,7 @@ impl Catalogue {
     /// The maps' sizes, in order. A store may have these maps.
     pub fn shapes(&self) -> &[Shape]
         ensures shapes { result.now ≡ self.now.shapes }
-        ensures good { AreShapesOk result.now }
+        ensures good { AreShapesSupported result.now }
         ensures whole { IsCatalogue self.now }
     {
         &self.shapes

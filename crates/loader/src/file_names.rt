@@ -31,6 +31,16 @@ fn file_field(line: &str) -> Option<&str>
 /// `program`, whatever else is wrong with that line. They are paths for the caller to open.
 ///
 /// Fails only where there is no memory left.
+///
+/// # Examples
+///
+/// ```
+/// use loader::named_files;
+///
+/// let manifest = "map array 8 16\nprogram bump update 4 bump.hex\nprogram peek read 4 peek.hex\n";
+/// let names = named_files(rt.alloc(), manifest)?;
+/// assert!(rt; names.as_slice() == ["bump.hex", "peek.hex"].as_slice());
+/// ```
 pub fn named_files(alloc: Global, manifest: &str) -> Result<Vec<&str>, AllocError>
     ensures names { IfOk result (λ v. map (λ t. t.now) v.items ≡ named_in manifest.now) }
 {

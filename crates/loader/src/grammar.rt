@@ -2,17 +2,18 @@
 
 ghost use Rattle.std.specs.Prelude.{◌≡◌, IfSome, option_map};
 ghost use Rattle.loader.specs.Grammar.{mode_of, array_meaning, hash_meaning, map_meaning, program_meaning, first_word, words_of, words_meaning, line_meaning};
+ghost use Rattle.maps.specs.Shapes.{AreLimits};
 ghost use Rattle.loader.specs.LineShown.{meaning_of, LineFits};
 
 use crate::paths::is_path;
-use maps::{MAX_ARG_LEN, MAX_ENTRIES, MAX_KEY_BYTES, MAX_VALUE_BYTES, Shape};
+use maps::{MAX_ARG_LEN, MapLimits, Shape};
 use text::{LineKind, is_name, kind_of, number_within, split_at_space};
 use verifier::Mode;
 
 /// What a line says of a program.
 #[derive(Clone, Copy)]
 pub struct ProgramLine<'a> {
-    /// Its name.
+    /// The program's name.
     pub name: &'a str,
     /// Whether it may change maps.
     pub mode: Mode,
@@ -33,7 +34,7 @@ pub(crate) enum FirstWord {
 /// What a line of a manifest means, by itself.
 #[derive(Clone, Copy)]
 pub enum Line<'a> {
-    /// It is empty, or begins with `#`.
+    /// The line is empty, or begins with `#`.
     Comment,
     /// A map.
     Map(Shape),
@@ -43,13 +44,14 @@ pub enum Line<'a> {
 
 // The sizes of an array.
 #[tactic(auto, unfolding(crate::specs::Grammar::array_meaning))]
-fn array_line(text: &str) -> Option<Line<'_>>
-    ensures meaning { option_map meaning_of result ≡ array_meaning text.now }
-    ensures fits { IfSome result LineFits }
+fn array_line<'a>(limits: &MapLimits, text: &'a str) -> Option<Line<'a>>
+    requires limits { AreLimits limits.now }
+    ensures meaning { option_map meaning_of result ≡ array_meaning limits.now text.now }
+    ensures fits { IfSome result (LineFits limits.now) }
 {
     let (value, entries) = split_at_space(text)?;
-    let value = number_within(1, MAX_VALUE_BYTES as u64, value)?;
-    let entries = number_within(1, MAX_ENTRIES as u64, entries)?;
+    let value = number_within(1, limits.value as u64, value)?;
+    let entries = number_within(1, limits.entries as u64, entries)?;
     Some(Line::Map(Shape::Array {
         value: value as u32,
         entries: entries as u32,
@@ -58,15 +60,16 @@ fn array_line(text: &str) -> Option<Line<'_>>
 
 // The sizes of a hash.
 #[tactic(auto, unfolding(crate::specs::Grammar::hash_meaning))]
-fn hash_line(text: &str) -> Option<Line<'_>>
-    ensures meaning { option_map meaning_of result ≡ hash_meaning text.now }
-    ensures fits { IfSome result LineFits }
+fn hash_line<'a>(limits: &MapLimits, text: &'a str) -> Option<Line<'a>>
+    requires limits { AreLimits limits.now }
+    ensures meaning { option_map meaning_of result ≡ hash_meaning limits.now text.now }
+    ensures fits { IfSome result (LineFits limits.now) }
 {
     let (key, rest) = split_at_space(text)?;
     let (value, entries) = split_at_space(rest)?;
-    let key = number_within(1, MAX_KEY_BYTES as u64, key)?;
-    let value = number_within(1, MAX_VALUE_BYTES as u64, value)?;
-    let entries = number_within(1, MAX_ENTRIES as u64, entries)?;
+    let key = number_within(1, limits.key as u64, key)?;
+    let value = number_within(1, limits.value as u64, value)?;
+    let entries = number_within(1, limits.entries as u64, entries)?;
     Some(Line::Map(Shape::Hash {
         key: key as u32,
         value: value as u32,
@@ -76,15 +79,16 @@ fn hash_line(text: &str) -> Option<Line<'_>>
 
 // A map, an array or a hash.
 #[tactic(auto, unfolding(crate::specs::Grammar::map_meaning))]
-fn map_line(text: &str) -> Option<Line<'_>>
-    ensures meaning { option_map meaning_of result ≡ map_meaning text.now }
-    ensures fits { IfSome result LineFits }
+fn map_line<'a>(limits: &MapLimits, text: &'a str) -> Option<Line<'a>>
+    requires limits { AreLimits limits.now }
+    ensures meaning { option_map meaning_of result ≡ map_meaning limits.now text.now }
+    ensures fits { IfSome result (LineFits limits.now) }
 {
     let (kind, rest) = split_at_space(text)?;
     if kind == "array" {
-        array_line(rest)
+        array_line(limits, rest)
     } else if kind == "hash" {
-        hash_line(rest)
+        hash_line(limits, rest)
     } else {
         None
     }
@@ -104,9 +108,9 @@ pub fn mode(text: &str) -> Option<Mode>
 }
 
 #[tactic(auto, unfolding(crate::specs::Grammar::program_meaning))]
-fn program_line(text: &str) -> Option<Line<'_>>
+fn program_line<'a>(limits: &MapLimits, text: &'a str) -> Option<Line<'a>>
     ensures meaning { option_map meaning_of result ≡ program_meaning text.now }
-    ensures fits { IfSome result LineFits }
+    ensures fits { IfSome result (LineFits limits.now) }
 {
     let (name, rest) = split_at_space(text)?;
     let (how, rest) = split_at_space(rest)?;
@@ -148,26 +152,28 @@ pub(crate) fn words_of(line: &str) -> Option<(FirstWord, &str)>
 }
 
 #[tactic(auto, unfolding(crate::specs::Grammar::words_meaning))]
-fn words_line(text: &str) -> Option<Line<'_>>
-    ensures meaning { option_map meaning_of result ≡ words_meaning text.now }
-    ensures fits { IfSome result LineFits }
+fn words_line<'a>(limits: &MapLimits, text: &'a str) -> Option<Line<'a>>
+    requires limits { AreLimits limits.now }
+    ensures meaning { option_map meaning_of result ≡ words_meaning limits.now text.now }
+    ensures fits { IfSome result (LineFits limits.now) }
 {
     match words_of(text)? {
-        (FirstWord::Map, rest) => map_line(rest),
-        (FirstWord::Program, rest) => program_line(rest),
+        (FirstWord::Map, rest) => map_line(limits, rest),
+        (FirstWord::Program, rest) => program_line(limits, rest),
         (FirstWord::Other, _) => None,
     }
 }
 
 /// What a line of a manifest means, whatever stands before it; `None` where it is bad.
 #[tactic(auto, unfolding(crate::specs::Grammar::line_meaning))]
-pub fn read_line(line: &str) -> Option<Line<'_>>
-    ensures meaning { option_map meaning_of result ≡ line_meaning line.now }
-    ensures fits { IfSome result LineFits }
+pub fn read_line<'a>(limits: &MapLimits, line: &'a str) -> Option<Line<'a>>
+    requires limits { AreLimits limits.now }
+    ensures meaning { option_map meaning_of result ≡ line_meaning limits.now line.now }
+    ensures fits { IfSome result (LineFits limits.now) }
 {
     match kind_of(line) {
         LineKind::TooLong => None,
         LineKind::Comment => Some(Line::Comment),
-        LineKind::Words => words_line(line),
+        LineKind::Words => words_line(limits, line),
     }
 }

@@ -3,7 +3,7 @@
 ghost use Rattle.std.specs.Prelude.{◌≡◌, ◌<◌, ◌≤◌, ◌*◌, length, option_map, replicate, slice_get, take, IfOk, IfSome};
 ghost use Rattle.std.specs.List.{All};
 ghost use Rattle.insn.specs.declared.decoding.TheConstants.{MAX_INSTALLED_SLOTS};
-ghost use Rattle.maps.specs.Shapes.{AreShapesOk};
+ghost use Rattle.maps.specs.Shapes.{AreShapesSupported};
 ghost use Rattle.maps.specs.declared.shapes.TheConstants.{MAX_ARG_LEN};
 ghost use Rattle.verifier.specs.Accepted.{empty_room};
 ghost use Rattle.loader.specs.Installed.{IsInstallAnswer, IsInstalled, IsShort, after_install, installed_program, no_programs};
@@ -15,13 +15,16 @@ use std::marker::Model;
 use thiserror::Error;
 use verifier::{Accepted, Mode, Refused, Scratch, Signature, verify_into};
 
-/// The most programs that may be installed behind a catalogue's.
-pub const MAX_PLACES: usize = 16;
+/// The most spare programs of a `Config`'s store: those that may be installed after the catalogue's.
+pub const MAX_SPARE: usize = 16;
+
+/// The most spare programs of a store: what [`MAX_SPARE`] is to a `Config`, this is to any `Sizes`.
+pub const MOST_SPARE: usize = 4_096;
 
 /// Why bytes can't be installed as a program.
 #[derive(Clone, Copy, Debug, Error)]
 pub enum InstallRefusal {
-    /// They are no program.
+    /// The bytes are no program.
     #[error("{0}")]
     Decode(DecodeRefusal),
     /// The program is not safe for these maps, this argument length and this mode.
@@ -63,8 +66,8 @@ impl Installed {
     ///
     /// The system has no memory left.
     pub fn open(alloc: Global, shapes: &[Shape], places: usize) -> Result<Installed, AllocError>
-        requires shapes { AreShapesOk shapes.now }
-        requires places { places ≤ MAX_PLACES }
+        requires shapes { AreShapesSupported shapes.now }
+        requires places { places ≤ MOST_SPARE }
         ensures none { IfOk result (λ a. a ≡ no_programs shapes.now places) }
     {
         Ok(Installed {
@@ -76,14 +79,14 @@ impl Installed {
         })
     }
 
-    /// The same programs, in room for so many of their own.
+    /// Copies the programs of `from` into room of their own, with `places` places.
     ///
     /// # Errors
     ///
     /// The system has no memory left.
     pub fn copy_of(alloc: Global, from: &Installed, places: usize) -> Result<Installed, AllocError>
         requires few { length from.now.programs ≤ places }
-        requires places { places ≤ MAX_PLACES }
+        requires places { places ≤ MOST_SPARE }
         ensures copied { IfOk result (λ a. a ≡ record from.now { places = places }) }
     {
         let mut rooms = open_rooms(alloc, &from.shapes, places)?;
@@ -115,7 +118,7 @@ impl Installed {
     /// How many there may be.
     pub fn places(&self) -> usize
         ensures places { result ≡ self.now.places }
-        ensures limit { result ≤ MAX_PLACES }
+        ensures limit { result ≤ MOST_SPARE }
         ensures whole { IsInstalled self.now }
     {
         self.rooms.len()
@@ -179,9 +182,9 @@ impl Installed {
     }
 }
 
-// So many rooms, in each of which there is room for a program.
+// Opens `places` rooms, each for one program.
 fn open_rooms(alloc: Global, shapes: &[Shape], places: usize) -> Result<Vec<Accepted>, AllocError>
-    requires shapes { AreShapesOk shapes.now }
+    requires shapes { AreShapesSupported shapes.now }
     ensures rooms { IfOk result (λ rooms. rooms.items ≡ replicate places (empty_room shapes.now)) }
 {
     let mut rooms = Vec::with_capacity(alloc, places)?;

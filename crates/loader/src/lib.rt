@@ -18,10 +18,11 @@ mod store_state;
 pub use catalogue::Catalogue;
 pub use file_names::named_files;
 pub use grammar::{Line, ProgramLine, mode, read_line};
-pub use installed::{InstallRefusal, Installed, MAX_PLACES};
+pub use installed::{InstallRefusal, Installed, MAX_SPARE, MOST_SPARE};
 pub use laws::{
     each_line_is_its_spelling, limits, loaded_is_offered, names_are_files, refused_is_first_bad,
+    wider_limits_keep_what_is_good,
 };
-pub use loading::load_manifest;
+pub use loading::{load_manifest, load_manifest_within};
 pub use refusals::{LoadError, LoadFault, LoadRefusal};
 pub use store_state::StoreState;

@@ -1,21 +1,22 @@
 // A manifest, line by line.
 
 ghost use Rattle.std.specs.Prelude.{◌≡◌, ◌≤◌, MatchResult, Ok, length};
+ghost use Rattle.maps.specs.declared.shapes.MapLimits.{MapLimits as TheLimits};
 ghost use Rattle.text.specs.declared.words.TheConstants.{NAME_BYTES};
-ghost use Rattle.maps.specs.Shapes.{IsShapeOk};
+ghost use Rattle.maps.specs.Shapes.{IsShapeWithin, AreLimits};
 ghost use Rattle.maps.specs.declared.shapes.TheConstants.{MAX_ARG_LEN};
 ghost use Rattle.loader.specs.ProgramFiles.{files_of};
 ghost use Rattle.loader.specs.LineShown.{program_of};
-ghost use Rattle.loader.specs.Loading.{is_taken, with_map, with_entry, with_program, after_line, loaded};
+ghost use Rattle.loader.specs.Loading.{is_taken, with_map, with_entry, with_program, after_line, loaded, loaded_within};
 ghost use Rattle.loader.specs.PartialView.{view_of, IsPartial};
-ghost use Rattle.loader.specs.Refusal.{Gives, LoadFails};
+ghost use Rattle.loader.specs.Refusal.{Gives, IsLoadAnswer, LoadFails};
 
 use crate::catalogue::{Catalogue, NamedProgram};
 use crate::grammar::{Line, ProgramLine, read_line};
 use crate::numbering::numbers_of;
 use crate::program_files::named_program;
 use crate::refusals::{LineError, LoadError, LoadFault};
-use maps::{Shape, shapes_ok};
+use maps::{MapLimits, Shape, shapes_within};
 use std::alloc::Global;
 use text::NumberedLines;
 
@@ -31,16 +32,16 @@ struct PartialCatalogue {
 
 // One more map. The maps with it are as many and as large as a store may have.
 #[tactic(auto, unfolding(crate::specs::Loading::with_map))]
-fn add_map(so_far: &mut PartialCatalogue, shape: Shape) -> Result<(), LineError>
-    requires so_far { IsPartial (view_of so_far.old) }
-    requires within { IsShapeOk shape }
-    ensures { Gives (λ _. view_of so_far.new) result (with_map (view_of so_far.old) shape) }
+fn add_map(limits: &MapLimits, so_far: &mut PartialCatalogue, shape: Shape) -> Result<(), LineError>
+    requires so_far { IsPartial limits.now (view_of so_far.old) }
+    requires within { IsShapeWithin limits.now shape }
+    ensures { Gives (λ _. view_of so_far.new) result (with_map limits.now (view_of so_far.old) shape) }
 {
     if !so_far.programs.is_empty() {
         return Err(LineError::Refused(LoadFault::BadLine));
     }
     so_far.shapes.push(shape)?;
-    match shapes_ok(&so_far.shapes) {
+    match shapes_within(limits, &so_far.shapes) {
         Ok(()) => Ok(()),
         Err(_) => Err(LineError::Refused(LoadFault::TooMany)),
     }
@@ -78,7 +79,7 @@ fn add_program(
     so_far: &mut PartialCatalogue,
     line: ProgramLine,
 ) -> Result<(), LineError>
-    requires so_far { IsPartial (view_of so_far.old) }
+    requires so_far { (l : TheLimits) × IsPartial l (view_of so_far.old) }
     requires argument { line.arg_len ≤ MAX_ARG_LEN }
     requires name { length line.name.now ≤ NAME_BYTES }
     ensures { Gives (λ _. view_of so_far.new) result (with_program (files_of files.now) (view_of so_far.old) (program_of line.entry)) }
@@ -94,17 +95,19 @@ fn add_program(
 #[tactic(auto, unfolding(crate::specs::Loading::after_line))]
 fn take_line(
     alloc: Global,
+    limits: &MapLimits,
     files: &[(&str, &str)],
     so_far: &mut PartialCatalogue,
     line: &str,
 ) -> Result<(), LineError>
-    requires so_far { IsPartial (view_of so_far.old) }
-    ensures { Gives (λ _. view_of so_far.new) result (after_line (files_of files.now) (view_of so_far.old) line.now) }
+    requires limits { AreLimits limits.now }
+    requires so_far { IsPartial limits.now (view_of so_far.old) }
+    ensures { Gives (λ _. view_of so_far.new) result (after_line limits.now (files_of files.now) (view_of so_far.old) line.now) }
 {
-    match read_line(line) {
+    match read_line(limits, line) {
         None => Err(LineError::Refused(LoadFault::BadLine)),
         Some(Line::Comment) => Ok(()),
-        Some(Line::Map(shape)) => add_map(so_far, shape),
+        Some(Line::Map(shape)) => add_map(limits, so_far, shape),
         Some(Line::Program(program)) => add_program(alloc, files, so_far, program),
     }
 }
@@ -115,6 +118,21 @@ fn take_line(
 /// The manifest is lines of at most 512 bytes: `map array VALUE ENTRIES` and `map hash KEY VALUE ENTRIES`, then
 /// `program NAME MODE ARGLEN FILE`, comments (`#`) and empty lines. Takes time in proportion to the texts, and for each program to the
 /// number of programs before it.
+///
+/// # Examples
+///
+/// ```
+/// use loader::load_manifest;
+///
+/// let manifest = "map array 8 16\nprogram five update 0 five.hex\n";
+/// let files = [("five.hex", "b7000000050000009500000000000000")];
+/// let catalogue = load_manifest(rt.alloc(), manifest, &files)?;
+/// assert_eq!(rt; catalogue.number("five"), Some(0));
+///
+/// // No map has values of 0 bytes: C1 on line 1.
+/// let refused = load_manifest(rt.alloc(), "map array 0 16\n", &[]).err();
+/// assert_eq!(rt; refused.map(|e| (e.line(), e.number())), Some((1, 1)));
+/// ```
 pub fn load_manifest(
     alloc: Global,
     manifest: &str,
@@ -123,13 +141,30 @@ pub fn load_manifest(
     ensures loaded { MatchResult result (λ c. loaded manifest.now (files_of files.now) ≡ Ok c)
         (λ e. LoadFails e (loaded manifest.now (files_of files.now))) }
 {
+    load_manifest_within(alloc, &MapLimits::standard(), manifest, files)
+}
+
+/// The programs of a manifest, as [`load_manifest`] loads them, by these limits of maps instead of the standard ones.
+///
+/// # Errors
+///
+/// The manifest is refused, or the system has no memory left.
+pub fn load_manifest_within(
+    alloc: Global,
+    limits: &MapLimits,
+    manifest: &str,
+    files: &[(&str, &str)],
+) -> Result<Catalogue, LoadError>
+    requires limits { AreLimits limits.now }
+    ensures loaded { IsLoadAnswer (loaded_within limits.now manifest.now (files_of files.now)) result }
+{
     let mut so_far = PartialCatalogue {
         shapes: Vec::new(alloc),
         programs: Vec::new(alloc),
     };
     let mut lines = NumberedLines::new(manifest);
     while let Some((number, line)) = lines.take_line() {
-        match take_line(alloc, files, &mut so_far, line) {
+        match take_line(alloc, limits, files, &mut so_far, line) {
             Ok(()) => {}
             Err(e) => return Err(e.at(number)),
         }

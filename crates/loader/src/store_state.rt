@@ -3,13 +3,13 @@
 ghost use Rattle.std.specs.Prelude.{◌≡◌, ◌↔◌, ◌≤◌, length, IfOk, IsTrue};
 ghost use Rattle.maps.specs.Maps.{HasShapes, shapes_of};
 ghost use Rattle.maps.specs.MapSets.{maps_of};
-ghost use Rattle.loader.specs.declared.installed.TheConstants.{MAX_PLACES};
+ghost use Rattle.loader.specs.declared.installed.TheConstants.{MOST_SPARE};
 ghost use Rattle.loader.specs.CatalogueView.{OpensOn, opening_state, sizes_for};
 ghost use Rattle.loader.specs.Installed.{IsInstalled};
 ghost use Rattle.loader.specs.StoreState.{installed_in, opened_state, sizes_of, state_of};
 
 use crate::catalogue::Catalogue;
-use crate::installed::{Installed, MAX_PLACES};
+use crate::installed::{Installed, MOST_SPARE};
 use crate::opened_on::OpenedOn;
 use maps::{MapSet, Shape};
 use std::alloc::{AllocError, Global};
@@ -52,9 +52,7 @@ impl StoreState {
         ensures opened { IfOk result (λ s. s ≡ opened_state (sizes_for catalogue.now)) }
         ensures sizes { IfOk result (λ s. sizes_of s ≡ sizes_for catalogue.now) }
     {
-        let Ok(maps) = MapSet::open(alloc, catalogue.shapes()) else {
-            return Err(AllocError);
-        };
+        let maps = MapSet::open_supported(alloc, catalogue.shapes())?;
         let installed = Installed::open(alloc, catalogue.shapes(), catalogue.places())?;
         Ok(StoreState { maps, installed })
     }
@@ -88,7 +86,7 @@ impl StoreState {
         StoreState { maps, installed }
     }
 
-    /// The same state in room of its own, in which so many programs may be installed.
+    /// Copies the state `from` into room of its own, in which `places` programs may be installed.
     ///
     /// # Errors
     ///
@@ -99,7 +97,7 @@ impl StoreState {
         places: usize,
     ) -> Result<StoreState, AllocError>
         requires few { length from.now.programs ≤ places }
-        requires places { places ≤ MAX_PLACES }
+        requires places { places ≤ MOST_SPARE }
         ensures copied { IfOk result (λ s. s ≡ record from.now { places = places }) }
     {
         let maps = MapSet::copy_of(alloc, &from.maps)?;

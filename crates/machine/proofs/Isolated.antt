@@ -16,7 +16,7 @@ use Rattle.insn.specs.Sizes.{byte_count}
 use Rattle.insn.specs.Moves.{distance}
 use Rattle.maps.specs.Maps.{Maps}
 use Rattle.maps.specs.Values.{MachineValue, Num, StackAt, ArgAt, MapAt, ValueAt}
-use Rattle.helpers.proofs.Places.{option_map_some}
+use Rattle.helpers.proofs.Export.{option_map_some}
 use Rattle.machine.specs.Arithmetic.{bits_of, unsigned, alu, negated}
 use Rattle.machine.specs.Conversions.{sign_extended, swapped}
 use Rattle.machine.specs.State.{State, numeric, entry_state}

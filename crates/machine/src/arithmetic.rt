@@ -12,6 +12,18 @@ mod wide;
 use insn::{Condition, Operation, Order};
 
 /// The result of an arithmetic instruction on dst and the second operand. One of 32 bits has zeros above.
+///
+/// # Examples
+///
+/// ```
+/// use insn::Operation;
+/// use machine::alu;
+///
+/// assert_eq!(rt; alu(true, Operation::Div, 7, 0), 0);
+/// assert_eq!(rt; alu(true, Operation::Mod, 7, 0), 7);
+/// // Shifts take the amount modulo the width.
+/// assert_eq!(rt; alu(true, Operation::Lsh, 3, 64), 3);
+/// ```
 #[inline(always)]
 pub fn alu(w64: bool, op: Operation, a: u64, b: u64) -> u64
     ensures { result ≡ alu op (bits_of w64) a b }
@@ -67,6 +79,16 @@ pub fn sign_extend(w64: bool, bits: u8, n: u64) -> u64
 }
 
 /// The swaps: the low 16, 32 or 64 bits, as they are to little-endian and else with their bytes reversed; zeros above.
+///
+/// # Examples
+///
+/// ```
+/// use insn::Order;
+/// use machine::swap;
+///
+/// assert_eq!(rt; swap(Order::Big, 16, 258), 513);
+/// assert_eq!(rt; swap(Order::Always, 64, 1), 72057594037927936);
+/// ```
 #[inline(always)]
 pub fn swap(order: Order, bits: u8, n: u64) -> u64
     requires { ((bits ≡ 16) ⊎ (bits ≡ 32)) ⊎ (bits ≡ 64) }

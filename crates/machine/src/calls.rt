@@ -1,9 +1,9 @@
 // Calls of helpers (RFC 9669, section 4.3.1), and those that change a map (bpf-helpers(7)). The bytes of a key and of a value are
 // read before the change: they may lie in that map.
 
-ghost use Rattle.std.specs.Prelude.{◌≡◌, ◌<◌, ◌≤◌, ℕ, pos, List, length};
+ghost use Rattle.std.specs.Prelude.{◌≡◌, ◌<◌, ◌≤◌, ℕ, pos, List, length, take};
 ghost use Rattle.insn.specs.declared.instruction.Form.TheVariants as form;
-ghost use Rattle.maps.specs.Shapes.{AreShapesOk};
+ghost use Rattle.maps.specs.Shapes.{AreShapesSupported};
 ghost use Rattle.maps.specs.MapSets.{stored_shapes};
 ghost use Rattle.helpers.specs.declared.numbers.Helper.TheVariants.{Update, Delete};
 ghost use Rattle.helpers.specs.Numbers.{helper_number};
@@ -41,7 +41,7 @@ pub(crate) fn call_helper(
 /// Copies the bytes at a pointer into a lent room, as many as it has.
 #[inline(always)]
 fn fetch(stack: &[u8; 512], maps: &MapSet, argument: &[u8], base: Base, room: &mut [u8])
-    requires limits { AreShapesOk (stored_shapes maps.now) }
+    requires limits { AreShapesSupported (stored_shapes maps.now) }
     requires some { 0 < length room.old }
     requires told { (bs : List ℕ) × IsRead stack.now maps.now argument.now base (length room.old) bs }
     ensures copied { (bs : List ℕ) → IsRead stack.now maps.now argument.now base (length room.old) bs → room.new ≡ bs }
@@ -68,14 +68,36 @@ fn call_update(
     let key_base = Base::at(&kinds, &machine.words, 2, 0);
     let value_base = Base::at(&kinds, &machine.words, 3, 0);
     let mut key_room = [0; 64];
-    let mut value_room = [0; 256];
     let key = &mut key_room[..key_bytes];
-    let value = &mut value_room[..value_bytes];
     fetch(&machine.stack, maps, argument, key_base, key);
-    fetch(&machine.stack, maps, argument, value_base, value);
     let flags = machine.words[4];
-    machine.words[0] = update(maps, m, key, value, flags);
+    fetch_value(machine, maps, argument, value_base, value_bytes);
+    machine.words[0] = update(maps, m, key, &machine.value[..value_bytes], flags);
     Some(Edge::Fall)
+}
+
+/// Copies so many bytes at a pointer into the machine's room for a value.
+#[inline(always)]
+fn fetch_value(machine: &mut Machine, maps: &MapSet, argument: &[u8], base: Base, n: usize)
+    requires limits { AreShapesSupported (stored_shapes maps.now) }
+    requires some { 0 < n }
+    requires few { n ≤ 256 }
+    requires told { (bs : List ℕ) × IsRead machine.old.stack maps.now argument.now base n bs }
+    ensures copied { (bs : List ℕ) → IsRead machine.old.stack maps.now argument.now base n bs → take n machine.new.value ≡ bs }
+    ensures words { machine.new.words ≡ machine.old.words }
+    ensures stack { machine.new.stack ≡ machine.old.stack }
+{
+    let spot = locate(&machine.stack, maps, argument, base);
+    put_first(&mut machine.value, part(spot.region, spot.at, n));
+}
+
+// Writes bytes over the first of a room.
+#[inline(always)]
+fn put_first(room: &mut [u8; 256], bytes: &[u8])
+    requires few { length bytes.now ≤ 256 }
+    ensures written { take (length bytes.now) room.new ≡ bytes.now }
+{
+    room[..bytes.len()].copy_from_slice(bytes);
 }
 
 /// A call of bpf_map_delete_elem.

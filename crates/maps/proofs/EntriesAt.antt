@@ -11,7 +11,7 @@ use Rattle.std.proofs.Math.Seq.{take-length}
 use Rattle.keyindex.specs.Places.{filled}
 use Rattle.maps.specs.declared.shapes.Shape.{Shape}
 use Rattle.maps.specs.declared.table.Table.{Table}
-use Rattle.maps.specs.Shapes.{IsShapeOk, key_size, value_size, entry_count}
+use Rattle.maps.specs.Shapes.{IsShapeSupported, key_size, value_size, entry_count}
 use Rattle.maps.specs.MapSets.{Stored, value_in, entries_of, map_of, flat, write_over}
 use Rattle.maps.specs.Blocks.{keys_at, stored, IsTable}
 use Rattle.maps.specs.Scans.{KeyValue, reach, given, Scans, standing, entry_at, entries_from, KeepsParts}
@@ -207,7 +207,7 @@ all_places s d =
 
 -- so many entries were given, and it ended at this place
 pub record IsScanned (t : Table) (from room end count place : ℕ) (entries : List KeyValue) : Type 0 where
-  pub ok : IsShapeOk t.shape
+  pub ok : IsShapeSupported t.shape
   pub table : IsTable t
   pub began : from < entry_count t.shape
   pub told : entries ≡ entries_from (stored t) from (place - from)

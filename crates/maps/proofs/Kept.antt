@@ -9,7 +9,7 @@ use Rattle.std.specs.FinMap as finite_map
 use Rattle.std.specs.FinMap.{get-insert, get-remove, len-insert, len-remove}
 use Rattle.maps.specs.declared.shapes.Shape.{Shape}
 use Rattle.maps.specs.declared.shapes.Shape.TheVariants.{Array, Hash}
-use Rattle.maps.specs.Shapes.{IsHash, IsShapeOk, entry_count, key_size, value_size}
+use Rattle.maps.specs.Shapes.{IsHash, IsShapeSupported, entry_count, key_size, value_size}
 use Rattle.maps.specs.Maps.{AreBytes, AreMaps, Entries, HasEntryCount, HasShapes, IsKeyOf, IsMapState, IsValueOf, MapState, Maps, index_key, shapes_of, value_at}
 use Rattle.maps.specs.declared.table.Table.{Table}
 use Rattle.maps.specs.declared.entry.Entry.{Entry}
@@ -186,7 +186,7 @@ there_now ts c m t u key e h is same =
     let size = value_size u.shape in
     let bytes = u.block.items in
     let w = value_in size bytes e.place in
-    let ok = subst IsShapeOk (sym is.shape) h.there.ok in
+    let ok = subst IsShapeSupported (sym is.shape) h.there.ok in
     let room = (room_at u e.place key ok is.table is.claimed.stands).0 in
     let long : length w ≡ size = (let l = length-take size (drop (e.place * size) bytes) in let d = length-drop (e.place * size) bytes in omega (arith, l, d, room)) in
     let new = contents (slice_set ts m u) in

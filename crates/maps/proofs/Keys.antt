@@ -1,4 +1,4 @@
--- Which keys the order of maps tells apart.
+-- The keys that the order of maps distinguishes.
 use Rattle.std.proofs.Common.{◌≡◌, ◌≢◌, ℕ, ◌<◌, true, false, List, refl, sym, ap, ◌∙◌}
 use Rattle.std.specs.Prelude.{◌^◌}
 use Rattle.std.specs.Int.{w32, from_le_bytes}

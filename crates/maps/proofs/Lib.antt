@@ -13,3 +13,4 @@ pub mod Exchanged
 pub mod EntriesAt
 pub mod Pages
 pub mod Kept
+pub mod Export

@@ -5,7 +5,7 @@ use Rattle.maps.specs.declared.shapes.Shape.TheVariants.{Array, Hash}
 use Rattle.maps.proofs.Placed.{same_placed, length_index_keys}
 use Rattle.std.specs.Prelude.{replicate}
 use Rattle.maps.specs.declared.shapes.Shape.{Shape}
-use Rattle.maps.specs.Shapes.{AreShapesOk, block_size, value_size}
+use Rattle.maps.specs.Shapes.{AreShapesSupported, block_size, value_size}
 use Rattle.maps.specs.MapSets.{stored_shapes, opened, opening_map, opening_maps, maps_of, placed, value_in, opening_keys, index_keys}
 
 zeros : (n : ℕ) → length {A = ℕ} (replicate n 0) ≡ n
@@ -16,8 +16,8 @@ same_shapes : (shapes : List Shape) → stored_shapes (opened shapes) ≡ shapes
 same_shapes [] = refl
 same_shapes (s ∷ shapes) = ap (λ x. s ∷ x) (same_shapes shapes)
 
-pub opened_shapes : (shapes : List Shape) → AreShapesOk shapes → AreShapesOk (stored_shapes (opened shapes))
-opened_shapes shapes h = subst AreShapesOk (sym (same_shapes shapes)) h
+pub opened_shapes : (shapes : List Shape) → AreShapesSupported shapes → AreShapesSupported (stored_shapes (opened shapes))
+opened_shapes shapes h = subst AreShapesSupported (sym (same_shapes shapes)) h
 
 -- ---- the finite maps: every value is of zeros
 

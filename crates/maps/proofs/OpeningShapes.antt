@@ -4,7 +4,7 @@ use Rattle.std.specs.Prelude.{replicate, is_some, All}
 use Rattle.std.specs.FinMap as finite_map
 use Rattle.maps.specs.declared.shapes.Shape.{Shape}
 use Rattle.maps.specs.declared.shapes.Shape.TheVariants.{Array, Hash}
-use Rattle.maps.specs.Shapes.{IsShapeOk, AreShapesOk}
+use Rattle.maps.specs.Shapes.{IsShapeSupported, AreShapesSupported}
 use Rattle.maps.specs.Maps.{AreBytes, IsMapState, AreMaps, HasShapes, index_key, shapes_of}
 use Rattle.maps.specs.MapSets.{index_keys, opening_map, opening_maps, placed}
 use Rattle.maps.proofs.Placed.{get_placed, found_at, index_at, index_stands, index_distinct, none_free, len_hash}
@@ -17,7 +17,7 @@ zeros : (n : ℕ) → (length {A = ℕ} (replicate n 0) ≡ n) × AreBytes (repl
 zeros zero = (refl, tt)
 zeros (suc n) = let rest = zeros n in (ap suc rest.0, (omega arith, rest.1))
 
-opening_ok : (s : Shape) → IsShapeOk s → IsMapState (opening_map s)
+opening_ok : (s : Shape) → IsShapeSupported s → IsMapState (opening_map s)
 opening_ok (Array value entries) ok =
     let v : ℕ → List ℕ = λ _. replicate value 0 in
     let few : 0 + entries ≤ 4294967296 = omega (arith, ok.entries.1) in
@@ -48,9 +48,9 @@ same : (shapes : List Shape) → shapes_of (opening_maps shapes) ≡ shapes
 same [] = refl
 same (s ∷ shapes) = ap (λ x. s ∷ x) (same shapes)
 
-each : (shapes : List Shape) → All IsShapeOk shapes → AreMaps (opening_maps shapes)
+each : (shapes : List Shape) → All IsShapeSupported shapes → AreMaps (opening_maps shapes)
 each [] h = tt
 each (s ∷ shapes) h = (opening_ok s (h 0 s (omega arith)), each shapes (λ k d below. h (suc k) d (omega (arith, below))))
 
-pub opening_shapes : (shapes : List Shape) → AreShapesOk shapes → HasShapes shapes (opening_maps shapes)
+pub opening_shapes : (shapes : List Shape) → AreShapesSupported shapes → HasShapes shapes (opening_maps shapes)
 opening_shapes shapes h = record { same = same shapes; each = each shapes h.each }

@@ -8,7 +8,7 @@ use Rattle.keyindex.specs.declared.index.KeyIndex.{KeyIndex}
 use Rattle.maps.specs.declared.shapes.Shape.{Shape}
 use Rattle.maps.specs.declared.shapes.Shape.TheVariants.{Array, Hash}
 use Rattle.maps.specs.declared.table.Table.{Table}
-use Rattle.maps.specs.Shapes.{IsShapeOk, entry_count, value_size}
+use Rattle.maps.specs.Shapes.{IsShapeSupported, entry_count, value_size}
 use Rattle.maps.specs.MapSets.{Stored, flat, map_of, value_in}
 use Rattle.maps.specs.Blocks.{FitsIndex, IsTable, keys_at, stored}
 use Rattle.maps.specs.Scans.{ArePages, GivesAll, HasIndices, IsPage, KeyValue, Page, PagesGiveAll, PagesJoin, entries_from, entry_at, page_end, standing}
@@ -25,7 +25,7 @@ has_indices (Array value entries) (Some index) fits = absurd fits
 has_indices (Hash key value entries) index fits = tt
 
 -- the entries up to a place are a page, where a scan goes on at that place, if there is one behind
-pub is_page : (t : Table) (from place : ℕ) (entries : List KeyValue) (next : Option ℕ) → IsShapeOk t.shape → IsTable t → (from ≤ place) × (place ≤ entry_count t.shape)
+pub is_page : (t : Table) (from place : ℕ) (entries : List KeyValue) (next : Option ℕ) → IsShapeSupported t.shape → IsTable t → (from ≤ place) × (place ≤ entry_count t.shape)
     → entries ≡ entries_from (stored t) from (place - from) → IsNext t place next → IsPage (stored t) from entries next
 is_page t from place entries next ok table low told n =
     let at = ends_at next refl in record {

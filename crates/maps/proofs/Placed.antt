@@ -148,7 +148,7 @@ none_distinct : (n : ℕ) → Distinct (replicate n None)
 none_distinct zero = tt
 none_distinct (suc n) = none_distinct n
 
-pub opening_distinct : (s : Shape) → entry_count s ≤ 65536 → Distinct (opening_keys s)
+pub opening_distinct : (s : Shape) → entry_count s ≤ 2147483648 → Distinct (opening_keys s)
 opening_distinct (Array value entries) h = index_distinct 0 entries (omega arith)
 opening_distinct (Hash key value entries) h = none_distinct entries
 

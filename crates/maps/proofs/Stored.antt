@@ -9,10 +9,10 @@ use Rattle.std.proofs.lemmas.Option.{slice_get-map, slice_get_within, get_or_fro
 use Rattle.std.proofs.Math.Nat.{mul-le-mul, mul-le-mul_right}
 use Rattle.keyindex.specs.declared.index.KeyIndex.{KeyIndex}
 use Rattle.keyindex.specs.Places.{HasSizes, filled}
-use Rattle.keyindex.proofs.Callers.{many_keys, listed_key, listed_once}
+use Rattle.keyindex.proofs.Export.{many_keys, listed_key, listed_once}
 use Rattle.maps.specs.declared.shapes.Shape.{Shape}
 use Rattle.maps.specs.declared.shapes.Shape.TheVariants.{Array, Hash}
-use Rattle.maps.specs.Shapes.{IsShapeOk, key_size, value_size, entry_count}
+use Rattle.maps.specs.Shapes.{IsShapeSupported, key_size, value_size, entry_count}
 use Rattle.maps.specs.Maps.{MapState, value_at}
 use Rattle.maps.specs.declared.table.Table.{Table}
 use Rattle.maps.specs.MapSets.{Stored, Contents, value_in, entries_of, map_of, maps_of, key_at, flat, stored_shapes}
@@ -46,7 +46,7 @@ stands c m place h = by (slice_get c m) refl h
 -- ---- the keys of a table
 
 -- each key stands at one place
-pub distinct : (shape : Shape) (index : Option KeyIndex) → entry_count shape ≤ 65536 → Distinct (keys_at shape index)
+pub distinct : (shape : Shape) (index : Option KeyIndex) → entry_count shape ≤ 2147483648 → Distinct (keys_at shape index)
 distinct shape None h = index_distinct 0 (entry_count shape) (omega (arith, h))
 distinct shape (Some index) h = distinct_once (keys_at shape (Some index)) (listed_once index)
 
@@ -68,12 +68,12 @@ many_places shape None fits = length_index_keys 0 (entry_count shape)
 many_places shape (Some index) fits = many_keys index ∙ (sizes shape index fits).places_are
 
 -- how many there are
-pub array_len : (t : Table) → IsShapeOk t.shape → t.index ≡ None → entry_count t.shape ≡ finite_map.len (entries_of (stored t))
+pub array_len : (t : Table) → IsShapeSupported t.shape → t.index ≡ None → entry_count t.shape ≡ finite_map.len (entries_of (stored t))
 array_len t ok none =
     let v = value_in (value_size t.shape) t.block.items in
     sym (len_placed (keys_at t.shape t.index) v 0 (distinct t.shape t.index ok.entries.1) ∙ (ap (λ i. filled (keys_at t.shape i)) none ∙ filled_index 0 (entry_count t.shape)))
 
-pub hash_len : (t : Table) (index : KeyIndex) → IsShapeOk t.shape → t.index ≡ Some index → filled (keys_at t.shape (Some index)) ≡ finite_map.len (entries_of (stored t))
+pub hash_len : (t : Table) (index : KeyIndex) → IsShapeSupported t.shape → t.index ≡ Some index → filled (keys_at t.shape (Some index)) ≡ finite_map.len (entries_of (stored t))
 hash_len t index ok some =
     let v = value_in (value_size t.shape) t.block.items in
     sym (len_placed (keys_at t.shape t.index) v 0 (distinct t.shape t.index ok.entries.1) ∙ ap (λ i. filled (keys_at t.shape i)) some)
@@ -86,7 +86,7 @@ one o x y e f = let p : Some x ≡ Some y = sym e ∙ f in cc
 -- table t is map m, of an allowed shape, and as large as it asks
 pub record IsAt (c : Contents) (m : ℕ) (t : Table) : Type 0 where
   pub there : slice_get c m ≡ Some (stored t)
-  pub ok : IsShapeOk t.shape
+  pub ok : IsShapeSupported t.shape
   pub table : IsTable t
 
 pub many_tables : (ts : List Table) (c : Contents) (m : ℕ) → contents ts ≡ c → m < length c → m < length ts
@@ -109,7 +109,7 @@ is_at ts c m t is tables h e =
     let shape = shape_at (contents ts) m (stored t) first in
     record {
       there = subst (λ x. slice_get x m ≡ Some (stored t)) is first;
-      ok = subst IsShapeOk (get_or_from_slice_get (stored_shapes (contents ts)) m t.shape t.shape shape) (tables.shapes.each m t.shape (slice_get_within (stored_shapes (contents ts)) m t.shape shape));
+      ok = subst IsShapeSupported (get_or_from_slice_get (stored_shapes (contents ts)) m t.shape t.shape shape) (tables.shapes.each m t.shape (slice_get_within (stored_shapes (contents ts)) m t.shape shape));
       table = all_get IsTable ts m t tables.each at;
     }
 
@@ -126,7 +126,7 @@ map_there [] m h = absurd (omega (arith, h))
 map_there (x ∷ c) zero h = (map_of x, refl, refl)
 map_there (x ∷ c) (suc m) h = map_there c m (omega (arith, h))
 
--- the same, with its places
+-- for callers: a map, its shape, and its places
 pub stored_there : (c : Contents) (m : ℕ) → m < length (stored_shapes c) → (s : Stored) × (slice_get c m ≡ Some s) × (slice_get (maps_of c) m ≡ Some (map_of s))
 stored_there [] m h = absurd (omega (arith, h))
 stored_there (s ∷ c) zero h = (s, refl, refl)
@@ -143,12 +143,12 @@ standing ts c m place t is tables h e =
 
 -- ---- its values
 
-pub room_at : (t : Table) (place : ℕ) (k : List ℕ) → IsShapeOk t.shape → IsTable t → slice_get (keys_at t.shape t.index) place ≡ Some (Some k)
-    → (place * value_size t.shape + value_size t.shape ≤ length t.block.items) × (length t.block.items ≤ 16777216)
+pub room_at : (t : Table) (place : ℕ) (k : List ℕ) → IsShapeSupported t.shape → IsTable t → slice_get (keys_at t.shape t.index) place ≡ Some (Some k)
+    → (place * value_size t.shape + value_size t.shape ≤ length t.block.items) × (length t.block.items ≤ 35184372088832)
 room_at t place k ok table e =
     let low = below t.shape t.index place k table.index e in
     let fits : (place + 1) * value_size t.shape ≤ entry_count t.shape * value_size t.shape = mul-le-mul_right (value_size t.shape) (omega (arith, low)) in
-    let small : entry_count t.shape * value_size t.shape ≤ 65536 * 256 = mul-le-mul ok.entries.1 ok.value.1 in
+    let small : entry_count t.shape * value_size t.shape ≤ 2147483648 * 256 = mul-le-mul ok.entries.1 ok.value.1 in
     let full = table.full in
     (omega (arith, fits, full), omega (arith, small, full))
 
@@ -165,11 +165,11 @@ value_stands c m place s k there stands key d =
 -- ---- an entry's part of its block
 
 pub bounds : (ts : List Table) (c : Contents) (m place : ℕ) (t : Table) (size : ℕ) → contents ts ≡ c → AreTables ts → IsSome (key_at c m place) → t ≡ get_or ts m t → size ≡ value_size t.shape
-    → (place * size + size ≤ length t.block.items) × (place * size + size ≤ 16777216)
+    → (place * size + size ≤ length t.block.items) × (place * size + size ≤ 35184372088832)
 bounds ts c m place t size is tables h e width =
     let at = standing ts c m place t is tables h e in
     let room = room_at t place at.1 at.0.ok at.0.table at.2 in
-    subst (λ n. (place * n + n ≤ length t.block.items) × (place * n + n ≤ 16777216)) (sym width) (room.0, omega (arith, room.0, room.1))
+    subst (λ n. (place * n + n ≤ length t.block.items) × (place * n + n ≤ 35184372088832)) (sym width) (room.0, omega (arith, room.0, room.1))
 
 pub value_is : (ts : List Table) (c : Contents) (m place : ℕ) (t : Table) (size : ℕ) → contents ts ≡ c → AreTables ts → IsSome (key_at c m place) → t ≡ get_or ts m t → size ≡ value_size t.shape
     → option_and_then (value_at (maps_of c) m) (key_at c m place) ≡ Some (take size (drop (place * size) t.block.items))

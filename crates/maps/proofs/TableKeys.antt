@@ -11,13 +11,11 @@ use Rattle.keyindex.specs.declared.index.KeyIndex.{KeyIndex}
 use Rattle.keyindex.specs.declared.index.Inserted.{Inserted}
 use Rattle.keyindex.specs.Indexes.{key_of}
 use Rattle.keyindex.specs.Places.{key_in, places, keys_of, filled, IsAbsent}
-use Rattle.keyindex.proofs.Found.{key_is, key_length}
-use Rattle.keyindex.proofs.Parts.{Wrote, byte_at, key_here, key_there}
-use Rattle.keyindex.proofs.Callers.{many_keys, key_listed, listed_key, listed_once, not_listed}
+use Rattle.keyindex.proofs.Export.{key_is, key_length, Wrote, byte_at, key_here, key_there, many_keys, key_listed, listed_key, listed_once, not_listed}
 use Rattle.maps.specs.declared.shapes.Shape.{Shape}
 use Rattle.maps.specs.declared.shapes.Shape.TheVariants.{Array, Hash}
 use Rattle.maps.specs.declared.table.Table.{Table}
-use Rattle.maps.specs.Shapes.{IsShapeOk, IsHash, value_size, entry_count}
+use Rattle.maps.specs.Shapes.{IsShapeSupported, IsHash, value_size, entry_count}
 use Rattle.maps.specs.Maps.{Entries, MapState, index_key}
 use Rattle.maps.specs.MapSets.{Contents, placed, value_in, entries_of, maps_of, write_over, HasRoom}
 use Rattle.maps.specs.Blocks.{keys_at, stored, FitsIndex, IsTable, HasRoomFor, HasFreePlace, HasClaimed}
@@ -38,7 +36,7 @@ index_found t place key none low e =
     ap (λ i. slice_get (keys_at t.shape i) place) none
     ∙ (index_at 0 (entry_count t.shape) place low ∙ (ap (λ n. Some (Some (index_key n))) (let z : 0 + place ≡ place = omega arith in z) ∙ ap (λ k. Some (Some k)) (sym e)))
 
-pub index_missing : (t : Table) (place : ℕ) (key : List ℕ) → t.index ≡ None → entry_count t.shape ≤ 65536 → entry_count t.shape ≤ place → place < 2 ^ 32 → key ≡ index_key place
+pub index_missing : (t : Table) (place : ℕ) (key : List ℕ) → t.index ≡ None → entry_count t.shape ≤ 2147483648 → entry_count t.shape ≤ place → place < 2 ^ 32 → key ≡ index_key place
     → (p : ℕ) → slice_get (keys_at t.shape t.index) p ≢ Some (Some key)
 index_missing t place key none few high small e p x =
     index_nowhere 0 (entry_count t.shape) place p (omega (arith, few)) small (λ q low is. omega (arith, low, is, high)) (sym (ap (λ i. slice_get (keys_at t.shape i) p) none) ∙ (x ∙ ap (λ k. Some (Some k)) e))
@@ -169,18 +167,18 @@ pub claimed_at : (t u : Table) (key : List ℕ) (o : Option Inserted) (r : Inser
 claimed_at t u key o r is shape block table all =
     record { shape = shape; block = block; table = table; claimed = subst (λ x. IfSome x (λ i. HasClaimed t u key i.place)) is all }
 
-pub claimed_room : (t u : Table) (key : List ℕ) (place size : ℕ) → IsShapeOk t.shape → IsClaimed t u key place → size ≡ value_size u.shape → (place * size + size ≤ length u.block.items) × (length u.block.items ≤ 16777216)
+pub claimed_room : (t u : Table) (key : List ℕ) (place size : ℕ) → IsShapeSupported t.shape → IsClaimed t u key place → size ≡ value_size u.shape → (place * size + size ≤ length u.block.items) × (length u.block.items ≤ 35184372088832)
 claimed_room t u key place size ok h width =
-    subst (λ n. (place * n + n ≤ length u.block.items) × (length u.block.items ≤ 16777216)) (sym width) (room_at u place key (subst IsShapeOk (sym h.shape) ok) h.table h.claimed.stands)
+    subst (λ n. (place * n + n ≤ length u.block.items) × (length u.block.items ≤ 35184372088832)) (sym width) (room_at u place key (subst IsShapeSupported (sym h.shape) ok) h.table h.claimed.stands)
 
-pub put_entries : (t u : Table) (key value : List ℕ) (place size : ℕ) → IsShapeOk t.shape → IsClaimed t u key place → size ≡ value_size u.shape → length value ≡ value_size t.shape
+pub put_entries : (t u : Table) (key value : List ℕ) (place size : ℕ) → IsShapeSupported t.shape → IsClaimed t u key place → size ≡ value_size u.shape → length value ≡ value_size t.shape
     → entries_of (stored (with_bytes u (place * size) value)) ≡ finite_map.insert (entries_of (stored t)) key value
 put_entries t u key value place size ok h width many =
     let ks = keys_at t.shape t.index in
     let ls = keys_at u.shape u.index in
     let s = value_size u.shape in
     let b = u.block.items in
-    let okay : IsShapeOk u.shape = subst IsShapeOk (sym h.shape) ok in
+    let okay : IsShapeSupported u.shape = subst IsShapeSupported (sym h.shape) ok in
     let fits = (room_at u place key okay h.table h.claimed.stands).0 in
     let long : length value ≡ s = many ∙ ap value_size (sym h.shape) in
     let w = value_in s (write_over b (place * s) value) in
@@ -205,7 +203,7 @@ remove_nothing m key none =
     by q true e = ap (finite_map.get m) (key_same q key e) ∙ (none ∙ sym (ap (λ b. cond b None (finite_map.get m q)) e))
     by q false e = sym (ap (λ b. cond b None (finite_map.get m q)) e)
 
-pub kept_entries : (t : Table) (x y : KeyIndex) (key : List ℕ) → IsShapeOk t.shape → t.index ≡ Some x → IsAbsent x key → keys_of y ≡ keys_of x
+pub kept_entries : (t : Table) (x y : KeyIndex) (key : List ℕ) → IsShapeSupported t.shape → t.index ≡ Some x → IsAbsent x key → keys_of y ≡ keys_of x
     → placed (keys_of y) (value_in (value_size t.shape) t.block.items) 0 ≡ finite_map.remove (entries_of (stored t)) key
 kept_entries t x y key ok some absent same =
     let v = value_in (value_size t.shape) t.block.items in
@@ -242,8 +240,8 @@ wrote size b c from place h = record {
   above = λ i low. h.after i 0 low;
 }
 
-pub place_room : (t : Table) (x y : KeyIndex) (key : List ℕ) (place from size : ℕ) → IsShapeOk t.shape → IsTable t → t.index ≡ Some x → IsTakenOut x y key place from → size ≡ value_size t.shape
-    → (place * size + size ≤ length t.block.items) × (from * size + size ≤ length t.block.items) × (length t.block.items ≤ 16777216)
+pub place_room : (t : Table) (x y : KeyIndex) (key : List ℕ) (place from size : ℕ) → IsShapeSupported t.shape → IsTable t → t.index ≡ Some x → IsTakenOut x y key place from → size ≡ value_size t.shape
+    → (place * size + size ≤ length t.block.items) × (from * size + size ≤ length t.block.items) × (length t.block.items ≤ 35184372088832)
 place_room t x y key place from size ok table some h width =
     let s = value_size t.shape in
     let low = h.low in
@@ -251,12 +249,12 @@ place_room t x y key place from size ok table some h width =
     let full : length t.block.items ≡ places x * s = table.full ∙ ap (λ n. n * s) (sym fits.places_are) in
     let most : (place + 1) * s ≤ places x * s = mul-le-mul_right s (omega (arith, low.0)) in
     let most_from : (from + 1) * s ≤ places x * s = mul-le-mul_right s (omega (arith, low.1)) in
-    let small : entry_count t.shape * value_size t.shape ≤ 65536 * 256 = mul-le-mul ok.entries.1 ok.value.1 in
+    let small : entry_count t.shape * value_size t.shape ≤ 2147483648 * 256 = mul-le-mul ok.entries.1 ok.value.1 in
     let all = table.full in
-    subst (λ n. (place * n + n ≤ length t.block.items) × (from * n + n ≤ length t.block.items) × (length t.block.items ≤ 16777216)) (sym width)
+    subst (λ n. (place * n + n ≤ length t.block.items) × (from * n + n ≤ length t.block.items) × (length t.block.items ≤ 35184372088832)) (sym width)
     (omega (arith, most, full), omega (arith, most_from, full), omega (arith, small, all))
 
-pub taken_entries : (t : Table) (x y : KeyIndex) (c : List ℕ) (key : List ℕ) (place from : ℕ) → IsShapeOk t.shape → IsTable t → t.index ≡ Some x → IsTakenOut x y key place from → IsMoved (value_size t.shape) t.block.items c from place
+pub taken_entries : (t : Table) (x y : KeyIndex) (c : List ℕ) (key : List ℕ) (place from : ℕ) → IsShapeSupported t.shape → IsTable t → t.index ≡ Some x → IsTakenOut x y key place from → IsMoved (value_size t.shape) t.block.items c from place
     → placed (keys_of y) (value_in (value_size t.shape) c) 0 ≡ finite_map.remove (entries_of (stored t)) key
 taken_entries t x y c key place from ok table some h moved =
     let s = value_size t.shape in

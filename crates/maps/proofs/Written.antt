@@ -7,7 +7,7 @@ use Rattle.std.specs.Vec.{with_items_from}
 use Rattle.std.proofs.lemmas.List.{take-append-le, drop-append-le}
 use Rattle.std.proofs.Math.Seq.{drop-append_seam, take-append_seam, drop-append-add, take-length}
 use Rattle.std.proofs.Math.Nat.{mul-le-mul_right}
-use Rattle.maps.specs.Shapes.{AreShapesOk, value_size}
+use Rattle.maps.specs.Shapes.{AreShapesSupported, value_size}
 use Rattle.maps.specs.Maps.{Maps, MapState}
 use Rattle.maps.specs.declared.table.Table.{Table}
 use Rattle.maps.specs.declared.entry.Entry.{Entry}
@@ -136,7 +136,7 @@ all_set P (x ∷ xs) (suc i) y all h = (all.0, all_set P xs i y all.1 h)
 
 -- a table exchanged for one of the same shape
 pub tables_kept : (ts : List Table) (m : ℕ) (t u : Table) → AreTables ts → t ≡ get_or ts m t → u.shape ≡ t.shape → IsTable u → AreTables (slice_set ts m u)
-tables_kept ts m t u tables e same fits = record { shapes = subst AreShapesOk (sym (kept_shapes ts m t u e same)) tables.shapes; each = all_set IsTable ts m u tables.each fits }
+tables_kept ts m t u tables e same fits = record { shapes = subst AreShapesSupported (sym (kept_shapes ts m t u e same)) tables.shapes; each = all_set IsTable ts m u tables.each fits }
 
 pub fits_written : (t : Table) (start : ℕ) (w : List ℕ) → IsTable t → IsTable (with_bytes t start w)
 fits_written t start w table = record { index = table.index; full = kept_length t start w ∙ table.full }

@@ -6,7 +6,7 @@ use Rattle.keyindex.specs.Places.{keys_of, filled, HasSizes}
 use Rattle.maps.specs.declared.shapes.Shape.{Shape}
 use Rattle.maps.specs.declared.shapes.Shape.TheVariants.{Array, Hash}
 use Rattle.maps.specs.declared.table.Table.{Table}
-use Rattle.maps.specs.Shapes.{AreShapesOk, IsHash, entry_count, block_size}
+use Rattle.maps.specs.Shapes.{AreShapesSupported, IsHash, entry_count, block_size}
 use Rattle.maps.specs.MapSets.{Stored, Contents, index_keys, stored_shapes}
 
 -- the keys by their places: an array's are its indices, a hash's those of its index
@@ -50,5 +50,5 @@ pub record HasClaimed (t u : Table) (key : List ℕ) (place : ℕ) : Type 0 wher
 
 -- allowed shapes, and what each shape asks
 pub record AreTables (tables : List Table) : Type 0 where
-  pub shapes : AreShapesOk (stored_shapes (contents tables))
+  pub shapes : AreShapesSupported (stored_shapes (contents tables))
   pub each : AllByRecursion IsTable tables

@@ -1,4 +1,4 @@
--- Which shapes maps may have, finite maps, their places, the numbers and pointers of the machine, and what a scan gives.
+-- The shapes that maps may have, finite maps, their places, the numbers and pointers of the machine, and what a scan gives.
 pub mod Shapes
 pub mod Maps
 pub mod Values

@@ -33,14 +33,14 @@ pub record Scans (s : MapState) (from room : ℕ) (entries : List KeyValue) (nex
   pub few : length entries ≤ room
   -- all of them, where the scan began at the first place and came to the end
   pub whole : from ≡ 0 → next ≡ None → length entries ≡ finite_map.len s.entries
-  -- it comes to the end where there is room for as many entries as there are places left
+  -- the scan comes to the end if there is room for as many entries as there are places left
   pub ends : entry_count s.shape ≤ from + room → next ≡ None
   -- else it goes on where its room was full, or behind as many places as it looks at
   pub goes_on : IfSome next (λ p. (from ≤ p) × (p < entry_count s.shape) × (p ≤ from + reach room) × ((length entries ≡ room) ⊎ (p ≡ from + reach room)))
   -- and where there is room for any, further on
   pub moves : 1 ≤ room → IfSome next (λ p. from < p)
 
--- the same of the first entries of two blocks, of keys and of values, each with room for so many bytes
+-- `Scans`, but of the first entries of two blocks, of keys and of values, each with room for so many bytes
 abbrev pub ScansInto : MapState → ℕ → ℕ → ℕ → List ℕ → List ℕ → Scanned → Type 0
 ScansInto s from key_room value_room keys values r = Scans s from (room_in s.shape key_room value_room) (given s.shape r.count keys values) r.next
 
@@ -55,7 +55,7 @@ standing (Some key) value = (key, value) ∷ []
 abbrev pub entry_at : Stored → ℕ → List KeyValue
 entry_at s place = standing (flat (slice_get s.keys place)) (value_in (value_size s.shape) s.bytes place)
 
--- those at so many places from one on
+-- the entries at n places, from the place `from` on
 abbrev pub entries_from : Stored → ℕ → ℕ → List KeyValue
 entries_from s from zero = []
 entries_from s from (suc n) = entries_from s from n ++ entry_at s (from + n)

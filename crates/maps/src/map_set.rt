@@ -4,7 +4,7 @@ ghost use Rattle.std.specs.Prelude.{◌≡◌, ◌↔◌, ◌<◌, ◌≢◌, �
 ghost use Rattle.std.specs.List.{AllByRecursion};
 ghost use Rattle.std.specs.FinMap as finite_map;
 ghost use Rattle.std.specs.Borrow.{sem};
-ghost use Rattle.maps.specs.Shapes.{key_size, value_size, entry_count, block_size, first_shape_fault, IsShapeOk, IsHash};
+ghost use Rattle.maps.specs.Shapes.{key_size, value_size, entry_count, block_size, first_shape_fault, first_fault_within, AreLimits, AreShapesSupported, IsShapeSupported, IsHash};
 ghost use Rattle.maps.specs.Blocks.{contents, IsTable};
 ghost use Rattle.maps.specs.declared.shapes.MapError.TheVariants.{NoMemory, Refused};
 ghost use Rattle.maps.specs.Maps.{HasShapes, MapState, value_at};
@@ -12,7 +12,7 @@ ghost use Rattle.maps.specs.MapSets.{maps_of, stored_shapes, key_at, key_of, val
 ghost use Rattle.maps.specs.Scans.{IsPage, ScansInto, given};
 
 use crate::entry::{Entry, Inserted, Scanned};
-use crate::shapes::{MapError, Shape, shapes_ok};
+use crate::shapes::{MapError, MapLimits, Shape, shapes_ok, shapes_within};
 use crate::table::{Table, copies_of_tables, copy_tables};
 use std::alloc::{AllocError, Global};
 use std::marker::Model;
@@ -52,6 +52,43 @@ impl MapSet {
         ensures otherwise { IfNone (first_shape_fault shapes.now) (IfErr result (λ e. e ≡ NoMemory)) }
     {
         shapes_ok(shapes)?;
+        let maps = MapSet::open_supported(alloc, shapes)?;
+        Ok(maps)
+    }
+
+    /// Maps of these shapes, as [`MapSet::open`] opens them, by these limits instead of the standard ones.
+    ///
+    /// # Errors
+    ///
+    /// The shapes are past these limits, or the system has no memory left.
+    pub fn open_within(
+        alloc: Global,
+        limits: &MapLimits,
+        shapes: &[Shape],
+    ) -> Result<MapSet, MapError>
+        requires limits { AreLimits limits.now }
+        ensures opened { IfOk result (λ c. c ≡ opened shapes.now) }
+        ensures maps { IfOk result (λ c. maps_of c ≡ opening_maps shapes.now) }
+        ensures shapes { IfOk result (λ c. HasShapes shapes.now (maps_of c)) }
+        ensures refused { IfSome (first_fault_within limits.now shapes.now) (λ fault. result ≡ Err (Refused fault)) }
+        ensures otherwise { IfNone (first_fault_within limits.now shapes.now) (IfErr result (λ e. e ≡ NoMemory)) }
+    {
+        shapes_within(limits, shapes)?;
+        let maps = MapSet::open_supported(alloc, shapes)?;
+        Ok(maps)
+    }
+
+    /// Maps of these shapes, which the widest limits allow.
+    ///
+    /// # Errors
+    ///
+    /// The system has no memory left.
+    pub fn open_supported(alloc: Global, shapes: &[Shape]) -> Result<MapSet, AllocError>
+        requires shapes { AreShapesSupported shapes.now }
+        ensures opened { IfOk result (λ c. c ≡ opened shapes.now) }
+        ensures maps { IfOk result (λ c. maps_of c ≡ opening_maps shapes.now) }
+        ensures shapes { IfOk result (λ c. HasShapes shapes.now (maps_of c)) }
+    {
         let tables = open_tables(alloc, shapes)?;
         Ok(MapSet { tables })
     }
@@ -246,6 +283,7 @@ impl MapSet {
     {
         let table = &mut self.tables[m];
         let claimed = table.claim(key)?;
+        // (that each byte of the table is below 256: the proof takes it from this call)
         let _bytes = table.bytes();
         let entry = Entry {
             map: m as u8,
@@ -289,6 +327,7 @@ impl MapSet {
         ensures map { result.map ≡ m }
         ensures place { result.place ≡ place }
     {
+        // (that there are at most 16 tables, so that the number is one byte)
         let _tables = &self.tables;
         Entry {
             map: m as u8,
@@ -299,7 +338,7 @@ impl MapSet {
 
 /// A table for each shape: zeros for all values.
 fn open_tables(alloc: Global, shapes: &[Shape]) -> Result<Vec<Table>, AllocError>
-    requires sizes { All IsShapeOk shapes.now }
+    requires sizes { All IsShapeSupported shapes.now }
     ensures opened { IfOk result (λ v. contents v.items ≡ opened shapes.now) }
     ensures tables { IfOk result (λ v. AllByRecursion IsTable v.items) }
 {

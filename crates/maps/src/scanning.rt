@@ -1,7 +1,7 @@
 // Entries of one map, from a place on.
 
 ghost use Rattle.std.specs.Prelude.{◌≡◌, ◌⊎◌, ◌+◌, ◌-◌, ◌*◌, ◌++◌, ◌<◌, ◌≤◌, length, min, slice_get, Some, None, IfSome, IfNone, true, false};
-ghost use Rattle.maps.specs.Shapes.{key_size, value_size, entry_count, IsShapeOk};
+ghost use Rattle.maps.specs.Shapes.{key_size, value_size, entry_count, IsShapeSupported};
 ghost use Rattle.maps.specs.MapSets.{value_in};
 ghost use Rattle.maps.specs.Blocks.{stored, IsTable};
 ghost use Rattle.maps.specs.Scans.{room_in, reach, given, entry_at, entries_from, KeepsParts};
@@ -21,7 +21,7 @@ fn put_part(block: &mut [u8], n: usize, bytes: &[u8])
 impl Table {
     /// How many entries there is room for in so many bytes of keys and of values.
     pub(crate) fn room_in(&self, keys: usize, values: usize) -> usize
-        requires shape { IsShapeOk self.now.shape }
+        requires shape { IsShapeSupported self.now.shape }
         ensures room { result ≡ room_in self.now.shape keys values }
     {
         (keys / self.shape.key_bytes()).min(values / self.shape.value_bytes())
@@ -29,7 +29,7 @@ impl Table {
 
     /// The place behind the last that a scan from a place on looks at.
     pub(crate) fn scan_end(&self, from: u32, room: usize) -> u32
-        requires shape { IsShapeOk self.now.shape }
+        requires shape { IsShapeSupported self.now.shape }
         ensures end { result ≡ min (from + reach room) (entry_count self.now.shape) }
     {
         let far = room.saturating_mul(16).saturating_add(1024 + from as usize);
@@ -38,7 +38,7 @@ impl Table {
 
     /// Writes the key at a place over key `n` of a block, if one stands there. Whether one does.
     fn key_into(&self, place: u32, n: usize, keys: &mut [u8]) -> bool
-        requires shape { IsShapeOk self.now.shape }
+        requires shape { IsShapeSupported self.now.shape }
         requires table { IsTable self.now }
         requires place { place < entry_count self.now.shape }
         requires room { n * key_size self.now.shape + key_size self.now.shape ≤ length keys.old }
@@ -53,7 +53,7 @@ impl Table {
 
     /// Writes the value at a place over value `n` of a block.
     fn value_into(&self, place: u32, n: usize, values: &mut [u8])
-        requires shape { IsShapeOk self.now.shape }
+        requires shape { IsShapeSupported self.now.shape }
         requires table { IsTable self.now }
         requires place { place < entry_count self.now.shape }
         requires room { n * value_size self.now.shape + value_size self.now.shape ≤ length values.old }
@@ -67,7 +67,7 @@ impl Table {
 
     /// Writes the entry at a place behind the first `n` of two blocks, if a key stands there. How many entries there are then.
     fn entry_into(&self, place: u32, n: usize, keys: &mut [u8], values: &mut [u8]) -> usize
-        requires shape { IsShapeOk self.now.shape }
+        requires shape { IsShapeSupported self.now.shape }
         requires table { IsTable self.now }
         requires place { place < entry_count self.now.shape }
         requires keys { n * key_size self.now.shape + key_size self.now.shape ≤ length keys.old }
@@ -106,7 +106,7 @@ impl Table {
         keys: &mut [u8],
         values: &mut [u8],
     ) -> (usize, u32)
-        requires shape { IsShapeOk self.now.shape }
+        requires shape { IsShapeSupported self.now.shape }
         requires table { IsTable self.now }
         requires from { from ≤ end }
         requires end { end ≤ entry_count self.now.shape }

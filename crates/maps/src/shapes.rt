@@ -1,7 +1,7 @@
 // The shapes of maps, and which of them are allowed.
 
 ghost use Rattle.std.specs.Prelude.{◌≡◌, ◌↔◌, ◌≤◌, IsTrue, IsOk, MatchResult, None, Some, All, length, sum_by};
-ghost use Rattle.maps.specs.Shapes.{key_size, value_size, entry_count, IsShapeOk, AreShapesOk, room_of, error_number, fault_number, first_shape_fault};
+ghost use Rattle.maps.specs.Shapes.{key_size, value_size, entry_count, IsShapeOk, IsShapeSupported, IsShapeWithin, AreShapesOk, AreShapesWithin, AreLimits, standard, widest, room_of, error_number, fault_number, first_shape_fault, first_fault_within};
 
 use std::alloc::AllocError;
 use thiserror::Error;
@@ -24,6 +24,18 @@ pub const MAX_ENTRIES: u32 = 65_536;
 /// The most bytes of all maps of a program.
 pub const MAX_TOTAL_BYTES: u32 = 16_777_216;
 
+/// The most bytes that a key may have by any limits.
+pub const MOST_KEY_BYTES: u32 = 64;
+
+/// The most bytes that a value may have by any limits.
+pub const MOST_VALUE_BYTES: u32 = 256;
+
+/// The most entries that a map may have by any limits.
+pub const MOST_ENTRIES: u32 = 2_147_483_648;
+
+/// The most bytes that all maps of a program may have by any limits.
+pub const MOST_TOTAL_BYTES: u64 = 1_099_511_627_776;
+
 /// The most bytes of the argument that a program of these maps gets.
 pub const MAX_ARG_LEN: usize = 64;
 
@@ -37,6 +49,66 @@ pub fn limits()
     ensures bytes_of_all_maps { MAX_TOTAL_BYTES ≡ 16777216 }
     ensures bytes_of_an_argument { MAX_ARG_LEN ≡ 64 }
 {}
+
+/// The widest limits, as numbers.
+pub fn widest_limits()
+    ensures bytes_of_a_key { MOST_KEY_BYTES ≡ 64 }
+    ensures bytes_of_a_value { MOST_VALUE_BYTES ≡ 256 }
+    ensures entries_of_a_map { MOST_ENTRIES ≡ 2147483648 }
+    ensures bytes_of_all_maps { MOST_TOTAL_BYTES ≡ 1099511627776 }
+{}
+
+/// How large the maps of a program may be. It lies in memory as C has it.
+#[repr(C)]
+#[derive(Clone, Copy, PartialEq, Eq, Debug)]
+pub struct MapLimits {
+    /// The most bytes of a key.
+    pub key: u32,
+    /// The most bytes of a value.
+    pub value: u32,
+    /// The most entries of a map.
+    pub entries: u32,
+    /// The most bytes of all maps.
+    pub bytes: u64,
+}
+
+impl MapLimits {
+    /// The limits where none are named: keys of 64 bytes, values of 256 bytes, 65,536 entries, 16,777,216 bytes in all maps.
+    pub fn standard() -> MapLimits
+        ensures standard { result ≡ standard }
+        ensures limits { AreLimits result }
+    {
+        MapLimits {
+            key: MAX_KEY_BYTES,
+            value: MAX_VALUE_BYTES,
+            entries: MAX_ENTRIES,
+            bytes: MAX_TOTAL_BYTES as u64,
+        }
+    }
+
+    /// The widest limits: keys of 64 bytes, values of 256 bytes, 2,147,483,648 entries, 2^40 bytes in all maps.
+    pub fn widest() -> MapLimits
+        ensures widest { result ≡ widest }
+        ensures limits { AreLimits result }
+    {
+        MapLimits {
+            key: MOST_KEY_BYTES,
+            value: MOST_VALUE_BYTES,
+            entries: MOST_ENTRIES,
+            bytes: MOST_TOTAL_BYTES,
+        }
+    }
+
+    /// Whether each is at most the widest, and the index of an array has room as a key.
+    pub fn is_within_limits(&self) -> bool
+        ensures limits { IsTrue result ↔ AreLimits self.now }
+    {
+        (INDEX_BYTES..=MOST_KEY_BYTES).contains(&self.key)
+            && self.value <= MOST_VALUE_BYTES
+            && self.entries <= MOST_ENTRIES
+            && self.bytes <= MOST_TOTAL_BYTES
+    }
+}
 
 /// The kind of a map and its sizes: the bytes of a key and of a value, and the number of entries.
 #[derive(Clone, Copy, PartialEq, Eq, Debug)]
@@ -52,6 +124,13 @@ impl Shape {
     pub fn is_ok(self) -> bool
         ensures sizes { IsTrue result ↔ IsShapeOk self }
     {
+        self.is_within(&MapLimits::standard())
+    }
+
+    /// Whether each size is 1 at least, and within these limits.
+    pub fn is_within(self, limits: &MapLimits) -> bool
+        ensures sizes { IsTrue result ↔ IsShapeWithin limits.now self }
+    {
         let (key, value, entries) = match self {
             Shape::Array { value, entries } => (INDEX_BYTES, value, entries),
             Shape::Hash {
@@ -60,23 +139,23 @@ impl Shape {
                 entries,
             } => (key, value, entries),
         };
-        (1..=MAX_KEY_BYTES).contains(&key)
-            && (1..=MAX_VALUE_BYTES).contains(&value)
-            && (1..=MAX_ENTRIES).contains(&entries)
+        (1..=limits.key).contains(&key)
+            && (1..=limits.value).contains(&value)
+            && (1..=limits.entries).contains(&entries)
     }
 
     /// The bytes that the map counts: an array's values, a hash's keys and values.
-    pub fn room(self) -> u32
-        requires sizes { IsShapeOk self }
+    pub fn room(self) -> u64
+        requires sizes { IsShapeSupported self }
         ensures room { result ≡ room_of self }
     {
         match self {
-            Shape::Array { value, entries } => entries * value,
+            Shape::Array { value, entries } => entries as u64 * value as u64,
             Shape::Hash {
                 key,
                 value,
                 entries,
-            } => entries * (key + value),
+            } => entries as u64 * (key + value) as u64,
         }
     }
 
@@ -111,7 +190,7 @@ impl Shape {
     }
 }
 
-/// Which rule shapes break. Each has its number, from 1 to 3.
+/// The rule that shapes break. Each rule has its number, from 1 to 3.
 #[derive(Clone, Copy, PartialEq, Eq, Debug, Error)]
 pub enum ShapeFault {
     /// There are 1 to 16 maps.
@@ -188,25 +267,35 @@ pub fn shapes_ok(shapes: &[Shape]) -> Result<(), ShapeFault>
     ensures ok { IsOk result ↔ AreShapesOk shapes.now }
     ensures first { MatchResult result (λ _. first_shape_fault shapes.now ≡ None) (λ e. first_shape_fault shapes.now ≡ Some e) }
 {
+    shapes_within(&MapLimits::standard(), shapes)
+}
+
+/// Whether maps may have these shapes by these limits; if not, the refusal with the lowest number. Takes no memory.
+pub fn shapes_within(limits: &MapLimits, shapes: &[Shape]) -> Result<(), ShapeFault>
+    requires limits { AreLimits limits.now }
+    ensures ok { IsOk result ↔ AreShapesWithin limits.now shapes.now }
+    ensures first { MatchResult result (λ _. first_fault_within limits.now shapes.now ≡ None) (λ e. first_fault_within limits.now shapes.now ≡ Some e) }
+{
     if shapes.is_empty() || shapes.len() > MAX_MAPS {
         return Err(ShapeFault::NoMapOrTooMany);
     }
-    if !shapes.iter().all(|shape| shape.is_ok()) {
+    if !shapes.iter().all(|shape| shape.is_within(limits)) {
         return Err(ShapeFault::SizeOutOfLimits);
     }
-    if total_room(shapes) > MAX_TOTAL_BYTES {
+    if total_room(limits, shapes) > limits.bytes {
         return Err(ShapeFault::TooManyBytes);
     }
     Ok(())
 }
 
 /// The bytes that all maps count.
-fn total_room(shapes: &[Shape]) -> u32
+fn total_room(limits: &MapLimits, shapes: &[Shape]) -> u64
+    requires limits { AreLimits limits.now }
     requires many { length shapes.now ≤ MAX_MAPS }
-    requires sizes { All IsShapeOk shapes.now }
+    requires sizes { All (IsShapeWithin limits.now) shapes.now }
     ensures total { result ≡ sum_by room_of shapes.now }
 {
-    let mut total = 0;
+    let mut total = 0u64;
     for shape in shapes {
         total += shape.room();
     }

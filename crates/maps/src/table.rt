@@ -5,7 +5,7 @@ ghost use Rattle.std.specs.List.{AllByRecursion};
 ghost use Rattle.std.specs.FinMap as finite_map;
 ghost use Rattle.std.specs.Borrow.{sem};
 ghost use Rattle.maps.specs.declared.shapes.Shape.{Shape};
-ghost use Rattle.maps.specs.Shapes.{key_size, value_size, entry_count, IsShapeOk, IsHash};
+ghost use Rattle.maps.specs.Shapes.{key_size, value_size, entry_count, IsShapeSupported, IsHash};
 ghost use Rattle.maps.specs.Maps.{AreBytes, index_key};
 ghost use Rattle.maps.specs.MapSets.{stored_shapes, entries_of, opening_keys, opened_map};
 ghost use Rattle.maps.specs.Blocks.{keys_at, stored, contents, FitsIndex, IsTable, HasRoomFor, HasFreePlace, HasClaimed, AreTables};
@@ -29,7 +29,7 @@ impl Table {
 
     /// A table of a shape: zeros for all values, and all keys of an array, or none of a hash.
     pub(crate) fn open(alloc: Global, shape: Shape) -> Result<Table, AllocError>
-        requires shape { IsShapeOk shape }
+        requires shape { IsShapeSupported shape }
         ensures opened { IfOk result (λ t. stored t ≡ opened_map shape) }
         ensures table { IfOk result IsTable }
     {
@@ -59,7 +59,7 @@ impl Table {
 
     /// The number of keys.
     pub(crate) fn len(&self) -> usize
-        requires shape { IsShapeOk self.now.shape }
+        requires shape { IsShapeSupported self.now.shape }
         requires table { IsTable self.now }
         ensures keys { result ≡ finite_map.len (entries_of (stored self.now)) }
     {
@@ -71,7 +71,7 @@ impl Table {
 
     /// The number of places, at each of which a key stands or none.
     pub(crate) fn places(&self) -> u32
-        requires shape { IsShapeOk self.now.shape }
+        requires shape { IsShapeSupported self.now.shape }
         requires table { IsTable self.now }
         ensures places { result ≡ length (stored self.now).keys }
         ensures entries { result ≡ entry_count self.now.shape }
@@ -81,7 +81,7 @@ impl Table {
 
     /// The place of a key, if it stands anywhere.
     pub(crate) fn find(&self, key: &[u8]) -> Option<u32>
-        requires shape { IsShapeOk self.now.shape }
+        requires shape { IsShapeSupported self.now.shape }
         requires table { IsTable self.now }
         requires key { length key.now ≡ key_size self.now.shape }
         ensures found { IfSome result (λ p. slice_get (stored self.now).keys p ≡ Some (Some key.now)) }
@@ -133,7 +133,7 @@ impl Table {
         as_bytes(&self.block)
     }
 
-    /// So many bytes of the block, from `start` on, to be written.
+    /// Lends `size` bytes of the block, from `start` on, to be written.
     pub(crate) fn bytes_mut(&mut self, start: usize, size: usize) -> &mut [u8]
         requires { start + size ≤ vec_len self.old.block }
         ensures* writes_back { sem 𝓛 (LendsBlock self.entry start result) }
@@ -146,7 +146,7 @@ impl Table {
 
     /// The place of a key, from now on: its own, or a free one; none where there is none.
     pub(crate) fn claim(&mut self, key: &[u8]) -> Option<Inserted>
-        requires shape { IsShapeOk self.old.shape }
+        requires shape { IsShapeSupported self.old.shape }
         requires table { IsTable self.old }
         requires key { length key.now ≡ key_size self.old.shape }
         ensures shape { self.new.shape ≡ self.old.shape }
@@ -179,7 +179,7 @@ impl Table {
 
     /// Puts a value under a key, which is there, or for which a hash has room.
     pub(crate) fn put(&mut self, key: &[u8], value: &[u8])
-        requires shape { IsShapeOk self.old.shape }
+        requires shape { IsShapeSupported self.old.shape }
         requires table { IsTable self.old }
         requires key { length key.now ≡ key_size self.old.shape }
         requires value { length value.now ≡ value_size self.old.shape }
@@ -196,7 +196,7 @@ impl Table {
 
     /// Takes a hash's key out, with its value. Whether it was there.
     pub(crate) fn take_out(&mut self, key: &[u8]) -> bool
-        requires shape { IsShapeOk self.old.shape }
+        requires shape { IsShapeSupported self.old.shape }
         requires table { IsTable self.old }
         requires hash { IsHash self.old.shape }
         requires key { length key.now ≡ key_size self.old.shape }
@@ -237,7 +237,7 @@ impl Table {
 
 /// The index of a hash's keys; an array has none.
 fn open_index(alloc: Global, shape: Shape) -> Result<Option<KeyIndex>, AllocError>
-    requires shape { IsShapeOk shape }
+    requires shape { IsShapeSupported shape }
     ensures fits { IfOk result (FitsIndex shape) }
     ensures keys { IfOk result (λ index. keys_at shape index ≡ opening_keys shape) }
 {
@@ -251,7 +251,7 @@ fn open_index(alloc: Global, shape: Shape) -> Result<Option<KeyIndex>, AllocErro
     }
 }
 
-/// The same index in room of its own, if there is one.
+/// Copies the index, if there is one, into room of its own.
 fn copy_index(alloc: Global, index: &Option<KeyIndex>) -> Result<Option<KeyIndex>, AllocError>
     ensures fits { IfOk result (λ copy. (shape : Shape) → FitsIndex shape index.now → FitsIndex shape copy) }
     ensures keys { IfOk result (λ copy. (shape : Shape) → keys_at shape copy ≡ keys_at shape index.now) }
@@ -265,12 +265,11 @@ fn copy_index(alloc: Global, index: &Option<KeyIndex>) -> Result<Option<KeyIndex
     }
 }
 
-/// The same bytes: as all that are read, they are numbers below 256.
+/// Gives the bytes as they are: like all bytes that are read, they are numbers below 256.
 fn as_bytes(bytes: &[u8]) -> &[u8]
     ensures same { result.now ≡ bytes.now }
     ensures are_bytes { AreBytes result.now }
 {
-    let _len = bytes.len();
     bytes
 }
 

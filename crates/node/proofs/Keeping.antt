@@ -10,7 +10,7 @@ use Rattle.oplog.specs.History.{Effect, History, after, left_by}
 use Rattle.replica.specs.StoreMeaning.{store_meaning, outcome_of}
 use Rattle.replica.specs.Views.{RepliesView}
 use Rattle.replica.specs.Replaying.{KeepsOutcomes}
-use Rattle.replica.proofs.Kept.{count_with, at_with, off_with}
+use Rattle.replica.proofs.Export.{count_with, at_with, off_with}
 use Rattle.node.specs.Following.{with_effect, outcomes_after}
 
 pub get_some : {A : Type 0} (xs : List A) (i : ℕ) → i < length xs → (v : A) × (slice_get xs i ≡ Some v)

@@ -3,3 +3,4 @@ pub mod Keeping
 pub mod Answers
 -- A list of steps, and then another.
 pub mod Going
+pub mod Export

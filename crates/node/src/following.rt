@@ -46,6 +46,7 @@ pub fn append_only(log: &mut LogState, records: &[Record], replies: &mut Replies
         Err(_) => 0,
     };
     replies.restart(first, count);
+    // (the log's invariant)
     let _tail = log.tail();
 }
 
@@ -170,6 +171,7 @@ pub fn exchange(log: &mut LogState, node: &mut NodeReplica)
     ensures node { node.new ≡ exchanged log.old node.old }
     ensures within { tail_of log.old ≤ ENDLESS }
 {
+    // (that the log ends within its limits, which the clause `within` says)
     let _end = log.tail();
     let tail = node.replica.tail();
     log.raise_done(tail);

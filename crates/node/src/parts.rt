@@ -6,7 +6,7 @@ use replica::Replies;
 /// A batch in the log.
 #[derive(Drop)]
 pub struct Written {
-    /// Its requests.
+    /// The requests of the batch.
     pub batch: Batch,
     /// The indexes of those of them, from the first on, for which the history had room, and their outcomes, as far as the replica has
     /// applied them.
@@ -16,10 +16,10 @@ pub struct Written {
 /// The batch of a node's combiner.
 #[derive(Drop)]
 pub enum NodeBatch {
-    /// There is none.
+    /// The combiner has no batch.
     Absent,
-    /// Its requests are claimed at the desk.
+    /// The requests of the batch are claimed at the desk.
     Held(Batch),
-    /// They stand in the log.
+    /// The requests of the batch are in the log.
     InLog(Written),
 }

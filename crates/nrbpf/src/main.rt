@@ -2,69 +2,23 @@
 #![tactic(auto)]
 
 mod command_line;
+mod commands;
 mod disk;
 mod help;
 mod keeping;
 mod output;
 mod tasks;
 
-use console::{Check, Draw, Explain};
+use commands::perform;
 use disk::{Disk, LateFile};
-use engine::{Answering, Command, Folder, Inputs, Notes, Status, Telling};
-use keeping::{assemble, encode, run, serve, stress};
-use output::{Output, say_text};
-use realtime::ReplayTimed;
-use replaying::Replay;
-use scheduling::Schedule;
-use std::io::{self, Eprint, Input, Print, Read, Write};
+use engine::{Inputs, Status};
+use output::Output;
+use std::io::{self, Eprint, Input, Print};
 use std::process::ExitCode;
 use std::rt::{Clock, Files};
 use std::sync::Wait;
 use std::thread::Threads;
-use tasks::{Call, Task, say_sizes};
-
-// Does a command, and says on standard error what is to be told beside its answer.
-fn act<R: AllocGlobal + Eprint, C: Command, F: Folder, I: Read + Drop, W: Write>(
-    rt: &R,
-    command: &C,
-    telling: Telling,
-    inputs: &mut Inputs<'_, F, I>,
-    writer: &mut W,
-) -> Status
-where
-    C::Made: Answering,
-{
-    let mut notes = Notes::new(rt.alloc(), telling);
-    let status = engine::perform(rt.alloc(), command, inputs, &mut notes, writer);
-    say_text(rt, notes.text);
-    status
-}
-
-// Does what a call asks for, with what it reads and where it writes.
-fn perform<
-    R: Files + Input + AllocGlobal + Eprint + Threads + Wait + Clock + Sync,
-    F: Folder,
-    I: Read + Drop,
-    W: Write,
->(rt: &R, call: &Call<'_>, inputs: &mut Inputs<'_, F, I>, writer: &mut W) -> Status {
-    let (folder, telling) = (inputs.folder, call.telling);
-    match call.task {
-        Task::Check => act(rt, &Check, telling, inputs, writer),
-        Task::Explain(name) => act(rt, &Explain { folder, name }, telling, inputs, writer),
-        Task::Draw(name) => act(rt, &Draw { name }, telling, inputs, writer),
-        Task::Assemble => assemble(rt, call, inputs, writer),
-        Task::Disassemble(command) => act(rt, &command, telling, inputs, writer),
-        Task::Encode => encode(rt, inputs, writer),
-        Task::Run(command) => run(rt, command, call.output, inputs, writer),
-        Task::Replay(spare) if inputs.history.is_some() => {
-            act(rt, &ReplayTimed { spare }, telling, inputs, writer)
-        }
-        Task::Replay(spare) => act(rt, &Replay { spare }, telling, inputs, writer),
-        Task::Schedule(config) => act(rt, &Schedule { config }, telling, inputs, writer),
-        Task::Serve(spare) => serve(rt, spare, call.output, inputs, writer),
-        Task::Stress(config) => stress(rt, config, call, inputs, writer),
-    }
-}
+use tasks::{Call, say_sizes};
 
 // Answers a call from the files that it names, on standard output, and says on standard error what it could not say there. A file that its
 // task does not read is not opened.
@@ -74,6 +28,7 @@ fn answer<R: Files + Input + Print + Eprint + AllocGlobal + Threads + Wait + Clo
 ) -> Status {
     let mut writer = Output::new(rt, io::writer(rt));
     let mut inputs = Inputs {
+        sizes: call.sizes,
         folder: &Disk { rt },
         manifest: LateFile::of(rt, call.manifest),
         file: LateFile::of(rt, call.file),

@@ -1,23 +1,31 @@
 // What a command line asks for.
 
+use crate::commands::task_of;
 use crate::disk::DASH;
 use clap::ArgMatches;
 use console::Disassemble;
-use engine::Telling;
-use loader::MAX_PLACES;
+use engine::{MapSizes, Telling};
+use loader::MAX_SPARE;
 use oplog::{Config, MAX_LIMIT, MAX_NODE_SLOTS, MAX_NODES, MAX_WINDOW, MIN_WINDOW};
 use running::Run;
 use std::io::Eprint;
+
+/// Which programs of a manifest are explained, and how.
+#[derive(Clone, Copy)]
+pub struct Explaining<'a> {
+    /// The name of the only one.
+    pub name: Option<&'a str>,
+    /// Whether they are drawn.
+    pub is_graph: bool,
+}
 
 /// What is to be done.
 #[derive(Clone, Copy)]
 pub enum Task<'a> {
     /// Check a manifest.
     Check,
-    /// Explain the programs of a manifest, or the one of this name.
-    Explain(Option<&'a str>),
-    /// Draw them.
-    Draw(Option<&'a str>),
+    /// Explain the programs of a manifest, or draw them.
+    Explain(Explaining<'a>),
     /// Assemble a text.
     Assemble,
     /// Disassemble a program file, with slots and bytes or without.
@@ -43,6 +51,8 @@ pub struct Call<'a> {
     pub task: Task<'a>,
     /// What is told of it on standard error beside its answer.
     pub telling: Telling,
+    /// How large the maps of the manifest may be.
+    pub sizes: MapSizes,
     /// Whether it is said there how many calls there were, and how long they took.
     pub has_stats: bool,
     /// The manifest.
@@ -72,8 +82,8 @@ impl<'a> Call<'a> {
     }
 }
 
-// The sizes that the options name.
-fn config_of(matches: &ArgMatches) -> Option<Config> {
+/// The sizes that the options name.
+pub fn config_of(matches: &ArgMatches) -> Option<Config> {
     Some(Config {
         nodes: matches.get_one("nodes")?,
         slots: matches.get_one("slots")?,
@@ -94,28 +104,13 @@ fn telling_of(matches: &ArgMatches) -> Telling {
     }
 }
 
-// What the command of this name does.
-fn task_of<'a>(name: &str, matches: &ArgMatches<'a>) -> Option<Task<'a>> {
-    Some(match name {
-        "check" => Task::Check,
-        "explain" if matches.get_flag("graph") => Task::Draw(matches.get_str("NAME")),
-        "explain" => Task::Explain(matches.get_str("NAME")),
-        "asm" => Task::Assemble,
-        "dis" => {
-            let has_slots = matches.get_flag("slots-and-bytes");
-            Task::Disassemble(Disassemble { has_slots })
-        }
-        "encode" => Task::Encode,
-        "run" => {
-            let is_signed = matches.get_flag("signed");
-            Task::Run(Run { is_signed })
-        }
-        "replay" => Task::Replay(matches.get_one("spare")?),
-        "schedule" => Task::Schedule(config_of(matches)?),
-        "serve" => Task::Serve(matches.get_one("spare")?),
-        "stress" => Task::Stress(config_of(matches)?),
-        _ => return None,
-    })
+// How large the maps of the manifest may be.
+fn sizes_of(matches: &ArgMatches) -> MapSizes {
+    if matches.get_flag("large") {
+        MapSizes::Large
+    } else {
+        MapSizes::Standard
+    }
 }
 
 /// The call that a command line asks for, if it names a command.
@@ -124,6 +119,7 @@ pub fn named_call<'a>(matches: &ArgMatches<'a>) -> Option<Call<'a>> {
     Some(Call {
         task: task_of(name, inner)?,
         telling: telling_of(inner),
+        sizes: sizes_of(inner),
         has_stats: inner.get_flag("stats"),
         manifest: inner.get_str("MANIFEST"),
         file: inner.get_str("FILE"),
@@ -155,5 +151,5 @@ pub fn say_sizes<R: Eprint>(rt: &R, task: Task<'_>) {
         Task::Replay(spare) | Task::Serve(spare) => spare,
         _ => return,
     };
-    say_size(rt, "spare", spare, 0, MAX_PLACES as u32);
+    say_size(rt, "spare", spare, 0, MAX_SPARE as u32);
 }

@@ -1,2 +1,2 @@
--- Which fields an opcode has in use.
+-- The fields that an opcode has in use.
 pub mod Table

@@ -1,4 +1,4 @@
-//! Which fields of a slot are in use, by its opcode (RFC 9669, sections 4 and 5).
+//! The fields of a slot that are in use, by its opcode (RFC 9669, sections 4 and 5).
 #![tactic(auto)]
 
 ghost use Rattle.std.specs.Prelude.{◌≡◌, Some};

@@ -37,7 +37,7 @@ fields_of_call o h =
 
 -- ---- a program to be installed
 
--- its argument fits, and its bytes are filled up
+-- the program's argument fits, and its bytes are filled up
 pub record IsNewProgram (o : programs.Inside) : Type 0 where
   pub argument : o.arg_len ≤ MAX_ARG_LEN
   pub filled : IsFilled MAX_INSTALLED_BYTES o.bytes_len o.program_bytes

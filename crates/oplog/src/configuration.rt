@@ -4,7 +4,7 @@ ghost use Rattle.std.specs.Prelude.{◌≡◌, ◌↔◌, ◌*◌, ◌^◌, IsTr
 ghost use Rattle.oplog.specs.Limits.{open_fault_number, sizes_in, AreSizes, IsConfig};
 
 use crate::records::MAX_INSTALLED_BYTES;
-use loader::MAX_PLACES;
+use loader::{MAX_SPARE, MOST_SPARE};
 use std::fmt;
 use thiserror::Error;
 
@@ -23,6 +23,9 @@ pub const MIN_WINDOW: usize = 16;
 /// The largest window of a log, in records.
 pub const MAX_WINDOW: usize = 4_096;
 
+/// The largest window of a log of any sizes, in records.
+pub const MOST_WINDOW: usize = 1_048_576;
+
 /// The most records that the history of a [`Config`] may have.
 pub const MAX_LIMIT: usize = 1_000_000;
 
@@ -36,12 +39,27 @@ pub fn limits()
     ensures sessions_of_a_store { MAX_SESSIONS ≡ MAX_NODES * MAX_NODE_SLOTS }
     ensures smallest_window { MIN_WINDOW ≡ 16 }
     ensures largest_window { MAX_WINDOW ≡ 4096 }
+    ensures largest_window_of_any_store { MOST_WINDOW ≡ 1048576 }
     ensures records_of_a_history { MAX_LIMIT ≡ 1000000 }
     ensures records_of_any_history { ENDLESS ≡ 2 ^ 62 }
     ensures bytes_of_a_new_program { MAX_INSTALLED_BYTES ≡ 192 }
 {}
 
 /// The sizes of a store.
+///
+/// # Examples
+///
+/// ```
+/// use oplog::{Config, ENDLESS, Sizes};
+///
+/// let config = Config { nodes: 2, slots: 3, window: 64, limit: 1_000_000, spare: 4 };
+/// assert!(rt; config.is_within_limits());
+/// let wide = Config { nodes: 9, ..config };
+/// assert!(rt; !wide.is_within_limits());
+/// // Only `Sizes` may have a longer history.
+/// let endless = Sizes { limit: ENDLESS, ..config.sizes() };
+/// assert!(rt; endless.is_within_limits());
+/// ```
 #[derive(Clone, Copy, Debug, PartialEq, Eq)]
 pub struct Config {
     /// Nodes, each with a replica of the maps: 1 to [`MAX_NODES`].
@@ -52,7 +70,7 @@ pub struct Config {
     pub window: u32,
     /// Records that the history may have in all, 1 to [`MAX_LIMIT`].
     pub limit: u32,
-    /// Programs that may be installed behind the catalogue's, 0 to [`MAX_PLACES`].
+    /// Programs that may be installed behind the catalogue's, 0 to [`MAX_SPARE`].
     pub spare: u32,
 }
 
@@ -67,10 +85,10 @@ impl Config {
             && (1..=MAX_NODE_SLOTS).contains(&self.slots)
             && (MIN_WINDOW..=MAX_WINDOW).contains(&window)
             && (1..=MAX_LIMIT).contains(&limit)
-            && spare <= MAX_PLACES
+            && spare <= MAX_SPARE
     }
 
-    /// Its sizes, as the parts of a store take them.
+    /// The sizes of the configuration, as the parts of a store take them.
     pub fn sizes(&self) -> Sizes
         ensures sizes { result ≡ sizes_in self.now }
         ensures within { IsConfig self.now → AreSizes result }
@@ -92,11 +110,11 @@ pub struct Sizes {
     pub nodes: u32,
     /// Slots of a node, 1 to [`MAX_NODE_SLOTS`].
     pub slots: u32,
-    /// Records that the log keeps at once, [`MIN_WINDOW`] to [`MAX_WINDOW`].
+    /// Records that the log keeps at once, [`MIN_WINDOW`] to [`MOST_WINDOW`].
     pub window: u32,
     /// Records that the history may have in all, 1 to [`ENDLESS`].
     pub limit: u64,
-    /// Programs that may be installed behind the catalogue's, 0 to [`MAX_PLACES`].
+    /// Programs that may be installed behind the catalogue's, 0 to [`MOST_SPARE`].
     pub spare: u32,
 }
 
@@ -109,9 +127,9 @@ impl Sizes {
         let spare = self.spare as usize;
         (1..=MAX_NODES).contains(&self.nodes)
             && (1..=MAX_NODE_SLOTS).contains(&self.slots)
-            && (MIN_WINDOW..=MAX_WINDOW).contains(&window)
+            && (MIN_WINDOW..=MOST_WINDOW).contains(&window)
             && (1..=ENDLESS).contains(&self.limit)
-            && spare <= MAX_PLACES
+            && spare <= MOST_SPARE
     }
 }
 

@@ -11,7 +11,7 @@ use std::mem::swap;
 #[derive(Drop)]
 pub(crate) struct Kept {
     filled: Vec<Record>,
-    // So many of them are kept.
+    // The number of records that are kept.
     count: usize,
 }
 
@@ -43,7 +43,7 @@ impl Kept {
         self.count
     }
 
-    /// All of them, in order.
+    /// All kept records, in order.
     pub(crate) fn as_slice(&self) -> &[Record]
         ensures records { result.now ≡ self.now.records }
     {

@@ -12,7 +12,7 @@ mod records;
 pub use answers::{Appended, CopyAnswer, Ended};
 pub use configuration::{
     Config, ENDLESS, MAX_LIMIT, MAX_NODE_SLOTS, MAX_NODES, MAX_SESSIONS, MAX_WINDOW, MIN_WINDOW,
-    OpenError, Sizes, limits,
+    MOST_WINDOW, OpenError, Sizes, limits,
 };
 pub use hand::Hand;
 pub use log_state::LogState;

@@ -143,7 +143,7 @@ impl NewProgram {
         }
     }
 
-    /// What it may call.
+    /// The program's mode: what the program may call.
     pub fn mode(&self) -> Mode
         ensures mode { result ≡ self.now.mode }
     {
@@ -158,7 +158,7 @@ impl NewProgram {
         self.arg_len as usize
     }
 
-    /// Its instructions, as bytes.
+    /// The program's instructions, as bytes.
     pub fn bytes(&self) -> &[u8]
         ensures bytes { result.now ≡ self.now.bytes }
         ensures fits { length result.now ≤ MAX_INSTALLED_BYTES }

@@ -9,14 +9,13 @@ use lib.Seq.{set-get_or}
 use Rattle.atomic_table.specs.Table.{State, Me, keeps, stepped}
 use Rattle.atomic_table.proofs.Lists.{at_set, set_here, set_else, set_again}
 use Rattle.ownlock.specs.declared.known.Known.{Known}
-use Rattle.ownlock.specs.declared.known.SharedStep.{SharedStep}
 use Rattle.ownlock.specs.Rules.{Rules, Laws, leader}
 use Rattle.ownlock.specs.Words.{word_of, slot_of}
 use Rattle.ownlock.specs.Runs.{Runs}
-use Rattle.ownlock.specs.Seats.{At, Opened}
+use Rattle.ownlock.specs.Seats.{At, Opened, Run, Continues, own_steps}
 use Rattle.ownlock.specs.Invariant.{SessionInvariant, HeldBySome, LockInvariant, StepsAs}
 use Rattle.ownlock.proofs.Spread.{one_slot}
-use Rattle.ownlock.proofs.Run.{continues_more, own_else}
+use Rattle.ownlock.proofs.Run.{continues_on}
 
 module _ {A : Type 0} where
   pub at_below : (l : List A) (i : ℕ) (a : A) → At i a l → i < length l
@@ -55,11 +54,12 @@ module _ {P N V : Type 0} (R : Rules P N V) (laws : Laws R) (opened : Opened P N
   K = Known P N V
 
   -- what a step of the session k at the place p owes
-  pub record Goes (s : LockState P N V) (r : LockInvariant R opened s) (id p : ℕ) (k k' : K) (progress : P) (notes : List N) (words : List ℕ) (homes : SlotHomes V) (holder : ℕ → ℕ) (e : SharedStep P N V) : Type 0 where
+  pub record Goes (s : LockState P N V) (r : LockInvariant R opened s) (id p : ℕ) (k k' : K) (progress : P) (notes : List N) (words : List ℕ) (homes : SlotHomes V) (holder : ℕ → ℕ) (run : Run P N V) : Type 0 where
     pub here : At id (k ∷ []) s.views
     pub session : k'.session ≡ k.session
-    pub by : e.session ≡ k.session
-    pub leads : Runs R opened (e ∷ r.run) progress notes
+    pub goes_on : Continues r.run run
+    pub by : (c : ℕ) → c ≢ k.session → own_steps c run ≡ own_steps c r.run
+    pub leads : Runs R opened run progress notes
     pub accounts : R.Accounts progress notes
     pub extends : R.Extends r.progress progress
     pub same : p ≢ leader → R.SameHistory r.progress progress
@@ -73,12 +73,12 @@ module _ {P N V : Type 0} (R : Rules P N V) (laws : Laws R) (opened : Opened P N
     pub words_long : length words ≡ length s.words
     pub holder_else : (q : ℕ) → q ≢ p → holder q ≡ r.holder q
     pub not_theirs : (j i : ℕ) (v : List K) (m : K) (a : ℕ) (u : ℕ × V) → j ≢ id → At j v s.views → At i m v → At a u m.held → u.0 ≢ p
-    pub mine : SessionInvariant R progress notes (e ∷ r.run) homes holder k'
+    pub mine : SessionInvariant R progress notes run homes holder k'
     pub free_here : p < opened.places → get_or words (word_of p) 0 ≡ 0 → (x : V) × At (slot_of p) (kernel.some (Some x)) homes × R.AgreesWith p progress notes x
     pub busy_here : p < opened.places → get_or words (word_of p) 0 ≢ 0 → (a : ℕ) × (u : ℕ × V) × At a u k'.held × (u.0 ≡ p)
     pub held_else : (a : ℕ) (u : ℕ × V) → At a u k.held → u.0 ≢ p → (b : ℕ) × At b u k'.held
 
-  module _ (s : LockState P N V) (r : LockInvariant R opened s) (id p : ℕ) (k k' : K) (progress : P) (notes : List N) (words : List ℕ) (homes : SlotHomes V) (holder : ℕ → ℕ) (e : SharedStep P N V) (g : Goes s r id p k k' progress notes words homes holder e) where
+  module _ (s : LockState P N V) (r : LockInvariant R opened s) (id p : ℕ) (k k' : K) (progress : P) (notes : List N) (words : List ℕ) (homes : SlotHomes V) (holder : ℕ → ℕ) (run : Run P N V) (g : Goes s r id p k k' progress notes words homes holder run) where
     abbrev after : List (List K)
     after = set s.views id (k' ∷ [])
 
@@ -88,7 +88,7 @@ module _ {P N V : Type 0} (R : Rules P N V) (laws : Laws R) (opened : Opened P N
     owned : r.owner k.session ≡ id
     owned = (r.each id 0 (k ∷ []) k g.here refl).1
 
-    theirs : (j i : ℕ) (v : List K) (m : K) → j ≢ id → At j v s.views → At i m v → SessionInvariant R progress notes (e ∷ r.run) homes holder m
+    theirs : (j i : ℕ) (v : List K) (m : K) → j ≢ id → At j v s.views → At i m v → SessionInvariant R progress notes run homes holder m
     theirs j i v m other at_j at_i =
         let known = r.each j i v m at_j at_i in
         let fit = known.0 in
@@ -103,16 +103,16 @@ module _ {P N V : Type 0} (R : Rules P N V) (laws : Laws R) (opened : Opened P N
           allowed = fit.allowed;
           apart = fit.apart;
           out = λ a u at_a. let ne = g.not_theirs j i v m a u other at_j at_i at_a in let was = fit.out a u at_a in (g.holder_else u.0 ne ∙ was.0, g.homes_else (slot_of u.0) (λ same. ne (one_slot u.0 p same)) ∙ was.1);
-          goes_on = continues_more m.run r.run e fit.goes_on;
-          own = own_else m.session e r.run (λ same. apart (sym same ∙ g.by)) ∙ fit.own;
+          goes_on = continues_on m.run r.run run fit.goes_on g.goes_on;
+          own = g.by m.session apart ∙ fit.own;
           ends = fit.ends;
         }
 
-    each_after : (j i : ℕ) (v : List K) (m : K) → At j v after → At i m v → SessionInvariant R progress notes (e ∷ r.run) homes holder m × (r.owner m.session ≡ j)
+    each_after : (j i : ℕ) (v : List K) (m : K) → At j v after → At i m v → SessionInvariant R progress notes run homes holder m × (r.owner m.session ≡ j)
     each_after j i v m at_j at_i = ⊎_elim
         (λ (t : (j ≡ id) × ((k' ∷ []) ≡ v)).
         let only = at_only k' m i (subst (λ (z : List K). At i m z) (sym t.1) at_i) in
-        (subst (λ (z : K). SessionInvariant R progress notes (e ∷ r.run) homes holder z) only.1 g.mine, ap (λ (z : K). r.owner z.session) (sym only.1) ∙ (ap r.owner g.session ∙ (owned ∙ sym t.0))))
+        (subst (λ (z : K). SessionInvariant R progress notes run homes holder z) only.1 g.mine, ap (λ (z : K). r.owner z.session) (sym only.1) ∙ (ap r.owner g.session ∙ (owned ∙ sym t.0))))
         (λ (t : (j ≢ id) × At j v s.views). (theirs j i v m t.0 t.1 at_i, (r.each j i v m t.1 at_i).1))
         (at_set s.views id j (k' ∷ []) v at_j)
 
@@ -149,7 +149,7 @@ module _ {P N V : Type 0} (R : Rules P N V) (laws : Laws R) (opened : Opened P N
     goes = record {
       progress = progress;
       notes = notes;
-      run = e ∷ r.run;
+      run = run;
       leads = g.leads;
       owner = r.owner;
       holder = holder;

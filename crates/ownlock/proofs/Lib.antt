@@ -6,7 +6,9 @@ pub mod Keeps
 pub mod Tries
 pub mod Frees
 pub mod Seats
+pub mod Hands
 pub mod Ends
 pub mod Unload
 pub mod Tail
 pub mod Laws
+pub mod Export

@@ -88,8 +88,23 @@ module _ {P N V : Type 0} where
       one_idle (k ∷ ks) idle zero m at = idle 0 m at
       one_idle (k ∷ ks) idle (suc i) m at = absurd (some-ne-none m (sym at))
 
-  pub joined_idle : (m w n : Me (Option V) (List (Known P N V))) → HoldsNone m.0 → HoldsNone w.0 → m.1 ≡ out_of m.0 → n ≡ (m.0 ++ w.0, m.1) → n.1 ≡ out_of n.0
-  joined_idle m w n idle more out is = nothing n (ap (λ z. z.1) is ∙ (out ∙ none_out m.0 idle)) (subst (λ v. HoldsNone v) (sym (ap (λ z. z.0) is)) (none_joined m.0 w.0 idle more))
+  pub out_joined : (v w : List (Known P N V)) → HoldsNone w → out_of (v ++ w) ≡ out_of v
+  out_joined [] w idle = none_out w idle
+  out_joined (k ∷ ks) w idle = ap (λ l. map emptied k.held ++ l) (out_joined ks w idle)
+
+  pub joined_idle : (m w n : Me (Option V) (List (Known P N V))) → HoldsNone w.0 → m.1 ≡ out_of m.0 → n ≡ (m.0 ++ w.0, m.1) → n.1 ≡ out_of n.0
+  joined_idle m w n idle out is = ap (λ z. z.1) is ∙ (out ∙ (sym (out_joined m.0 w.0 idle) ∙ sym (ap (λ z. out_of z.0) is)))
+
+  -- what is out with a seat once the sessions behind the first, which hold nothing, have left it; and with these
+  pub left_alone : (m n : Me (Option V) (List (Known P N V))) → HoldsNone (others_of m.0) → m.1 ≡ out_of m.0 → n ≡ (first_of m.0, m.1) → n.1 ≡ out_of n.0
+  left_alone m n idle out is = ap (λ z. z.1) is ∙ (out ∙ (first_out m.0 idle ∙ sym (ap (λ z. out_of z.0) is)))
+    where
+      first_out : (v : List (Known P N V)) → HoldsNone (others_of v) → out_of v ≡ out_of (first_of v)
+      first_out [] idle = refl
+      first_out (k ∷ ks) idle = ap (λ l. map emptied k.held ++ l) (none_out ks idle)
+
+  pub rest_out : (m n : Me (Option V) (List (Known P N V))) → HoldsNone (others_of m.0) → n ≡ (others_of m.0, []) → n.1 ≡ out_of n.0
+  rest_out m n idle is = nothing n (ap (λ z. z.1) is) (subst (λ v. HoldsNone v) (sym (ap (λ z. z.0) is)) idle)
 
   pub none_fresh : (progress : P) (i : ℕ) (ns : List N) → out_of (all_sessions {V = V} progress i ns) ≡ []
   none_fresh progress i [] = refl
@@ -270,6 +285,81 @@ module _ {P N V : Type 0} (R : Rules P N V) (laws : Laws R) where
         held p (j, v, i, m, a, u, at_j, at_i, at_a, is) = dite (ℕ_discrete j id)
             (λ e. held_by p a u i m (subst (λ z. At i m z) (at_one s.views id v (k ∷ ks) (subst (λ z. At z v s.views) e at_j) at) at_i) at_a is)
             (λ ne. (j, v, i, m, a, u, at_longer left ((k ∷ []) ∷ []) j v (set_else s.views id j ks ne ∙ at_j), at_i, at_a, is))
+
+    -- the sessions behind the first of a seat go to a new seat
+    pub splits_off : (id : ℕ) (k : K) (ks : List K) → Splits (LockInvariant R opened) id (k ∷ ks) (first_of (k ∷ ks)) (others_of (k ∷ ks))
+    splits_off id k ks s r at = seated s r (left ++ ks ∷ []) owner held each distinct
+      where
+        left : List (List K)
+        left = set s.views id (k ∷ [])
+
+        moved : ℕ → ℕ
+        moved q = either (eqb (r.owner q) id) (length left) (r.owner q)
+
+        owner : ℕ → ℕ
+        owner q = either (eqb q k.session) (r.owner q) (moved q)
+
+        owner_first : owner k.session ≡ r.owner k.session
+        owner_first = ap (λ b. either b (r.owner k.session) (moved k.session)) (eq-eqb k.session k.session refl)
+
+        owner_moved : (q : ℕ) → q ≢ k.session → r.owner q ≡ id → owner q ≡ length left
+        owner_moved q ne e = ap (λ b. either b (r.owner q) (moved q)) (ne_eqb q k.session ne) ∙ ap (λ b. either b (length left) (r.owner q)) (eq-eqb (r.owner q) id e)
+
+        owner_else : (q : ℕ) → r.owner q ≢ id → owner q ≡ r.owner q
+        owner_else q ne = dite (ℕ_discrete q k.session)
+            (λ e. ap (λ b. either b (r.owner q) (moved q)) (eq-eqb q k.session e))
+            (λ other. ap (λ b. either b (r.owner q) (moved q)) (ne_eqb q k.session other) ∙ ap (λ b. either b (length left) (r.owner q)) (ne_eqb (r.owner q) id ne))
+
+        first_owned : r.owner k.session ≡ id
+        first_owned = (r.each id 0 (k ∷ ks) k at refl).1
+
+        first_at : At id (k ∷ []) left
+        first_at = set_here s.views id (k ∷ []) (at_below s.views id (k ∷ ks) at)
+
+        new_at : At (length left) ks (left ++ ks ∷ [])
+        new_at = at_last left ks (length left) refl
+
+        each_left : (j i : ℕ) (v : List K) (m : K) → At j v left → At i m v → SessionInvariant R r.progress r.notes r.run s.homes r.holder m × (owner m.session ≡ j)
+        each_left j i v m at_j at_i = ⊎_elim
+            (λ (t : (j ≡ id) × ((k ∷ []) ≡ v)).
+            let only = at_only k m i (subst (λ z. At i m z) (sym t.1) at_i) in
+            (subst (λ z. SessionInvariant R r.progress r.notes r.run s.homes r.holder z) only.1 (r.each id 0 (k ∷ ks) k at refl).0, ap (λ (z : K). owner z.session) (sym only.1) ∙ (owner_first ∙ (first_owned ∙ sym t.0))))
+            (λ (t : (j ≢ id) × At j v s.views).
+            let known = r.each j i v m t.1 at_i in
+            (known.0, owner_else m.session (λ e. t.0 (sym known.1 ∙ e)) ∙ known.1))
+            (at_set s.views id j (k ∷ []) v at_j)
+
+        each : (j i : ℕ) (v : List K) (m : K) → At j v (left ++ ks ∷ []) → At i m v → SessionInvariant R r.progress r.notes r.run s.homes r.holder m × (owner m.session ≡ j)
+        each j i v m at_j at_i = ⊎_elim
+            (λ h. each_left j i v m h at_i)
+            (λ (t : (j ≡ length left) × (ks ≡ v)).
+            let mine : At (suc i) m (k ∷ ks) = subst (λ z. At i m z) (sym t.1) at_i in
+            let known = r.each id (suc i) (k ∷ ks) m at mine in
+            (known.0, owner_moved m.session (λ e. let no = r.distinct id (suc i) 0 (k ∷ ks) m k at mine refl e in absurd (omega (arith, no))) known.1 ∙ sym t.0))
+            (at_snoc_last left ks v j at_j)
+
+        distinct : (j a b : ℕ) (v : List K) (x y : K) → At j v (left ++ ks ∷ []) → At a x v → At b y v → x.session ≡ y.session → a ≡ b
+        distinct j a b v x y at_j at_a at_b e = ⊎_elim
+            (λ h. ⊎_elim
+            (λ (t : (j ≡ id) × ((k ∷ []) ≡ v)).
+            let one = at_only k x a (subst (λ z. At a x z) (sym t.1) at_a) in
+            let two = at_only k y b (subst (λ z. At b y z) (sym t.1) at_b) in
+            one.0 ∙ sym two.0)
+            (λ (t : (j ≢ id) × At j v s.views). r.distinct j a b v x y t.1 at_a at_b e)
+            (at_set s.views id j (k ∷ []) v h))
+            (λ (t : (j ≡ length left) × (ks ≡ v)).
+            let one : suc a ≡ suc b = r.distinct id (suc a) (suc b) (k ∷ ks) x y at (subst (λ z. At a x z) (sym t.1) at_a) (subst (λ z. At b y z) (sym t.1) at_b) e in
+            omega (arith, one))
+            (at_snoc_last left ks v j at_j)
+
+        held_by : (p a : ℕ) (u : ℕ × V) (i : ℕ) (m : K) → At i m (k ∷ ks) → At a u m.held → u.0 ≡ p → HeldBySome R p (left ++ ks ∷ [])
+        held_by p a u zero m at_i at_a is = (id, k ∷ [], 0, k, a, u, at_longer left (ks ∷ []) id (k ∷ []) first_at, refl, subst (λ (z : K). At a u z.held) (sym (some-injective k m at_i)) at_a, is)
+        held_by p a u (suc i) m at_i at_a is = (length left, ks, i, m, a, u, new_at, at_i, at_a, is)
+
+        held : (p : ℕ) → HeldBySome R p s.views → HeldBySome R p (left ++ ks ∷ [])
+        held p (j, v, i, m, a, u, at_j, at_i, at_a, is) = dite (ℕ_discrete j id)
+            (λ e. held_by p a u i m (subst (λ z. At i m z) (at_one s.views id v (k ∷ ks) (subst (λ z. At z v s.views) e at_j) at) at_i) at_a is)
+            (λ ne. (j, v, i, m, a, u, at_longer left (ks ∷ []) j v (set_else s.views id j (k ∷ []) ne ∙ at_j), at_i, at_a, is))
 
     -- a seat takes in the sessions of another
     pub joins : (id : ℕ) (v : List K) (other : ℕ) (w : List K) → Joins (LockInvariant R opened) id v other w (v ++ w) []

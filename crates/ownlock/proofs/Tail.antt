@@ -12,7 +12,7 @@ use Rattle.ownlock.specs.Runs.{Runs, Loads, Raises}
 use Rattle.ownlock.specs.Seats.{At, Opened, Run, Adds, having_raised, having_read, taken_by}
 use Rattle.ownlock.specs.Knowledge.{Later, Possible}
 use Rattle.ownlock.specs.Invariant.{SessionInvariant, LockInvariant, done_read, done_raised}
-use Rattle.ownlock.proofs.Run.{continues_self, own_here}
+use Rattle.ownlock.proofs.Run.{continues_self, continues_more, own_here, own_else}
 use Rattle.ownlock.proofs.Keeps.{LockState, LockSeat, at_below, Goes, goes, mine_of, word_there, word_else}
 
 module _ {P N V : Type 0} (R : Rules P N V) (laws : Laws R) (opened : Opened P N) where
@@ -28,7 +28,7 @@ module _ {P N V : Type 0} (R : Rules P N V) (laws : Laws R) (opened : Opened P N
     abbrev entry : SharedStep P N V
     entry = taken_by k step_taken progress k.note
 
-    -- it has taken this step then
+    -- the session has taken this step then
     abbrev later : K
     later = record { session = k.session; progress = progress; note = k.note; held = k.held; steps = step_taken ∷ k.steps; run = entry ∷ r.run }
 
@@ -41,11 +41,12 @@ module _ {P N V : Type 0} (R : Rules P N V) (laws : Laws R) (opened : Opened P N
     not_last : (q : ℕ) → At (slot_of q) kernel.none s.homes → q ≢ last
     not_last q e is = let below = at_below s.homes (slot_of q) kernel.none e in let placed = r.placed in omega (arith, below, is, placed)
 
-    moves_tail : Goes R laws opened s r id last k later progress r.notes (set s.words (word_of last) n) s.homes r.holder entry
+    moves_tail : Goes R laws opened s r id last k later progress r.notes (set s.words (word_of last) n) s.homes r.holder (entry ∷ r.run)
     moves_tail = record {
       here = at;
       session = refl;
-      by = refl;
+      goes_on = continues_more r.run r.run entry (continues_self r.run);
+      by = λ c ne. own_else c entry r.run (λ same. ne (sym same));
       leads = leads;
       accounts = accounts;
       extends = extends;
@@ -75,7 +76,7 @@ module _ {P N V : Type 0} (R : Rules P N V) (laws : Laws R) (opened : Opened P N
     }
 
     tail_stands : (c : List (ℕ × Option V)) → LockInvariant R opened (stepped s (word_of last) n id c (later ∷ []) keeps)
-    tail_stands c = goes R laws opened s r id last k later progress r.notes (set s.words (word_of last) n) s.homes r.holder entry moves_tail
+    tail_stands c = goes R laws opened s r id last k later progress r.notes (set s.words (word_of last) n) s.homes r.holder (entry ∷ r.run) moves_tail
 
   -- what the session may find
   now : (s : LockState P N V) (r : LockInvariant R opened s) (id : ℕ) (k : K) → At id (k ∷ []) s.views → Possible R k r.progress r.notes

@@ -17,7 +17,7 @@ use Rattle.ownlock.specs.Seats.{At, Opened, own_steps, place_of, holding, taken_
 use Rattle.ownlock.specs.Knowledge.{HeldAgree, Possible, Acquired, MayTake}
 use Rattle.ownlock.specs.Invariant.{emptied, SessionInvariant, LockInvariant, StepsAs, tried}
 use Rattle.ownlock.proofs.Spread.{one_slot}
-use Rattle.ownlock.proofs.Run.{continues_self, own_here}
+use Rattle.ownlock.proofs.Run.{continues_self, continues_more, own_here, own_else}
 use Rattle.ownlock.proofs.Keeps.{LockState, LockSeat, one_session, one_place, Goes, goes, mine_of, word_there, word_else, tail_else, place_there, slot_there, unmoved}
 
 module _ {P N V : Type 0} (R : Rules P N V) (laws : Laws R) (opened : Opened P N) where
@@ -68,11 +68,12 @@ module _ {P N V : Type 0} (R : Rules P N V) (laws : Laws R) (opened : Opened P N
     word_set : (n : ℕ) → get_or (set s.words (word_of p) n) (word_of p) 0 ≡ n
     word_set n = get_or-set_same s.words (word_of p) n 0 (word_there R laws opened s r p (omega (arith, below)))
 
-    takes_it : Goes R laws opened s r id p k taker r.progress r.notes (set s.words (word_of p) 1) (set s.homes (slot_of p) kernel.none) now_holds entry
+    takes_it : Goes R laws opened s r id p k taker r.progress r.notes (set s.words (word_of p) 1) (set s.homes (slot_of p) kernel.none) now_holds (entry ∷ r.run)
     takes_it = record {
       here = at;
       session = refl;
-      by = refl;
+      goes_on = continues_more r.run r.run entry (continues_self r.run);
+      by = λ c ne. own_else c entry r.run (λ same. ne (sym same));
       leads = Takes r.run r.progress r.notes k.session p x k.note r.leads (mine_of R laws opened s r id k at).possible.1 agrees;
       accounts = r.accounts;
       extends = laws.extends_self r.progress;
@@ -94,7 +95,7 @@ module _ {P N V : Type 0} (R : Rules P N V) (laws : Laws R) (opened : Opened P N
     }
 
     takes_stand : LockInvariant R opened (stepped s (word_of p) 1 id (map emptied k.held) (taker ∷ []) (takes (slot_of p) (Some x)))
-    takes_stand = goes R laws opened s r id p k taker r.progress r.notes (set s.words (word_of p) 1) (set s.homes (slot_of p) kernel.none) now_holds entry takes_it
+    takes_stand = goes R laws opened s r id p k taker r.progress r.notes (set s.words (word_of p) 1) (set s.homes (slot_of p) kernel.none) now_holds (entry ∷ r.run) takes_it
 
   abbrev me : K → List (ℕ × Option V) → LockSeat P N V
   me k c = (k ∷ [], c)

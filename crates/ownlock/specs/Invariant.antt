@@ -9,7 +9,7 @@ use Rattle.ownlock.specs.Rules.{Rules}
 use Rattle.ownlock.specs.Words.{word_of, completed_word, slot_of}
 use Rattle.ownlock.specs.Spreading.{HasGaps}
 use Rattle.ownlock.specs.Runs.{Runs}
-use Rattle.ownlock.specs.Seats.{At, View, Opened, Run, Continues, Adds, EndsWithOwn, own_steps, place_of, without, left_with, having_raised, having_read}
+use Rattle.ownlock.specs.Seats.{At, View, Opened, Run, Continues, Adds, EndsWithOwn, own_steps, place_of, without, left_with, holding, settled_with, handed, having_raised, having_read}
 use Rattle.ownlock.specs.Knowledge.{Later, Possible, Acquired, MayFind}
 
 -- the slot of a place that is held has no value
@@ -58,10 +58,10 @@ module _ {P N V : Type 0} (R : Rules P N V) where
     -- the run: the steps of all sessions so far, which lead there
     pub run : Run P N V
     pub leads : Runs R opened run progress notes
-    -- it has grown from the one that the shelf was opened with, and the shelf has the slots of the places that it was opened with
+    -- the progress has grown from the one that the shelf was opened with, and the shelf has the slots of the places that it was opened with
     pub grown : R.Extends opened.progress progress
     pub placed : length s.homes ≡ slot_of opened.places
-    -- which seat has which session, and which session holds which place
+    -- the seat of each session, and the session that holds each place
     pub owner : ℕ → ℕ
     pub holder : ℕ → ℕ
     pub accounts : R.Accounts progress notes
@@ -84,6 +84,19 @@ module _ {P N V : Type 0} (R : Rules P N V) where
   StepsPutting grown noted m p y m' = (k : Known P N V) → StepsAs m k → (progress : P) × MayFind R k progress
       × ((run : Run P N V) × Adds k (Put p y) (grown progress) (noted k.note) run × StepsAs m' (left_with k p y (grown progress) (noted k.note) run))
 
+  -- and once it has settled the value y at the place p, which it keeps
+  abbrev pub StepsSettling : (P → P) → (N → N) → Me (Option V) (View P N V) → ℕ → V → Me (Option V) (View P N V) → Type 0
+  StepsSettling grown noted m p y m' = (k : Known P N V) → StepsAs m k
+      → (progress : P) × MayFind R k progress × ((run : Run P N V) × Continues k.run run
+      × MayFind R (settled_with k p y (grown progress) (noted k.note) run) (grown progress) × StepsAs m' (settled_with k p y (grown progress) (noted k.note) run))
+
+  -- and once its first session has handed the place p on to the next
+  abbrev pub StepsHanding : (P → P) → (N → N) → Me (Option V) (View P N V) → ℕ → V → Me (Option V) (View P N V) → Type 0
+  StepsHanding grown noted me p y me' = (k m : Known P N V) (ms : View P N V) → me ≡ (k ∷ m ∷ ms, (slot_of p, None) ∷ [])
+      → (progress : P) × MayFind R k progress × ((run : Run P N V) × Continues k.run run × Continues m.run run
+      × MayFind R (holding m (grown progress) p y run) (grown progress) × Later R m (grown progress)
+      × (me' ≡ (handed k m ms p y (grown progress) (noted k.note) run, (slot_of p, None) ∷ [])))
+
   -- a try at a place: where the word was 0, the seat has the value, and knows a progress that it agrees with
   abbrev pub tried : Step (Option V) → Me (Option V) (View P N V) → ℕ → Me (Option V) (View P N V) → Type 0
   tried st m r m' = (k : Known P N V) (p : ℕ) → StepsAs m k → st.word ≡ word_of p → (r ≢ 0 → m' ≡ m) × (r ≡ 0 → (after : Known P N V) × (x : V) × Acquired R p k after x × (m' ≡ (after ∷ [], (slot_of p, Some x) ∷ m.1)))
@@ -96,6 +109,21 @@ module _ {P N V : Type 0} (R : Rules P N V) where
   abbrev pub freed : (P → P) → (N → N) → Step (Option V) → Me (Option V) (View P N V) → ℕ → Me (Option V) (View P N V) → Type 0
   freed grown noted st m r m' = (k : Known P N V) (p : ℕ) (y : V) (out : List (ℕ × Option V)) → m ≡ (k ∷ [], (slot_of p, Some y) ∷ out) → st.word ≡ word_of p
       → (progress : P) × ((notes : List N) × Possible R k progress notes) × ((run : Run P N V) × Adds k (Put p y) (grown progress) (noted k.note) run × (m' ≡ (left_with k p y (grown progress) (noted k.note) run ∷ [], out)))
+
+  -- the value y in the slot of a held place is put back and taken again in one step, at which the word stays as it is
+  abbrev pub settled : (P → P) → (N → N) → Step (Option V) → Me (Option V) (View P N V) → ℕ → Me (Option V) (View P N V) → Type 0
+  settled grown noted st m r m' = (k : Known P N V) (p : ℕ) (y : V) (out : List (ℕ × Option V)) → m ≡ (k ∷ [], (slot_of p, Some y) ∷ out) → st.word ≡ word_of p
+      → (progress : P) × ((notes : List N) × Possible R k progress notes) × ((run : Run P N V) × Continues k.run run
+      × ((notes : List N) × Possible R (settled_with k p y (grown progress) (noted k.note) run) (grown progress) notes)
+      × (m' ≡ (settled_with k p y (grown progress) (noted k.note) run ∷ [], (slot_of p, Some y) ∷ out)))
+
+  -- the value y in the slot of a place that the first session of a seat holds is put back by it, and taken by the next, in one step at which the
+  -- word stays as it is
+  abbrev pub handed_on : (P → P) → (N → N) → Step (Option V) → Me (Option V) (View P N V) → ℕ → Me (Option V) (View P N V) → Type 0
+  handed_on grown noted st me n me' = (k m : Known P N V) (ms : View P N V) (p : ℕ) (y : V) → me ≡ (k ∷ m ∷ ms, (slot_of p, Some y) ∷ []) → st.word ≡ word_of p
+      → (progress : P) × ((notes : List N) × Possible R k progress notes) × ((run : Run P N V) × Continues k.run run × Continues m.run run
+      × ((notes : List N) × Possible R (holding m (grown progress) p y run) (grown progress) notes) × Later R m (grown progress)
+      × (me' ≡ (handed k m ms p y (grown progress) (noted k.note) run, (slot_of p, Some y) ∷ [])))
 
   -- the word of the completed tail is read: the seat knows a progress with that completed tail, and that it has read this
   abbrev pub done_read : Step (Option V) → Me (Option V) (View P N V) → ℕ → Me (Option V) (View P N V) → Type 0

@@ -1,10 +1,10 @@
 -- What a session may rely on, what take tells it, and what it owes to put.
-use Rattle.std.specs.Prelude.{◌≡◌, ℕ, ◌<◌, max, List, ◌∷◌, map, length, slice_set, Option, Some}
+use Rattle.std.specs.Prelude.{◌≡◌, ℕ, ◌<◌, max, List, [], ◌∷◌, ◌++◌, map, length, slice_set, Option, Some}
 use Rattle.ownlock.specs.declared.known.Known.{Known}
 use Rattle.ownlock.specs.declared.known.ShelfStep.TheVariants.{Took, Put, Read, Raised}
 use Rattle.ownlock.specs.Rules.{Rules, leader}
 use Rattle.ownlock.specs.Runs.{Runs}
-use Rattle.ownlock.specs.Seats.{At, View, SeatView, Opened, Run, Continues, Adds, EndsWithOwn, run_of, own_steps, IsSession, IsNotHeld, place_of, holding, left_with, having_raised, having_read}
+use Rattle.ownlock.specs.Seats.{At, View, SeatView, Opened, Run, Continues, Adds, EndsWithOwn, run_of, own_steps, IsSession, IsNotHeld, place_of, holding, left_with, HoldsNone, TookNext, having_raised, having_read}
 
 module _ {P N V : Type 0} (R : Rules P N V) where
   -- the values that these places had when they were taken agree
@@ -49,6 +49,25 @@ module _ {P N V : Type 0} (R : Rules P N V) where
   Puts grown noted before p y now = (k : Known P N V) → IsSession before k
       → (progress : P) × MayFind k progress × IsSession now (left_with k p y (grown progress) (noted k.note) (run_of now.sessions))
       × Adds k (Put p y) (grown progress) (noted k.note) (run_of now.sessions)
+
+  -- what it tells the session to settle the value y at the place p: it has put it back, with the progress and the note that the put made, and has
+  -- taken it again at once
+  abbrev pub Settles : (P → P) → (N → N) → SeatView P N V → ℕ → V → SeatView P N V → Type 0
+  Settles grown noted before p y now = (k : Known P N V) → IsSession before k
+      → (progress : P) × MayFind k progress × ((run : Run P N V) × Adds k (Put p y) (grown progress) (noted k.note) run
+      × ((after : Known P N V) × Acquired p (left_with k p y (grown progress) (noted k.note) run) after y × IsSession now after × TookNext run p y after))
+
+  -- the session k holds the place p alone, the others of its seat hold nothing, and the next, m, may hold that place
+  abbrev pub MayHandOn : ℕ → Known P N V → Known P N V → View P N V → Type 0
+  MayHandOn p k m ms = (x : V) × (k.held ≡ (p, x) ∷ []) × HoldsNone (m ∷ ms) × R.Allows m.progress m.session (p ∷ [])
+
+  -- what it tells a seat to hand the place p on with the value y: its first session has put that back, with the progress and the note that the
+  -- put made, and the next one has taken it at once
+  abbrev pub HandsOn : (P → P) → (N → N) → SeatView P N V → ℕ → V → SeatView P N V → Type 0
+  HandsOn grown noted before p y now = (k m : Known P N V) (ms : View P N V) → before.sessions ≡ k ∷ m ∷ ms
+      → (progress : P) × MayFind k progress × ((run : Run P N V) × Adds k (Put p y) (grown progress) (noted k.note) run
+      × ((after : Known P N V) × Acquired p m after y × TookNext run p y after
+      × (now.sessions ≡ after ∷ (ms ++ left_with k p y (grown progress) (noted k.note) run ∷ []))))
 
   -- what a read of the completed tail n tells the session
   abbrev pub Reads : SeatView P N V → ℕ → SeatView P N V → Type 0

@@ -10,3 +10,4 @@ pub mod Between
 pub mod Words
 pub mod Spreading
 pub mod Invariant
+pub mod Settling

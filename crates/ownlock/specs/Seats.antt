@@ -12,7 +12,7 @@ use Rattle.ownlock.specs.declared.known.ShelfStep.TheVariants.{Took, Put, Read, 
 abbrev pub At : {A : Type 0} → ℕ → A → List A → Type 0
 At i x xs = get_elem? xs i ≡ kernel.some x
 
--- which shelf it is; no two shelves have the same
+-- the identity of a shelf; no two shelves have the same
 abbrev pub ShelfId : Type 0
 ShelfId = TableId
 
@@ -110,6 +110,31 @@ module _ {P N V : Type 0} where
   -- the session, once it has put the value y back to the place p
   abbrev pub left_with : Known P N V → ℕ → V → P → N → Run P N V → Known P N V
   left_with k p y progress note run = record { session = k.session; progress = progress; note = note; held = without p k.held; steps = Put p y ∷ k.steps; run = run }
+
+  -- the session k took the place p last
+  abbrev pub TookLast : ℕ → Known P N V → Type 0
+  TookLast p k = (x : V) × (us : List (ℕ × V)) × (k.held ≡ (p, x) ∷ us)
+
+  -- the session has taken the place p with the value y by the step right after this run: no session has stepped between
+  abbrev pub TookNext : Run P N V → ℕ → V → Known P N V → Type 0
+  TookNext run p y after = after.run ≡ taken_by after (Took p y) after.progress after.note ∷ run
+
+  -- the session, once it has put the value y back to the place p as the step behind this run
+  abbrev pub putting : Known P N V → ℕ → V → P → N → Run P N V → Known P N V
+  putting k p y progress note run = left_with k p y progress note (taken_by k (Put p y) progress note ∷ run)
+
+  -- the session, once it has taken the place p with the value y as the step behind this run
+  abbrev pub taking : Known P N V → ℕ → V → P → Run P N V → Known P N V
+  taking k p y progress run = holding k progress p y (taken_by k (Took p y) progress k.note ∷ run)
+
+  -- the session, once it has put the value y back to the place p and has taken it again at once, before anybody else could
+  abbrev pub settled_with : Known P N V → ℕ → V → P → N → Run P N V → Known P N V
+  settled_with k p y progress note run = let left = putting k p y progress note run in taking left p y progress left.run
+
+  -- the sessions of a seat, once the first, k, has put the value y back to the place p and stands behind the others, and the next, m, has taken it
+  -- at once, before anybody else could
+  abbrev pub handed : Known P N V → Known P N V → List (Known P N V) → ℕ → V → P → N → Run P N V → List (Known P N V)
+  handed k m ms p y progress note run = let left = putting k p y progress note run in taking m p y progress left.run ∷ (ms ++ left ∷ [])
 
   -- the session, once it has raised the completed tail to n, and knows this progress
   abbrev pub having_raised : Known P N V → P → ℕ → Run P N V → Known P N V

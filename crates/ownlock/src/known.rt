@@ -3,13 +3,13 @@ use std::collections::LinkedList;
 
 /// A step of one session on the shelf.
 pub enum ShelfStep<V> {
-    /// It took this value from this place.
+    /// The session took this value from this place.
     Took(u64, V),
-    /// It put this value back to this place.
+    /// The session put this value back to this place.
     Put(u64, V),
-    /// It read the completed tail, which was so much.
+    /// The session read the completed tail, which was this number.
     Read(u64),
-    /// It raised the completed tail to at least so much.
+    /// The session raised the completed tail to at least this number.
     Raised(u64),
 }
 

@@ -1,7 +1,7 @@
 // The rule of the table under a shelf, and what each step on a word tells.
 ghost use Rattle.std.specs.Prelude.{[], ◌++◌};
 ghost use Rattle.ownlock.specs.Seats.{all_sessions, opened_with};
-ghost use Rattle.ownlock.specs.Invariant.{LockInvariant, tried, fronted, freed, done_read, done_raised, first_of, others_of};
+ghost use Rattle.ownlock.specs.Invariant.{LockInvariant, tried, fronted, freed, settled, handed_on, done_read, done_raised, first_of, others_of};
 
 use crate::change::Change;
 use crate::known::Known;
@@ -50,6 +50,24 @@ impl<V: Shelved, M: Change<V::Progress, V::SessionNote>> Play<Option<V>, View<V>
     ghost then = { freed V.rules M.progress M.note };
 }
 
+// The value of a held place is put back and taken again.
+pub struct Settle<M> {
+    marker: PhantomData<M>,
+}
+
+impl<V: Shelved, M: Change<V::Progress, V::SessionNote>> Play<Option<V>, View<V>> for Settle<M> {
+    ghost then = { settled V.rules M.progress M.note };
+}
+
+// A held place goes from the first session of a seat to the next.
+pub struct HandOn<M> {
+    marker: PhantomData<M>,
+}
+
+impl<V: Shelved, M: Change<V::Progress, V::SessionNote>> Play<Option<V>, View<V>> for HandOn<M> {
+    ghost then = { handed_on V.rules M.progress M.note };
+}
+
 // The completed tail is read.
 pub struct ReadDone;
 
@@ -71,6 +89,15 @@ impl<V: Shelved> Split<View<V>> for SplitFirst {
     ghost left = { others_of };
 
     ghost right = { first_of };
+}
+
+// The sessions behind the first go to a seat of their own.
+pub struct SplitOthers;
+
+impl<V: Shelved> Split<View<V>> for SplitOthers {
+    ghost left = { first_of };
+
+    ghost right = { others_of };
 }
 
 // One seat takes in the sessions of another, which has none then.

@@ -2,16 +2,18 @@
 ghost use Rattle.std.specs.Prelude.{◌≡◌, ◌<◌, ◌++◌, length, replicate, IfOk, IfErr, IfSome, MatchOption};
 ghost use Rattle.ownlock.specs.declared.known.Known.{Known};
 ghost use Rattle.ownlock.specs.Seats.{IsSession, IsSplit, HasSession, all_sessions, HoldsNone, opened_with};
-ghost use Rattle.ownlock.specs.Knowledge.{MayTake, MayPut, Takes, Puts, Reads, Raises, AllAgree, Closes};
+ghost use Rattle.ownlock.specs.Knowledge.{MayTake, MayPut, Takes, Puts, Settles, HandsOn, Reads, Raises, AllAgree, Closes};
+ghost use Rattle.ownlock.specs.Invariant.{others_of};
+ghost use Rattle.ownlock.specs.Settling.{MaySettle, MayPassOn};
 ghost use Rattle.ownlock.specs.Held.{held_place};
 
 use crate::change::Change;
 use crate::error::{NotOpened, OpenError};
-use crate::rule::{JoinViews, LockRule, RaiseDone, ReadDone, SplitFirst, View};
+use crate::rule::{JoinViews, LockRule, RaiseDone, ReadDone, SplitFirst, SplitOthers, View};
 use crate::seat::Seat;
 use crate::shelved::Shelved;
 use crate::spreading::{gather, slot_of, spread, unload};
-use crate::steps::{release, try_once, wait_for};
+use crate::steps::{pass_on, put_and_take, release, try_once, wait_for};
 use crate::words::{word_count, word_of};
 use atomic_table::{Refused, Table};
 use std::alloc::{AllocError, Global};
@@ -124,6 +126,18 @@ impl<V: Shelved> Shelf<V> {
         Seat { pass }
     }
 
+    /// The sessions behind the first, none of which holds a place, in a seat of their own. The first may hold places.
+    pub fn split_off(&self, seat: &mut Seat<V>) -> Seat<V>
+        requires own { seat.old.shelf ≡ self.now.id }
+        requires some { HasSession seat.old.sessions }
+        requires idle { HoldsNone (others_of seat.old.sessions) }
+        ensures same { (seat.new.shelf ≡ seat.old.shelf) × (result.shelf ≡ seat.old.shelf) }
+        ensures apart { IsSplit seat.old.sessions seat.new.sessions result.sessions }
+    {
+        let pass = self.table.shared.split_seat::<SplitOthers>(&mut seat.pass);
+        Seat { pass }
+    }
+
     /// Waits until the place is free, and takes its value. The session doesn't hold the place, and may hold it beside those that
     /// it holds.
     pub fn take<R: Wait>(&self, rt: &R, seat: &mut Seat<V>, place: usize) -> Held<V>
@@ -181,6 +195,43 @@ impl<V: Shelved> Shelf<V> {
         release::<V, M>(&self.table.shared, &mut seat.pass, place, value);
     }
 
+    /// Settles what the session has done at the place that it took last: the value is put back and taken again at once, so that nobody comes
+    /// between, and the session may change its own note by a move that is allowed. It waits for nobody.
+    pub fn settle<M: Change<V::Progress, V::SessionNote>>(
+        &self,
+        seat: &mut Seat<V>,
+        held: Held<V>,
+    ) -> Held<V>
+        requires own { seat.old.shelf ≡ self.now.id }
+        requires there { held_place held < self.now.places }
+        requires may { MaySettle V.rules M.progress M.note seat.old (held_place held) held.value }
+        ensures same { (seat.new.shelf ≡ seat.old.shelf) × (held_place result ≡ held_place held) × (result.value ≡ held.value) }
+        ensures settled { Settles V.rules M.progress M.note seat.old (held_place held) held.value seat.new }
+    {
+        let Held { value, place } = held;
+        let value = put_and_take::<V, M>(&self.table.shared, &mut seat.pass, place, value);
+        Held { value, place }
+    }
+
+    /// The first session of the seat, which holds this place and nothing else, puts the value back, and the next one, which holds nothing, takes it at
+    /// once, so that nobody comes between. The first may change its own note by a move that is allowed, and stands behind the others
+    /// then. It waits for nobody.
+    pub fn hand_on<M: Change<V::Progress, V::SessionNote>>(
+        &self,
+        seat: &mut Seat<V>,
+        held: Held<V>,
+    ) -> Held<V>
+        requires own { seat.old.shelf ≡ self.now.id }
+        requires there { held_place held < self.now.places }
+        requires may { MayPassOn V.rules M.progress M.note seat.old.sessions (held_place held) held.value }
+        ensures same { (seat.new.shelf ≡ seat.old.shelf) × (held_place result ≡ held_place held) × (result.value ≡ held.value) }
+        ensures handed { HandsOn V.rules M.progress M.note seat.old (held_place held) held.value seat.new }
+    {
+        let Held { value, place } = held;
+        let value = pass_on::<V, M>(&self.table.shared, &mut seat.pass, place, value);
+        Held { value, place }
+    }
+
     /// What the word of a place is just now: a look that changes nothing, and of which nothing is promised. It moves when the place is
     /// taken and when it is put back, so that who waits for what is done there need not take a place to see whether that has begun or
     /// ended.
@@ -216,10 +267,10 @@ impl<V: Shelved> Shelf<V> {
             .fetch_max::<RaiseDone>(&mut seat.pass, word, n);
     }
 
-    /// The sessions of another seat come to this one, behind its own. None of them holds a place.
+    /// The sessions of another seat, none of which holds a place, come to this one, behind its own.
     pub fn join(&self, seat: &mut Seat<V>, other: Seat<V>)
         requires own { (seat.old.shelf ≡ self.now.id) × (other.shelf ≡ self.now.id) }
-        requires idle { HoldsNone seat.old.sessions × HoldsNone other.sessions }
+        requires idle { HoldsNone other.sessions }
         ensures same { seat.new.shelf ≡ seat.old.shelf }
         ensures joined { seat.new.sessions ≡ seat.old.sessions ++ other.sessions }
     {

@@ -4,10 +4,12 @@ ghost use Rattle.std.specs.Prelude.{◌≡◌, Some, None};
 ghost use Rattle.ownlock.specs.Words.{HasPlace};
 ghost use Rattle.ownlock.specs.declared.known.Known.{Known};
 ghost use Rattle.ownlock.specs.Knowledge.{MayTake, MayPut};
-ghost use Rattle.ownlock.specs.Invariant.{StepsAs, StepsTaking, StepsPutting};
+ghost use Rattle.ownlock.specs.Seats.{TookLast};
+ghost use Rattle.ownlock.specs.Settling.{MayPass};
+ghost use Rattle.ownlock.specs.Invariant.{StepsAs, StepsTaking, StepsPutting, StepsSettling, StepsHanding};
 
 use crate::change::Change;
-use crate::rule::{Free, OwnRetry, Pass, Steps, Try};
+use crate::rule::{Free, HandOn, OwnRetry, Pass, Settle, Steps, Try};
 use crate::shelved::Shelved;
 use crate::spreading::slot_of;
 use crate::words::word_of;
@@ -65,4 +67,51 @@ pub(crate) fn release<V: Shelved, M: Change<V::Progress, V::SessionNote>>(
     let emptied = steps.exchange(pass, slot_of(place), Some(value));
     let None = emptied else { unreachable!() };
     steps.store::<Free<M>>(pass, word, 0);
+}
+
+// Puts the value into its slot and takes it out again, with one step on the place's word between, which stays taken: so nobody takes the
+// place in between.
+pub(crate) fn put_and_take<V: Shelved, M: Change<V::Progress, V::SessionNote>>(
+    steps: &Steps<V>,
+    pass: &mut Pass<V>,
+    place: usize,
+    value: V,
+) -> V
+    requires own { pass.old.table_id ≡ steps.now.table_id }
+    requires there { HasPlace steps.now.table_id place }
+    requires may { (k : Known V.Progress V.SessionNote V) × StepsAs pass.old.me k × MayPut V.rules M.progress M.note k place value × TookLast place k }
+    ensures same { pass.new.table_id ≡ pass.old.table_id }
+    ensures value { result ≡ value }
+    ensures settled { StepsSettling V.rules M.progress M.note pass.old.me place value pass.new.me }
+{
+    let word = word_of(place);
+    let _ = steps.load::<OwnRetry>(pass, word);
+    let before = steps.exchange(pass, slot_of(place), Some(value));
+    let None = before else { unreachable!() };
+    let _ = steps.load::<Settle<M>>(pass, word);
+    let found = steps.exchange(pass, slot_of(place), None);
+    let Some(value) = found else { unreachable!() };
+    value
+}
+
+// The same, but the first session of the seat puts the value back, and the next one takes it.
+pub(crate) fn pass_on<V: Shelved, M: Change<V::Progress, V::SessionNote>>(
+    steps: &Steps<V>,
+    pass: &mut Pass<V>,
+    place: usize,
+    value: V,
+) -> V
+    requires own { pass.old.table_id ≡ steps.now.table_id }
+    requires there { HasPlace steps.now.table_id place }
+    requires may { MayPass V.rules M.progress M.note pass.old.me place value }
+    ensures same { pass.new.table_id ≡ pass.old.table_id }
+    ensures value { result ≡ value }
+    ensures handed { StepsHanding V.rules M.progress M.note pass.old.me place value pass.new.me }
+{
+    let before = steps.exchange(pass, slot_of(place), Some(value));
+    let None = before else { unreachable!() };
+    let _ = steps.load::<HandOn<M>>(pass, word_of(place));
+    let found = steps.exchange(pass, slot_of(place), None);
+    let Some(value) = found else { unreachable!() };
+    value
 }

@@ -1,4 +1,4 @@
-// Which words of the table are used: each has a cache line to itself, so that two threads at two places don't slow each other.
+// The words of the table that are used: each has a cache line to itself, so that two threads at two places don't slow each other.
 ghost use Rattle.std.specs.Prelude.{◌≡◌, ◌<◌, ◌^◌, ◌+◌, IfSome};
 ghost use Rattle.ownlock.specs.Words.{word_of};
 

@@ -19,7 +19,7 @@ use Rattle.scripts.specs.Transcript.{TranscriptMeaning, Comment, Answered, Insta
 use Rattle.engine.specs.declared.replies.Verdict.TheVariants as verdicts
 use Rattle.running.specs.RunAnswer.{with_operation}
 use Rattle.replaying.specs.ReplayAnswer.{Replayed, LineOutcome, Bad, Differs, Agrees, operation_of, install_of, update_agrees, read_agrees, with_update, next_count, compared, told, line_outcome, by_outcome, transcript_answer}
-use Rattle.replaying.proofs.ReplaysOfLines.{agreeing_lines_are_runs}
+use Rattle.replaying.proofs.Export.{agreeing_lines_are_runs}
 use Rattle.realtime.specs.declared.ranks.Standing.{Standing}
 use Rattle.realtime.specs.declared.ranks.Standing.TheVariants as stands
 use Rattle.realtime.specs.Judging.{standings_of}

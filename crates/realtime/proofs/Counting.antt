@@ -1,4 +1,4 @@
--- So many numbers of their own below twice the count of the calls are all of these numbers.
+-- If each call has two numbers of its own below twice the count of the calls, the calls use all such numbers.
 use Rattle.std.proofs.Common.{◌≡◌, ◌≢◌, ℕ, suc, ◌*◌, ◌<◌, true, false, eqb, List, [], ◌∷◌, map, length, get_or, Ok, sym, subst, ◌∙◌, arith, All, AllPairs, ⊎_elim}
 use Rattle.std.specs.List.{list_any, IsDistinct, AllByRecursion}
 use Rattle.std.proofs.lemmas.Bool.{eqb-true, eq-eqb, ne_eqb, or_left, or_right, or_cases, true_from_ne_false}

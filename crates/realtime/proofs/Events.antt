@@ -6,7 +6,7 @@ use Rattle.std.proofs.lemmas.Option.{none-some, same_Some, slice_get-get_or, get
 use Rattle.std.proofs.lemmas.List.Folds.{Any-from_list_any}
 use Rattle.combiner.specs.declared.slots.Reply.TheVariants as replies
 use Rattle.schedule.specs.Trace.{Updated, Event, Call, Back, Trace}
-use Rattle.schedule.proofs.Lists.{get_in, get_some}
+use Rattle.schedule.proofs.Export.{get_in, get_some}
 use Rattle.realtime.specs.declared.histories.Timed.{Timed}
 use Rattle.realtime.specs.Laws.{ShareNone, AreCalls}
 use Rattle.realtime.specs.Linearizable.{Told, IsTraceOf}

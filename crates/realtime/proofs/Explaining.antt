@@ -13,8 +13,7 @@ use Rattle.replica.specs.StoreMeaning.{AreUpdates}
 use Rattle.schedule.specs.Trace.{Answer, Updated, ReadBack, Event, Call, Back, Trace, Positions, caller, IsIdle, Answers, StampBefore, stamp, Suits}
 use Rattle.schedule.specs.declared.parts.Opening.{Opening}
 use Rattle.schedule.specs.Explains.{Explains, IsRight}
-use Rattle.schedule.proofs.Lists.{get_take, get_taken}
-use Rattle.schedule.proofs.Traces.{back_call, op_in, answers_in}
+use Rattle.schedule.proofs.Export.{get_take, get_taken, back_call, op_in, answers_in}
 use Rattle.realtime.specs.Ranks.{rank_of}
 use Rattle.realtime.proofs.Agreeing.{standing_told}
 use Rattle.realtime.proofs.OneList.{Made, Has, Right, Places}

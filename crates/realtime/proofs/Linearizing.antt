@@ -8,8 +8,8 @@ use Rattle.std.proofs.lemmas.Option.{none-some, same_Some, slice_get-map, get_or
 use Rattle.std.proofs.lemmas.List.{length-map}
 use Rattle.text.specs.Lines.{lines_of}
 use Rattle.loader.specs.CatalogueView.{CatalogueView, IsCatalogue, with_places, opened_on}
-use Rattle.loader.specs.Loading.{Outcome, loaded}
-use Rattle.loader.specs.declared.installed.TheConstants.{MAX_PLACES}
+use Rattle.loader.specs.Loading.{Outcome}
+use Rattle.loader.specs.declared.installed.TheConstants.{MAX_SPARE}
 use Rattle.verifier.specs.declared.refusal.Mode.TheVariants.{Update}
 use Rattle.oplog.specs.declared.records.Record.{Record}
 use Rattle.oplog.specs.declared.configuration.Sizes.{Sizes}
@@ -23,9 +23,9 @@ use Rattle.engine.specs.declared.replies.Verdict.TheVariants as verdicts
 use Rattle.engine.specs.Answer.{Answer as Written}
 use Rattle.engine.specs.Opening.{opening_of, places_within}
 use Rattle.engine.specs.StateAnswer.{on_text, opened_by}
-use Rattle.engine.proofs.Openings.{on_loaded}
-use Rattle.engine.specs.Reading.{TextsRead}
-use Rattle.running.proofs.RunsOfLines.{loaded_is_catalogue, opened_is_catalogue}
+use Rattle.engine.proofs.Export.{on_loaded, are_limits}
+use Rattle.engine.specs.Reading.{TextsRead, loaded_by, limits_of}
+use Rattle.running.proofs.Export.{loaded_is_catalogue, opened_is_catalogue}
 use Rattle.replaying.specs.ReplayAnswer.{transcript_answer, nothing_replayed, replayed_on, replay_answer}
 use Rattle.realtime.specs.Judging.{calls_of}
 use Rattle.realtime.specs.declared.histories.Timed.{Timed}
@@ -194,7 +194,7 @@ module _ (c : CatalogueView) (transcript history : List (List ℕ)) (good : Good
 -- ---- all that was read
 
 module _ (spare : ℕ) (t : TextsRead) (judged_so : Judged (replay_answer spare (Some t)) (calls_of (ranks_of (lines_of t.file)) (lines_of t.history))) where
-  opens : (c : CatalogueView) → loaded t.manifest t.files ≡ Ok c → IsCatalogue (with_places c spare) → OpenedOn (with_places c spare) t.state t.file → AreLinearizable spare t
+  opens : (c : CatalogueView) → loaded_by t ≡ Ok c → IsCatalogue (with_places c spare) → OpenedOn (with_places c spare) t.state t.file → AreLinearizable spare t
   opens c is whole o = record {
     manifest = c;
     is_loaded = is;
@@ -204,16 +204,16 @@ module _ (spare : ℕ) (t : TextsRead) (judged_so : Judged (replay_answer spare 
         judged_so.calls judged_so.read judged_so.turns judged_so.real;
   }
 
-  by_places : (c : CatalogueView) → loaded t.manifest t.files ≡ Ok c → (b : Bool) → leb spare MAX_PLACES ≡ b
+  by_places : (c : CatalogueView) → loaded_by t ≡ Ok c → (b : Bool) → leb spare MAX_SPARE ≡ b
       → (replayed_on t.file (opening_of (if b then Some spare else None) (Ok c) t.state)).verdict ≡ verdicts.Good → AreLinearizable spare t
-  by_places c is true few e = let whole = loaded_is_catalogue t.manifest t.files c spare is (leb-true _ _ few) in opens c is whole (is_opened (with_places c spare) t.state t.file whole e)
+  by_places c is true few e = let whole = loaded_is_catalogue (limits_of t.sizes) t.manifest t.files c spare (are_limits t.sizes) is (omega (arith, leb-true _ _ few)) in opens c is whole (is_opened (with_places c spare) t.state t.file whole e)
   by_places c is false many e = absurd cc
 
-  by_manifest : (o : Outcome) → loaded t.manifest t.files ≡ o → (replayed_on t.file (opening_of (places_within spare) o t.state)).verdict ≡ verdicts.Good → AreLinearizable spare t
-  by_manifest (Ok c) is e = by_places c is (leb spare MAX_PLACES) refl e
+  by_manifest : (o : Outcome) → loaded_by t ≡ o → (replayed_on t.file (opening_of (places_within spare) o t.state)).verdict ≡ verdicts.Good → AreLinearizable spare t
+  by_manifest (Ok c) is e = by_places c is (leb spare MAX_SPARE) refl e
   by_manifest (Err refusal) is e = absurd cc
 
 pub good_is_linearizable : (spare : ℕ) (t : TextsRead) → (timed_answer spare (Some t)).verdict ≡ verdicts.Good → AreLinearizable spare t
 good_is_linearizable spare t e =
     let j = judged (replay_answer spare (Some t)) (calls_of (ranks_of (lines_of t.file)) (lines_of t.history)) e in
-    by_manifest spare t j (loaded t.manifest t.files) refl j.good
+    by_manifest spare t j (loaded_by t) refl j.good

@@ -15,8 +15,7 @@ use Rattle.combiner.specs.declared.slots.Reply.TheVariants as replies
 use Rattle.replica.specs.StoreMeaning.{store_meaning}
 use Rattle.schedule.specs.Trace.{Answer, Updated, ReadBack, Positions}
 use Rattle.schedule.specs.Explains.{count_of}
-use Rattle.schedule.proofs.Lists.{get_more, get_new, get_snoc, get_in}
-use Rattle.schedule.proofs.Traces.{take_all_front}
+use Rattle.schedule.proofs.Export.{get_more, get_new, get_snoc, get_in, take_all_front}
 use Rattle.realtime.specs.declared.histories.Timed.{Timed}
 use Rattle.realtime.specs.Linearizable.{Told, if_placed, operations_of}
 use Rattle.realtime.proofs.Agreeing.{Replies, AllReply}
@@ -70,7 +69,7 @@ made [] ts = []
 made (a ∷ told) [] = []
 made (a ∷ told) (t ∷ ts) = record { told = a; call = t } ∷ made told ts
 
--- it is one of these
+-- the call z is one of zs
 abbrev pub Has : List Made → Made → Type 0
 Has zs z = (k : ℕ) × (slice_get zs k ≡ Some z)
 

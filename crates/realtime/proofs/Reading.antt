@@ -11,7 +11,7 @@ use Rattle.std.proofs.lemmas.List.Folds.{list_any-append, list_any_at}
 use Rattle.std.proofs.lemmas.List.Quantifiers.{all_pairs_push}
 use Rattle.text.specs.Words.{number_of, number_within}
 use Rattle.text.specs.Fields.{split_at_space}
-use Rattle.text.proofs.Cuts.{steps}
+use Rattle.text.proofs.Export.{steps}
 use Rattle.realtime.specs.declared.histories.Timed.{Timed}
 use Rattle.realtime.specs.declared.histories.TheConstants.{SESSIONS}
 use Rattle.realtime.specs.declared.histories.Taken.{Taken}
@@ -149,7 +149,7 @@ within_bounds low high text n e =
 some_same : (m n : Timed) → Some m ≡ Some n → m ≡ n
 some_same m n e = cc
 
--- it stands on a line of a script, and is of one of the sessions
+-- the call is on a line of a script, and is of one of the sessions
 pub record IsRead (rank : ℕ) (call : Timed) : Type 0 where
   pub line : 0 < call.line
   pub session : call.session < 256

@@ -75,7 +75,7 @@ module _ (numbers : ℕ) (calls : List Timed) (good : AreGood numbers calls) whe
           },
         )
 
-    -- its index is no other's
+    -- the call's index is no other's
     pub one_index : (k j : ℕ) (d : Timed) → get_or begins x 0 ≡ k → j < length calls → (get_or calls j d).begun ≡ x → j ≡ k
     one_index k j d at within begun = sym (b.found j d within) ∙ ap (λ i. get_or begins i 0) begun ∙ at
 

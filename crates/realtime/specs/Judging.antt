@@ -26,7 +26,7 @@ standings_of lines = filter_map (λ line. option_and_then standing_of (transcrip
 abbrev pub calls_of : List ℕ → List (List ℕ) → Result (List Timed) ℕ
 calls_of ranks lines = calls_behind ranks [] lines
 
--- it is marked of each number whether one of the calls uses it
+-- each number is marked with whether one of the calls uses it
 abbrev pub HasUsed : Taken → Type 0
 HasUsed t = (x : ℕ) → x < length t.used.items → slice_index_or t.used.items x false ≡ is_used t.calls.items x
 
@@ -72,7 +72,7 @@ pub record AreTurns (calls : List Timed) (upto : ℕ) (turns : Turns) : Type 0 w
   pub line : AreGreatest calls (λ call. call.line) upto turns.line
   pub sessions : (length turns.ended ≡ 256) × (length turns.line ≡ 256)
 
--- this is the one of the calls that begins at its number
+-- the call is the only one of the calls that begins at its number
 pub record IsOnly (calls : List Timed) (call : Timed) : Type 0 where
   pub one : Contains calls call
   pub only : (a : Timed) → Contains calls a → a.begun ≡ call.begun → a ≡ call

@@ -11,7 +11,7 @@ use Rattle.realtime.specs.TimedAnswer.{differing_history, calls_answer}
 abbrev pub ShareNone : Timed → Timed → Type 0
 ShareNone a b = (a.begun ≢ b.begun) × (a.begun ≢ b.ended) × (a.ended ≢ b.begun) × (a.ended ≢ b.ended)
 
--- these are the calls of a transcript in its order, each with two numbers of its own below twice their count, and that is all such numbers
+-- the calls are those of a transcript in its order, each with two numbers of its own below twice their count, and that is all such numbers
 pub record AreCalls (ranks : List ℕ) (calls : List Timed) : Type 0 where
   pub ranked : map (λ call. call.rank) calls ≡ ranks
   pub backs : All (λ call. call.begun < call.ended) calls

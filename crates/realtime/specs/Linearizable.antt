@@ -5,7 +5,6 @@ use Rattle.verifier.specs.declared.refusal.Mode.{Mode}
 use Rattle.verifier.specs.declared.refusal.Mode.TheVariants.{Update, Read}
 use Rattle.text.specs.Lines.{lines_of}
 use Rattle.loader.specs.CatalogueView.{CatalogueView, with_places}
-use Rattle.loader.specs.Loading.{loaded}
 use Rattle.oplog.specs.declared.configuration.Sizes.{Sizes}
 use Rattle.oplog.specs.Operations.{Operation}
 use Rattle.oplog.specs.History.{History}
@@ -14,7 +13,7 @@ use Rattle.schedule.specs.declared.parts.Opening.{Opening}
 use Rattle.schedule.specs.Trace.{Answer, Updated, ReadBack, Call, Back, Trace, Positions}
 use Rattle.schedule.specs.Explains.{Explains}
 use Rattle.scripts.specs.Transcript.{TranscriptMeaning, Comment, Answered, Installed, Ended, EndedInstall, transcript_line_meaning}
-use Rattle.engine.specs.Reading.{TextsRead}
+use Rattle.engine.specs.Reading.{TextsRead, loaded_by}
 use Rattle.engine.specs.StateAnswer.{opened_by}
 use Rattle.replaying.specs.ReplayAnswer.{operation_of, install_of}
 use Rattle.realtime.specs.declared.histories.Timed.{Timed}
@@ -82,7 +81,7 @@ pub record IsLinearizable (m : Opening) (transcript history : List (List ℕ)) :
 -- was met where a call was told that the history has ended
 pub record AreLinearizable (spare : ℕ) (t : TextsRead) : Type 0 where
   pub manifest : CatalogueView
-  pub is_loaded : loaded t.manifest t.files ≡ Ok manifest
+  pub is_loaded : loaded_by t ≡ Ok manifest
   pub catalogue : CatalogueView
   pub is_opened : opened_by (with_places manifest spare) t.state ≡ Ok catalogue
   pub linearizable : (config : Sizes) → IsLimitOf (calls_told catalogue (lines_of t.file)) config.limit

@@ -33,7 +33,7 @@ pub enum Kind {
 /// What is known of a cell of the stack: eight bytes from a multiple of 8 on.
 #[derive(Clone, Copy, PartialEq, Eq, Debug)]
 pub enum Cell {
-    /// Which of its bytes are initialised: bit b is the mark of the cell's byte b.
+    /// The bytes of the cell that are initialised: bit b is the mark of the cell's byte b.
     Marks(u8),
     /// A pointer of this kind.
     Spilled(Kind),
@@ -94,7 +94,7 @@ impl Frame {
         &self.kinds
     }
 
-    /// Another kind for a register.
+    /// Gives a register another kind.
     pub fn set_kind(&mut self, register: u8, kind: Kind)
         requires register { register < 11 }
         ensures changed { self.new ≡ with_kind self.old register kind }

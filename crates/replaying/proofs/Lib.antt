@@ -1,3 +1,4 @@
 pub mod Replays
 pub mod TranscriptLines
 pub mod ReplaysOfLines
+pub mod Export

@@ -21,7 +21,7 @@ use Rattle.running.specs.declared.single_node.SingleNode.{SingleNode}
 use Rattle.running.specs.Running.{Follows, IsUpdated, HasEnded}
 use Rattle.replaying.specs.ReplayAnswer.{Replayed, update_agrees, read_agrees, with_update, next_count}
 use Rattle.replaying.specs.Replaying.{HasReplayed, IsCompared, due_at}
-use Rattle.running.proofs.Turns.{here, effect_here, has_room, updated_follows}
+use Rattle.running.proofs.Export.{here, effect_here, has_room, updated_follows}
 
 -- whether this reply was told
 abbrev is_reply : ℕ → Option ℕ → Bool

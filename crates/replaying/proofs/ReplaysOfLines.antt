@@ -8,7 +8,7 @@ use Rattle.maps.specs.Maps.{AreBytes}
 use Rattle.verifier.specs.declared.refusal.Mode.{Mode}
 use Rattle.verifier.specs.declared.refusal.Mode.TheVariants.{Update, Read}
 use Rattle.text.specs.Lines.{next_line}
-use Rattle.text.proofs.Cuts.{steps}
+use Rattle.text.proofs.Export.{steps}
 use Rattle.loader.specs.CatalogueView.{CatalogueView, IsCatalogue}
 use Rattle.loader.specs.StoreState.{StoreState}
 use Rattle.oplog.specs.declared.configuration.TheConstants.{MAX_LIMIT}
@@ -19,16 +19,15 @@ use Rattle.oplog.specs.History.{Effect, ReadEffect, History, reply_at, read_repl
 use Rattle.replica.specs.StoreMeaning.{AreUpdates, is_operation, store_meaning}
 use Rattle.replica.specs.Refusals.{early_refusal, install_refusal}
 use Rattle.replica.specs.declared.refusals.StoreRefused.{StoreRefused}
-use Rattle.replica.proofs.Asked.{is_asked, may_install}
-use Rattle.replica.proofs.Tested.{are_tested}
+use Rattle.replica.proofs.Export.{is_asked, may_install, are_tested}
 use Rattle.scripts.specs.Script.{KeyedCall}
 use Rattle.scripts.specs.Transcript.{TranscriptMeaning, Comment, Answered, Installed, Ended, EndedInstall, transcript_line_meaning}
 use Rattle.running.specs.RunAnswer.{state_of, with_operation}
 use Rattle.replaying.specs.ReplayAnswer.{Replayed, LineOutcome, Bad, Differs, Agrees, number_told, unless_barred, operation_of, install_of, update_agrees, read_agrees, with_update, next_count, compared, told, line_outcome, by_outcome, transcript_answer}
 use Rattle.scripts.specs.LineSpelling.{SpellsTold}
 use Rattle.replaying.specs.ReplayLines.{Does, AgreesUpdate, AgreesRead, IsCallOf, AgreesTold, LineAgrees, Replays, AgreeingLinesAreRuns, ReplaysAreRuns}
-use Rattle.running.proofs.RunsOfLines.{field_are_bytes, grown, has_effects, left_behind}
-use Rattle.scripts.proofs.SpelledTold.{spelled}
+use Rattle.running.proofs.Export.{field_are_bytes, grown, has_effects, left_behind}
+use Rattle.scripts.proofs.Export.{spelled}
 
 -- ---- the bytes of a call
 

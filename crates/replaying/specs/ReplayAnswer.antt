@@ -50,7 +50,7 @@ abbrev pub number_told : CatalogueView → ProgramKey → Option ℕ
 number_told c (Named name) = number_named c.programs name
 number_told c (Numbered k) = if nat_lt k (length c.programs) then None else Some k
 
--- this, unless it is refused
+-- x, unless it is refused
 abbrev pub unless_barred : {X : Type 0} → X → Option StoreRefused → Option X
 unless_barred x None = Some x
 unless_barred x (Some why) = None

@@ -62,8 +62,8 @@ due_at c Update h op = record { mode = Update; place = length h; reply = if nat_
 due_at c Read h op = record { mode = Read; place = length h; reply = read_reply_at store_meaning c h (length h) op }
 
 -- after whatever was replayed before, that is it
-abbrev pub TellsDue : CatalogueView → Mode → Operation → Replaying → Due → Type 0
-TellsDue c mode op old due = (at : Replayed) → HasReplayed c at old → due ≡ due_at c mode at.history op
+abbrev pub TellsWhatIsDue : CatalogueView → Mode → Operation → Replaying → Due → Type 0
+TellsWhatIsDue c mode op old due = (at : Replayed) → HasReplayed c at old → due ≡ due_at c mode at.history op
 
 -- what a line does was told, and where it agrees so much is replayed
 abbrev pub LineReplayed : CatalogueView → LineOutcome → LineVerdict → Replaying → Type 0

@@ -7,7 +7,7 @@ ghost use Rattle.oplog.specs.declared.records.Op.TheVariants.{Run};
 ghost use Rattle.replica.specs.StoreMeaning.{is_operation};
 ghost use Rattle.text.specs.Lines.{lines_of};
 ghost use Rattle.replaying.specs.ReplayAnswer.{number_told, operation_of, install_of, ended_outcome, line_outcome, nothing_replayed, transcript_answer};
-ghost use Rattle.replaying.specs.Replaying.{HasReplayed, Compares, ReplaysLine, TellsDue, answered_outcome, compared_verdict, installed_outcome, ended_answer, ended_verdict};
+ghost use Rattle.replaying.specs.Replaying.{HasReplayed, Compares, ReplaysLine, TellsWhatIsDue, answered_outcome, compared_verdict, installed_outcome, ended_answer, ended_verdict};
 ghost use Rattle.running.specs.Running.{IsSteady, IsUpdated, HasEnded};
 ghost use Rattle.scripts.specs.ScriptShown.{key_of, keyed_of, program_of};
 
@@ -144,7 +144,7 @@ impl Replaying {
         ensures updated { IfSome result (λ o. IsUpdated catalogue.now op self.old.node self.new.node o) }
         ensures ended { IfNone result (HasEnded self.old.node self.new.node) }
         ensures counts { (self.new.reads ≡ self.old.reads) × (self.new.ended ≡ self.old.ended) }
-        ensures due { TellsDue catalogue.now Update op self.old self.new.due }
+        ensures due { TellsWhatIsDue catalogue.now Update op self.old self.new.due }
     {
         let mode = Mode::Update;
         let place = self.node.tail();
@@ -168,7 +168,7 @@ impl Replaying {
         requires update { is_operation Update catalogue.now op ≡ true }
         ensures steady { IsSteady catalogue.now self.new.node }
         ensures compared { Compares catalogue.now Update op index reply self.old result self.new }
-        ensures due { TellsDue catalogue.now Update op self.old self.new.due }
+        ensures due { TellsWhatIsDue catalogue.now Update op self.old self.new.due }
     {
         let place = self.node.tail();
         let outcome = self.apply(catalogue, op);
@@ -187,7 +187,7 @@ impl Replaying {
         requires steady { IsSteady catalogue.now self.old.node }
         ensures steady { IsSteady catalogue.now self.new.node }
         ensures compared { Compares catalogue.now Read (Run call.now) point reply self.old result self.new }
-        ensures due { TellsDue catalogue.now Read (Run call.now) self.old self.new.due }
+        ensures due { TellsWhatIsDue catalogue.now Read (Run call.now) self.old self.new.due }
     {
         let place = self.node.tail();
         let outcome = self.node.query(catalogue, call.program(), call.argument());

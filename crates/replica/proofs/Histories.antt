@@ -10,12 +10,11 @@ use Rattle.verifier.specs.declared.refusal.Mode.{Mode}
 use Rattle.verifier.specs.declared.refusal.Mode.TheVariants.{Update, Read}
 use Rattle.verifier.specs.Accepted.{Checked, checked, IsAccepted, signature_of}
 use Rattle.machine.specs.Effects.{effect_of, Effect as RunEffect}
-use Rattle.machine.proofs.EffectsOfRuns.{typable_takes_effect}
+use Rattle.machine.proofs.Export.{typable_takes_effect}
 use Rattle.loader.specs.CatalogueView.{CatalogueView, IsCatalogue, Entry, sizes_for, opening_state}
 use Rattle.loader.specs.Installed.{installed_program}
 use Rattle.loader.specs.StoreState.{StoreState, IsState}
-use Rattle.loader.proofs.Installing.{installed_is_accepted, one_more_installed}
-use Rattle.loader.proofs.Openings.{opening_is_state}
+use Rattle.loader.proofs.Export.{installed_is_accepted, one_more_installed, opening_is_state}
 use Rattle.oplog.specs.Calls.{Call, NewProgram}
 use Rattle.oplog.specs.Operations.{Operation}
 use Rattle.oplog.specs.declared.records.Op.TheVariants.{Run, Install}
@@ -63,7 +62,7 @@ offered_in c s k lt = ap (λ b. if b then program_at c k else slice_get s.progra
 
 -- ---- what a call does in a state
 
--- its program takes effect
+-- the program of the call takes effect
 record Takes (mode : Mode) (c : CatalogueView) (call : Call) (s : StoreState) : Type 0 where
   has : HasRun mode c call s
   done : run_of mode c call s ≡ Some has.done

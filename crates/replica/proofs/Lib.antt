@@ -4,3 +4,4 @@ pub mod Afters
 pub mod Histories
 pub mod Tested
 pub mod Asked
+pub mod Export

@@ -6,7 +6,7 @@ use Rattle.verifier.specs.declared.refusal.Mode.{Mode}
 use Rattle.verifier.specs.Accepted.{Checked}
 use Rattle.machine.specs.Runs.{Runs}
 use Rattle.machine.specs.Effects.{effect, effect_of}
-use Rattle.machine.proofs.EffectsOfRuns.{runs_are}
+use Rattle.machine.proofs.Export.{runs_are}
 use Rattle.replica.specs.StoreMeaning.{no_program, suits, run_in}
 
 -- a program that suits has its effect

@@ -5,18 +5,18 @@ use Rattle.std.specs.List.{list_all}
 use Rattle.std.specs.Option.{option_map}
 use Rattle.std.proofs.lemmas.Bool.Decides.{nat_tests}
 use Rattle.std.proofs.lemmas.Option.{slice_get_within}
-use Rattle.insn.proofs.Laws.{read_is_spelled, spelled_is_read}
+use Rattle.insn.proofs.Export.{read_is_spelled, spelled_is_read}
 use Rattle.maps.specs.Maps.{AreBytes}
 use Rattle.maps.specs.declared.shapes.TheConstants.{MAX_ARG_LEN}
 use Rattle.verifier.specs.declared.refusal.Mode.{Mode}
 use Rattle.verifier.specs.declared.refusal.Mode.TheVariants.{Update, Read}
 use Rattle.verifier.specs.Signature.{signature}
 use Rattle.verifier.specs.Accepted.{Checked, checked}
-use Rattle.verifier.proofs.VerdictLaws.{accepts, accepted_iff}
+use Rattle.verifier.proofs.Export.{accepts, accepted_iff}
 use Rattle.loader.specs.CatalogueView.{CatalogueView, Entry}
 use Rattle.loader.specs.Installed.{unless_unsafe, accepted_program, installed_program}
 use Rattle.loader.specs.declared.installed.InstallRefusal.{InstallRefusal}
-use Rattle.loader.proofs.Installing.{installed_reads}
+use Rattle.loader.proofs.Export.{installed_reads}
 use Rattle.oplog.specs.Calls.{Call, NewProgram}
 use Rattle.oplog.specs.Operations.{Operation}
 use Rattle.oplog.specs.declared.records.Op.TheVariants.{Run, Install}

@@ -1,4 +1,4 @@
--- Which calls on a store are refused before anything is done.
+-- The calls on a store that are refused before anything is done.
 use Rattle.std.specs.Prelude.{◌≡◌, ℕ, ◌+◌, ◌<◌, List, length, Option, Some, None, ◌==◌, ◌&&◌, nat_lt, nat_le, if◌then◌else◌, Result, Ok, Err, MatchResult}
 use Rattle.maps.specs.declared.shapes.Shape.{Shape}
 use Rattle.maps.specs.declared.shapes.TheConstants.{MAX_ARG_LEN}
@@ -53,7 +53,7 @@ early_refusal c mode program argument =
     if nat_lt program (length c.programs) then offered_refusal c mode program argument
     else if nat_lt program (length c.programs + c.places) then place_refusal argument else Some UnknownProgram
 
--- that of a program of the catalogue where one of either mode will do: unknown, else of another length
+-- the refusal of a call of a program of the catalogue, of either mode: unknown, else of another length
 abbrev pub length_refusal : List ℕ → Option Checked → Option StoreRefused
 length_refusal argument None = Some UnknownProgram
 length_refusal argument (Some program) = if length argument == program.arg_len then None else Some ArgumentLength

@@ -1,4 +1,4 @@
--- Which outcomes are kept when records are replayed.
+-- The outcomes that are kept when records are replayed.
 use Rattle.std.specs.Prelude.{◌≡◌, ◌⊎◌, ℕ, ◌+◌, ◌<◌, ◌≤◌, length, take, Some, slice_get}
 use Rattle.oplog.specs.Operations.{Operation}
 use Rattle.oplog.specs.declared.records.Record.{Record}

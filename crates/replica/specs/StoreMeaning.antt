@@ -33,7 +33,7 @@ program_at c k = option_map (λ e. e.checked) (slice_get c.programs k)
 abbrev pub program_among : CatalogueView → List Checked → ℕ → Option Checked
 program_among c installed k = if nat_lt k (length c.programs) then program_at c k else slice_get installed (k - length c.programs)
 
--- the same in a state
+-- `program_among` in a state
 abbrev pub program_in : CatalogueView → StoreState → ℕ → Option Checked
 program_in c s k = program_among c s.programs k
 
@@ -61,7 +61,7 @@ abbrev pub run_in : Mode → List ℕ → Maps → Option Checked → Option Run
 run_in mode argument maps None = Some (effect_of 0 no_program maps)
 run_in mode argument maps (Some p) = if suits mode argument p then effect p.program maps argument else Some (effect_of 0 no_program maps)
 
--- that of the program which a call names
+-- the run of the program that a call names
 abbrev pub run_of : Mode → CatalogueView → Call → StoreState → Option RunEffect
 run_of mode c call s = run_in mode call.argument s.maps (program_in c s call.program)
 
@@ -86,7 +86,7 @@ placed c s p =
     then record { steps = 0; reply = length c.programs + length s.programs; left = record s { programs = s.programs ++ p ∷ [] } }
     else record { steps = 0; reply = no_place; left = s }
 
--- the same, where bytes were read as such a program
+-- `placed`, if bytes were read as such a program
 abbrev pub placed_read : CatalogueView → StoreState → Result Checked InstallRefusal → Option (Effect StoreState)
 placed_read c s (Ok p) = Some (placed c s p)
 placed_read c s (Err e) = None
@@ -143,7 +143,7 @@ IsOperation mode c (Run call) = IsCall mode c call
 IsOperation Update c (Install new) = IsInstallable c new
 IsOperation Read c (Install new) = ⊥
 
--- the same as tests
+-- the conditions above as tests
 abbrev pub are_bytes : List ℕ → Bool
 are_bytes xs = list_all (λ b. nat_lt b 256) xs
 

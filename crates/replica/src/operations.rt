@@ -29,7 +29,7 @@ pub(crate) struct Ground {
 }
 
 impl Ground {
-    /// These maps and programs, with a room.
+    /// Makes a ground of these maps and programs, with a room.
     pub(crate) fn new(maps: MapSet, programs: Installed) -> Ground
         ensures same { (result.maps ≡ maps) × (result.programs ≡ programs) }
     {

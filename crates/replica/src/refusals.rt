@@ -1,4 +1,4 @@
-// Which calls on a store are refused, and why.
+// The calls on a store that are refused, and why.
 
 ghost use Rattle.std.specs.Prelude.{◌≡◌, ◌<◌, ◌≤◌, [], length, Some, IfOk};
 ghost use Rattle.maps.specs.declared.shapes.TheConstants.{MAX_ARG_LEN};

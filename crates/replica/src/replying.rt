@@ -68,6 +68,7 @@ impl Replies {
         requires within { k < length self.now.outcomes }
         ensures outcome { slice_get self.now.outcomes k ≡ Some result }
     {
+        // (the invariant: there are 16 outcomes at most)
         let _count = self.count;
         self.outcomes[k]
     }

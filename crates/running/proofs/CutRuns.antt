@@ -10,10 +10,10 @@ use Rattle.verifier.specs.declared.refusal.Mode.TheVariants.{Update, Read}
 use Rattle.verifier.specs.Accepted.{Checked}
 use Rattle.loader.specs.StoreState.{StoreState, IsState, with_room, opened_state}
 use Rattle.loader.specs.CatalogueView.{CatalogueView, IsCatalogue, number_named, opening_state, sizes_for, with_places}
-use Rattle.loader.specs.Loading.{loaded, Outcome as Loads}
+use Rattle.loader.specs.Loading.{Outcome as Loads}
 use Rattle.dumps.specs.Dumping.{dump}
 use Rattle.dumps.specs.Loading.{Outcome, loaded_state, after_lines}
-use Rattle.dumps.proofs.Reread.{dump_is_read}
+use Rattle.dumps.proofs.Export.{dump_is_read}
 use Rattle.dumps.specs.Laws.{EmptyIsNew}
 use Rattle.oplog.specs.Operations.{Operation}
 use Rattle.oplog.specs.declared.records.Op.TheVariants.{Run, Install as AnInstall}
@@ -23,11 +23,12 @@ use Rattle.replica.specs.StoreMeaning.{program_at, store_meaning, AreUpdates, up
 use Rattle.replica.specs.Refusals.{early_refusal, install_refusal}
 use Rattle.replica.specs.declared.refusals.StoreRefused.{StoreRefused}
 use Rattle.replica.specs.declared.refusals.StoreRefused.TheVariants.{UnknownProgram, ArgumentLength}
-use Rattle.replica.proofs.Histories.{have_effects}
+use Rattle.replica.proofs.Export.{have_effects}
 use Rattle.engine.specs.Answer.{Answer}
 use Rattle.engine.specs.Opening.{opening_of}
 use Rattle.engine.specs.StateAnswer.{on_text, opened_by}
-use Rattle.engine.proofs.Openings.{on_loaded}
+use Rattle.engine.specs.Reading.{limits_of, loaded_by}
+use Rattle.engine.proofs.Export.{are_limits, on_loaded}
 use Rattle.oplog.specs.declared.configuration.TheConstants.{MAX_LIMIT}
 use Rattle.running.specs.declared.single_node.TheConstants.{RUN_PLACES}
 use Rattle.scripts.specs.Script.{ProgramCall, Meaning, Comment, Call, InvokeAt, ReadAt, Install, line_meaning}
@@ -39,7 +40,7 @@ use Rattle.running.proofs.Turns.{after_append, whole, update_told, install_told}
 use Rattle.running.proofs.RunsOfLines.{line_turns_are_runs, loaded_is_catalogue, opened_is_catalogue}
 use Rattle.running.proofs.UnderLimits.{grows}
 
--- the same catalogue, of which a store opens on something else
+-- the catalogue, except that its stores open on something else
 abbrev pub on : CatalogueView → Option StoreState → CatalogueView
 on c opening = record c { opening = opening }
 
@@ -347,12 +348,12 @@ module _ (whole first second state : List ℕ) (s : StoreState) (same : lines_of
       (on_catalogue c x.opening new (subst IsCatalogue (sym x.is) x.catalogue) (ap (λ (r : CatalogueView). (script_kept first (Ok r)).state) x.is ∙ e))
 
 pub scripts_cut : ScriptsMayBeCut
-scripts_cut t whole first second s same few e = by (loaded t.manifest t.files) refl e
+scripts_cut t whole first second s same few e = by (loaded_by t) refl e
   where
     opens_at : Loads → List ℕ → Result CatalogueView Answer
     opens_at o state = opening_of (Some RUN_PLACES) o state
 
-    by : (o : Loads) → loaded t.manifest t.files ≡ o → (script_kept first (opens_at o t.state)).state ≡ Some s → Cut whole first second t.state s same few (opens_at o t.state) (opens_at o (dump s))
+    by : (o : Loads) → loaded_by t ≡ o → (script_kept first (opens_at o t.state)).state ≡ Some s → Cut whole first second t.state s same few (opens_at o t.state) (opens_at o (dump s))
     by (Err refusal) is p = absurd cc
     by (Ok c) is p =
-        on_opened whole first second t.state s same few (with_places c RUN_PLACES) (opened_by (with_places c RUN_PLACES) t.state) refl (loaded_is_catalogue t.manifest t.files c RUN_PLACES is (omega arith)) refl p
+        on_opened whole first second t.state s same few (with_places c RUN_PLACES) (opened_by (with_places c RUN_PLACES) t.state) refl (loaded_is_catalogue (limits_of t.sizes) t.manifest t.files c RUN_PLACES (are_limits t.sizes) is (omega arith)) refl p

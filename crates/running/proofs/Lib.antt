@@ -8,3 +8,4 @@ pub mod RunsOfLines
 pub mod UnderLimits
 pub mod KeptRuns
 pub mod CutRuns
+pub mod Export

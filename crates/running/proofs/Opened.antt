@@ -2,8 +2,7 @@
 use Rattle.std.proofs.Common.{◌≡◌, ℕ, refl, arith}
 use Rattle.loader.specs.CatalogueView.{CatalogueView, IsCatalogue, opening_state}
 use Rattle.loader.specs.Installed.{InstalledView, no_programs}
-use Rattle.loader.proofs.Openings.{opening_is_state}
-use Rattle.loader.proofs.States.{state_sizes}
+use Rattle.loader.proofs.Export.{opening_is_state, state_sizes}
 use Rattle.oplog.specs.declared.configuration.TheConstants.{MAX_WINDOW}
 use Rattle.oplog.specs.declared.records.Record.{Record}
 use Rattle.oplog.specs.Logs.{Log, HandView, opened_log, opened_hand}

@@ -10,7 +10,7 @@ use Rattle.hex.proofs.HexLemmas.{decode_of-ok}
 use Rattle.maps.specs.Maps.{AreBytes}
 use Rattle.machine.specs.Effects.{Effect as RunEffect}
 use Rattle.loader.specs.StoreState.{StoreState, IsState}
-use Rattle.insn.proofs.Slots.{are_bytes}
+use Rattle.insn.proofs.Export.{are_bytes}
 use Rattle.verifier.specs.declared.refusal.Mode.{Mode}
 use Rattle.verifier.specs.declared.refusal.Mode.TheVariants.{Update, Read}
 use Rattle.verifier.specs.Accepted.{Checked}
@@ -18,22 +18,21 @@ use Rattle.text.specs.Lines.{lines_of, next_line}
 use Rattle.text.specs.Fields.{split_at_space}
 use Rattle.text.specs.Words.{is_name, number_of}
 use Rattle.text.specs.Digits.{good, field_bytes}
-use Rattle.text.proofs.LineReadings.{IsSilent, by_kind_from}
-use Rattle.text.proofs.Cuts.{steps, where_true}
+use Rattle.text.proofs.Export.{IsSilent, by_kind_from, steps, where_true}
 use Rattle.maps.specs.declared.shapes.TheConstants.{MAX_ARG_LEN}
 use Rattle.loader.specs.Installed.{installed_program}
 use Rattle.loader.specs.declared.installed.InstallRefusal.{InstallRefusal}
 use Rattle.loader.specs.declared.installed.InstallRefusal.TheVariants.{Decode, Verify}
 use Rattle.loader.specs.CatalogueView.{CatalogueView, Entry, IsCatalogue, number_named, opened_on, opening_state, sizes_for, with_places}
-use Rattle.loader.specs.declared.installed.TheConstants.{MAX_PLACES}
+use Rattle.loader.specs.declared.installed.TheConstants.{MOST_SPARE}
 use Rattle.loader.specs.Grammar.{mode_of}
 use Rattle.loader.specs.ProgramFiles.{Files}
-use Rattle.loader.specs.Loading.{nothing_yet, loaded}
-use Rattle.loader.proofs.Outcomes.{ok_from}
-use Rattle.loader.proofs.Passed.{passes_stay}
-use Rattle.loader.proofs.Steps.{is_catalogue, nothing_partial}
+use Rattle.maps.specs.declared.shapes.MapLimits.{MapLimits}
+use Rattle.maps.specs.Shapes.{AreLimits}
+use Rattle.loader.specs.Loading.{nothing_yet, loaded_within}
+use Rattle.loader.proofs.Export.{ok_from, passes_stay, is_catalogue, nothing_partial}
 use Rattle.dumps.specs.Loading.{Outcome, loaded_state}
-use Rattle.dumps.proofs.LoadedState.{loaded_is_state}
+use Rattle.dumps.proofs.Export.{loaded_is_state}
 use Rattle.oplog.specs.declared.records.Record.{Record}
 use Rattle.oplog.specs.Calls.{Call as TheCall, NewProgram}
 use Rattle.oplog.specs.Operations.{Operation}
@@ -45,14 +44,12 @@ use Rattle.oplog.specs.declared.records.TheConstants.{MAX_INSTALLED_BYTES}
 use Rattle.replica.specs.Refusals.{mode_refusal, program_refusal, offered_refusal, place_refusal, early_refusal, reading_refusal, install_refusal}
 use Rattle.replica.specs.declared.refusals.StoreRefused.{StoreRefused}
 use Rattle.replica.specs.declared.refusals.StoreRefused.TheVariants.{UnknownProgram, ArgumentLength, WrongMode, Ended, TooLarge, NotDecoded, NotAccepted}
-use Rattle.replica.proofs.Asked.{is_asked, may_install}
-use Rattle.replica.proofs.Tested.{are_tested, tests_offered, suits_so, offered_below}
-use Rattle.replica.proofs.Histories.{have_effects}
+use Rattle.replica.proofs.Export.{is_asked, may_install, are_tested, tests_offered, suits_so, offered_below, have_effects}
 use Rattle.engine.specs.Answer.{Answer}
 use Rattle.scripts.specs.Script.{ProgramCall, Meaning, Comment, Call, InvokeAt, ReadAt, Install, named_call, numbered_call, program_fields, new_program, word_meaning, call_meaning, line_meaning}
 use Rattle.running.specs.RunAnswer.{Turn, refused, with_operation, read_text, submitted, performed, numbered, called, taken, line_turn, behind, bad_line, lines_answer}
 use Rattle.running.specs.RunLines.{CallRuns, IsUpdateTurn, IsReadTurn, IsInstallTurn, IsRefusedTurn, IsWhy, IsWhyNamed, IsWhyInstall, MeaningTurn, LineTurn, ScriptRuns, LineTurnsAreRuns, RunLinesAreRuns, LoadedIsCatalogue, OpenedIsCatalogue}
-use Rattle.engine.proofs.Openings.{on_loaded}
+use Rattle.engine.proofs.Export.{on_loaded}
 use Rattle.running.proofs.Turns.{after_append, install_told, performed_by, update_told, whole}
 
 -- ---- the bytes of a call
@@ -400,14 +397,14 @@ lines_run limit c is_whole (l ∷ ls) n h updates = line_runs limit c is_whole l
 
 -- ---- the laws
 
-loaded_catalogue : (text : List ℕ) (files : Files) (c : CatalogueView) → loaded text files ≡ Ok c → IsCatalogue c
-unfolding loaded
-loaded_catalogue text files c e =
-    let p = ok_from files (lines_of text) 1 nothing_yet c e in
-    is_catalogue c (passes_stay files (lines_of text) nothing_yet c nothing_partial p.0) p.1
+loaded_catalogue : (l : MapLimits) (text : List ℕ) (files : Files) (c : CatalogueView) → AreLimits l → loaded_within l text files ≡ Ok c → IsCatalogue c
+unfolding loaded_within
+loaded_catalogue l text files c ok e =
+    let p = ok_from l files (lines_of text) 1 nothing_yet c e in
+    is_catalogue l c (passes_stay l files (lines_of text) nothing_yet c (nothing_partial l ok) p.0) p.1
 
 -- a catalogue with so many places is one
-placed_catalogue : (c : CatalogueView) (places : ℕ) → IsCatalogue c → places ≤ MAX_PLACES → IsCatalogue (with_places c places)
+placed_catalogue : (c : CatalogueView) (places : ℕ) → IsCatalogue c → places ≤ MOST_SPARE → IsCatalogue (with_places c places)
 placed_catalogue c places is few = record { shapes = is.shapes; accepted = is.accepted; checked = is.checked; distinct = is.distinct; few = is.few; few_places = few; opening = tt }
 
 pub line_turns_are_runs : LineTurnsAreRuns
@@ -421,7 +418,7 @@ pub run_lines_are_runs : RunLinesAreRuns
 run_lines_are_runs limit c n h ls is updates = lines_run limit c is ls n h updates
 
 pub loaded_is_catalogue : LoadedIsCatalogue
-loaded_is_catalogue manifest files c places e few = placed_catalogue c places (loaded_catalogue manifest files c e) few
+loaded_is_catalogue l manifest files c places ok e few = placed_catalogue c places (loaded_catalogue l manifest files c ok e) few
 
 pub opened_is_catalogue : OpenedIsCatalogue
 opened_is_catalogue c on state is e = by (loaded_state c.shapes c.places state) refl e

@@ -8,10 +8,8 @@ use Rattle.std.proofs.lemmas.Fmt.{digits_decimal}
 use Rattle.std.proofs.lemmas.List.{append-nil, append_cancel_right}
 use Rattle.text.specs.Fields.{is_space, has_no_space, split_at_space}
 use Rattle.text.specs.Words.{number_of}
-use Rattle.text.proofs.Cuts.{split_to}
-use Rattle.text.proofs.Numbers.{own}
-use Rattle.text.proofs.Numerals.{numerals_are_decimals}
-use Rattle.loader.proofs.Respelled.{no_space_from}
+use Rattle.text.proofs.Export.{split_to, own, numerals_are_decimals}
+use Rattle.loader.proofs.Export.{no_space_from}
 use Rattle.running.specs.Signed.{first_word, reply_in}
 use Rattle.running.specs.SignedLaws.{Tells, RepliesAreTold}
 

@@ -46,14 +46,14 @@ LinesMayBeCut =
     (limit : ℕ) (c : CatalogueView) (h : History) (ls ms : List (List ℕ)) → IsCatalogue c → lines_left limit c [] ls ≡ Some h → length h + length ms ≤ limit
     → IsCut (length h) (lines_kept limit c ls) (lines_kept limit (opened_on c (state_of c h)) ms) (lines_kept limit c (ls ++ ms))
 
--- the same texts, with another script, and with another script and what a state is dumped as
+-- the texts with another script, and with another script and the dump of a state
 abbrev pub with_script : TextsRead → List ℕ → TextsRead
 with_script t script = record t { file = script }
 
 abbrev pub with_dump : TextsRead → List ℕ → StoreState → TextsRead
 with_dump t script s = record t { file = script; state = dump s }
 
--- So may a script of `run` that has no more lines than a history may have updates. The second part is run on the dump of what the first left
+-- A script of `run` may be cut if its lines are at most the updates a history may have. The second part is run on the dump of what the first left
 abbrev pub ScriptsMayBeCut : Type 0
 ScriptsMayBeCut =
     (t : TextsRead) (whole first second : List ℕ) (s : StoreState) → lines_of whole ≡ lines_of first ++ lines_of second → length (lines_of whole) ≤ MAX_LIMIT

@@ -68,7 +68,7 @@ kept_of k = record { answer = answer_of k.reply; state = k.state }
 
 -- ---- a state that is written
 
--- its text stands behind what was there; or memory ran out and nothing was written; or the write broke off
+-- the state's text is after what was there; or memory ran out and nothing was written; or the write broke off
 abbrev pub Dumps : Option (List ℕ) → Option (List ℕ) → Status → List ℕ → Type 0
 Dumps old new statuses.Good text = Appends old new text
 Dumps old new statuses.NoMemory text = Keeps old new

@@ -1,4 +1,4 @@
--- Where it doesn't matter how many updates a history may have.
+-- When it doesn't matter how many updates a history may have.
 use Rattle.std.specs.Prelude.{◌≡◌, ℕ, ◌+◌, ◌≤◌, List, [], ◌∷◌, length}
 use Rattle.std.specs.Option.{option_map_or}
 use Rattle.loader.specs.CatalogueView.{CatalogueView}

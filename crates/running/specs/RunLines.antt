@@ -7,10 +7,12 @@ use Rattle.machine.specs.Effects.{IsRun, Effect as RunEffect}
 use Rattle.maps.specs.declared.shapes.TheConstants.{MAX_ARG_LEN}
 use Rattle.text.specs.Lines.{next_line}
 use Rattle.loader.specs.CatalogueView.{CatalogueView, IsCatalogue, number_named, with_places}
-use Rattle.loader.specs.declared.installed.TheConstants.{MAX_PLACES}
+use Rattle.loader.specs.declared.installed.TheConstants.{MOST_SPARE}
 use Rattle.loader.specs.Installed.{installed_program}
 use Rattle.loader.specs.ProgramFiles.{Files}
-use Rattle.loader.specs.Loading.{loaded}
+use Rattle.maps.specs.declared.shapes.MapLimits.{MapLimits}
+use Rattle.maps.specs.Shapes.{AreLimits}
+use Rattle.loader.specs.Loading.{loaded_within}
 use Rattle.oplog.specs.Calls.{Call as TheCall, NewProgram}
 use Rattle.oplog.specs.declared.records.Op.TheVariants.{Run, Install as AnInstall}
 use Rattle.oplog.specs.History.{History}
@@ -29,7 +31,7 @@ use Rattle.engine.specs.StateAnswer.{on_text}
 abbrev pub CallDoes : CatalogueView → History → TheCall → Mode → RunEffect → Type 0
 CallDoes c h call mode done = IsEffectOf mode c call (state_of c h) done
 
--- it is the run of a program of the catalogue, of this mode
+-- the call runs a program of the catalogue, of this mode
 pub record CallRuns (c : CatalogueView) (h : History) (call : TheCall) (mode : Mode) (done : RunEffect) : Type 0 where
   pub program : Checked
   pub named : program_at c call.program ≡ Some program
@@ -146,9 +148,11 @@ RunLinesAreRuns =
     (limit : ℕ) (c : CatalogueView) (n : ℕ) (h : History) (ls : List (List ℕ)) → IsCatalogue c → AreUpdates c h
     → ScriptRuns limit c n h ls (lines_answer limit c n h ls)
 
--- what a manifest is loaded as is a catalogue, with any number of places that a command gives it
+-- what a manifest is loaded as, by any limits, is a catalogue, with any number of places that a command gives it
 abbrev pub LoadedIsCatalogue : Type 0
-LoadedIsCatalogue = (manifest : List ℕ) (files : Files) (c : CatalogueView) (places : ℕ) → loaded manifest files ≡ Ok c → places ≤ MAX_PLACES → IsCatalogue (with_places c places)
+LoadedIsCatalogue =
+    (l : MapLimits) (manifest : List ℕ) (files : Files) (c : CatalogueView) (places : ℕ) → AreLimits l → loaded_within l manifest files ≡ Ok c → places ≤ MOST_SPARE
+    → IsCatalogue (with_places c places)
 
 -- and it is one where it opens on the state that a text says
 abbrev pub OpenedIsCatalogue : Type 0

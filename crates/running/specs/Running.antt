@@ -79,7 +79,7 @@ abbrev pub LineTaken : ℕ → CatalogueView → Option Turn → Bool → Single
 LineTaken limit c None good n old new = (good ≡ false) × (new ≡ old)
 LineTaken limit c (Some turn) good n old new = (good ≡ true) × IsTaken limit c turn n old new
 
--- the same of what was said, and of a line, from any history that the node has behind it, unless memory runs out
+-- `LineTaken` of what was said, and of a line, from any history of the node, unless memory runs out
 abbrev pub TakesMeaning : {E : Type 0} → CatalogueView → Option Meaning → SingleNode → SingleNode → List ℕ → List ℕ → Result Bool E → Type 0
 TakesMeaning c said node after old new r =
     (limit : ℕ) (h : History) → Follows limit c h node → IfOk r (λ good. LineTaken limit c (option_map (taken limit c h) said) good after old new)

@@ -21,7 +21,7 @@ pub fn limits()
 /// length; S3, the program has the other mode; S4, the history has all its updates, and nothing else refuses this one; of an
 /// install, S6 to S8. What isn't refused is an update or a read of the catalogue.
 ///
-/// Such a catalogue is what a manifest is loaded as, with at most 16 places behind its programs, on a new state and on each that a text
+/// Such a catalogue is what a manifest is loaded as, with at most 4,096 places after its programs, on a new state and on each that a text
 /// says.
 pub fn run_lines_are_runs()
     ensures turns { LineTurnsAreRuns }

@@ -25,7 +25,7 @@ use std::alloc::{AllocError, Global};
 /// What a run writes, and the state that it leaves.
 #[derive(Drop)]
 pub struct Kept {
-    /// What it has to write.
+    /// What the run has to write.
     pub reply: Reply,
     /// The state after all lines; none where a line is bad, or where nothing was run.
     pub state: Option<StoreState>,
@@ -91,7 +91,7 @@ fn texts_kept(alloc: Global, texts: &Texts) -> Result<Kept, AllocError>
     }
 }
 
-// The same, and beside each reply that is negative as a signed number, that number.
+// Adds the negative number next to each reply that is negative as a signed number.
 fn signed(alloc: Global, plain: Kept) -> Result<Kept, AllocError>
     ensures { IfOk result (λ k. kept_of k ≡ with_signs (kept_of plain)) }
 {

@@ -76,7 +76,7 @@ fn signed_lines(alloc: Global, text: &str) -> Result<Vec<u8>, AllocError>
     Ok(out)
 }
 
-// The same of bytes; what isn't UTF-8 stays as it is.
+// `signed_lines`, but of bytes; what isn't UTF-8 stays as it is.
 pub(crate) fn signed_text(alloc: Global, text: Vec<u8>) -> Result<Vec<u8>, AllocError>
     ensures { IfOk result (λ v. v.items ≡ signed_text text.items) }
 {

@@ -70,6 +70,7 @@ impl SingleNode {
         requires steady { IsSteady catalogue.now self.old }
         ensures state { self.new.log.base_state ≡ self.old.own.replica.state }
     {
+        // (the log's invariant)
         let _tail = self.log.tail();
         if self.log.base() < self.own.replica.tail() {
             reclaim(&mut self.log, &self.own);
@@ -104,6 +105,7 @@ impl SingleNode {
         ensures own { self.new.own ≡ self.old.own }
         ensures next { self.new.next ≡ self.old.next }
     {
+        // (the log's invariant)
         let _tail = self.log.tail();
         if self.log.room() == 0 {
             reclaim(&mut self.log, &self.own);
@@ -164,7 +166,7 @@ impl SingleNode {
         self.submit_next(catalogue)
     }
 
-    /// The same of a call, whose argument is written where the record of the call before stood.
+    /// `submit`, but for a call: its argument is written where the record of the call before was.
     pub fn submit_call(
         &mut self,
         catalogue: &Catalogue,

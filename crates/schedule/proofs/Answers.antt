@@ -12,7 +12,7 @@ use Rattle.readpath.specs.declared.reading.ReadAnswer.{ReadAnswer}
 use Rattle.replica.specs.StoreMeaning.{store_meaning, outcome_of}
 use Rattle.node.specs.Following.{may_answer}
 use Rattle.node.specs.Answering.{answered_batch, HaveRun}
-use Rattle.node.proofs.Answers.{answers_placed, answers_ended}
+use Rattle.node.proofs.Export.{answers_placed, answers_ended}
 use Rattle.schedule.specs.declared.parts.BegunRead.{BegunRead}
 use Rattle.node.specs.declared.parts.Written.{Written}
 use Rattle.node.specs.declared.parts.NodeBatch.TheVariants.{InLog}
@@ -22,7 +22,7 @@ use Rattle.schedule.specs.declared.steps.StepAnswer.{StepAnswer}
 use Rattle.schedule.specs.declared.steps.StepAnswer.TheVariants as answers
 use Rattle.schedule.specs.Trace.{ReadBack, Back}
 use Rattle.schedule.specs.Worlds.{NodeView, WorldView, own_of}
-use Rattle.schedule.specs.Steps.{Part, Took, with_call_or_back, put_part, part_of, node_of, took, world_of, world_after, trace_after, with_event, session_at, read_at, with_read, read_answer}
+use Rattle.schedule.specs.Steps.{Part, Took, with_call_or_back, put_part, part_of, node_of, took, world_of, world_after, trace_after, with_event, session_of_slot, read_at, with_read, read_answer}
 use Rattle.schedule.specs.Stands.{BatchStands, WrittenStands, Stands}
 use Rattle.schedule.specs.Taking.{WorldState, store_of, step_answer, answers_to, TakesPart, Takes, IsOfStore, IsStanding}
 use Rattle.schedule.proofs.Lists.{get_some, set_back}
@@ -63,7 +63,7 @@ pub read_taken : (m : Opening) (g : Log) (node new : NodeView) (s : ℕ) (read :
     → TakesPart (read_answer m s g node) g node g new (answers.ReadBack given)
 read_taken m g node new s read given at may point reply is =
     let d = map_gives (λ (e : ReadEffect). e.reply) (store_meaning.read m.catalogue (Run read.call) node.replica.state) given.reply reply in
-    let part : ReadEffect → Part = λ e. with_call_or_back (Back (session_at node s) (ReadBack (record { point = node.replica.tail; reply = e.reply }))) g (with_read node s None) in
+    let part : ReadEffect → Part = λ e. with_call_or_back (Back (session_of_slot node s) (ReadBack (record { point = node.replica.tail; reply = e.reply }))) g (with_read node s None) in
     let same : given ≡ (let v : ReadAnswer = record { point = node.replica.tail; reply = (d.0).reply } in v) =
     ap (λ k. (let v : ReadAnswer = record { point = k; reply = given.reply } in v)) point ∙ ap (λ k. (let v : ReadAnswer = record { point = node.replica.tail; reply = k } in v)) (sym d.2) in
     let finds : read_answer m s g node ≡ Some (part d.0) =
@@ -107,7 +107,7 @@ stepped s step node g new answer at takes =
       ap (λ k. store_of s.opening k (slice_set s.world.nodes (node_of step) new)) log ∙ ap (λ k. store_of s.opening p.log (slice_set s.world.nodes (node_of step) k)) same,
     )
 
--- it stands too
+-- the store is standing after a step, too
 pub still_standing : (s new : WorldState) (step : Step) (answer : StepAnswer) → IsStanding s → Takes (took s.opening s.world step) s new answer → IsStanding new
 still_standing s new step answer x takes = go (took s.opening s.world step) takes (step_keeps s.opening s.world x.history x.positions x.trace step x.stands)
   where

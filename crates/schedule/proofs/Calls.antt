@@ -24,7 +24,7 @@ use Rattle.schedule.specs.Trace.{Answer, Updated, ReadBack, Event, Call, Back, T
 use Rattle.schedule.specs.declared.parts.Opening.{Opening}
 use Rattle.schedule.specs.Explains.{count_of}
 use Rattle.schedule.specs.Worlds.{NodeView, WorldView}
-use Rattle.schedule.specs.Steps.{Part, with_call_or_back, put_part, with_event, session_at, is_idle, is_free, no_read, post, collect, read_begin, read_answer, with_read}
+use Rattle.schedule.specs.Steps.{Part, with_call_or_back, put_part, with_event, session_of_slot, is_idle, is_free, no_read, post, collect, read_begin, read_answer, with_read}
 use Rattle.schedule.specs.Stands.{OpenAt, ReplyStands, StageStands, DeskStands, NodeStands, LogStands, Stands}
 use Rattle.schedule.proofs.Lists.{get_snoc, get_in, get_some, get_set, set_same, set_length}
 use Rattle.schedule.proofs.Options.{cond_gives, map_gives, then_gives, free_is, no_read_is, read_is, posted_is, collected_is}
@@ -53,7 +53,7 @@ same_history m w h positions t x = ([], [], subst (λ g. Stands m w g (positions
 -- ---- the desk
 
 -- the session of a slot
-pub session_is : (m : Opening) (n : ℕ) (node : NodeView) (s : ℕ) → DeskStands m n node → session_at node s ≡ session m.config n s
+pub session_is : (m : Opening) (n : ℕ) (node : NodeView) (s : ℕ) → DeskStands m n node → session_of_slot node s ≡ session m.config n s
 session_is m n node s d = ap (λ k. k * length node.desk.slots + s) d.number ∙ ap (λ k. n * k + s) d.slots
 
 -- a slot that is not claimed changes, and is not claimed then
@@ -149,15 +149,15 @@ keeps_post m w h positions t n s op node p at_n taken x =
     let o = x.nodes n node at_n in
     let e = session_is m n node s o.desk in
     let c = cond_gives (is_idle node s && is_operation Update m.catalogue op) _ p taken in
-    let d = map_gives (λ desk. with_call_or_back (Call (session_at node s) Update op) w.log (record node { desk = desk })) (posted s op node.desk) p c.1 in
+    let d = map_gives (λ desk. with_call_or_back (Call (session_of_slot node s) Update op) w.log (record node { desk = desk })) (posted s op node.desk) p c.1 in
     let tests = and_parts (is_idle node s) (is_operation Update m.catalogue op) c.0 in
     let idle = and_parts (is_free (slice_get node.desk.slots s)) (no_read (slice_get node.reads s)) tests.0 in
     let free = free_is (slice_get node.desk.slots s) idle.0 in
     let no_begun = no_read_is (slice_get node.reads s) idle.1 in
     let y : Slot = slot (Posted op) (free.0).count in
     let old = stage_at m w.log.done h positions t n s node free.0 Empty None o free.1 no_begun free.2 in
-    let made : Kept m w h positions t n (with_call_or_back (Call (session_at node s) Update op) w.log (record node { desk = with_slot node.desk s y })) =
-    same_history m (record { log = w.log; nodes = slice_set w.nodes n (record node { desk = with_slot node.desk s y }) }) h positions (t ++ Call (session_at node s) Update op ∷ [])
+    let made : Kept m w h positions t n (with_call_or_back (Call (session_of_slot node s) Update op) w.log (record node { desk = with_slot node.desk s y })) =
+    same_history m (record { log = w.log; nodes = slice_set w.nodes n (record node { desk = with_slot node.desk s y }) }) h positions (t ++ Call (session_of_slot node s) Update op ∷ [])
     (subst (λ z. Stands m (record { log = w.log; nodes = slice_set w.nodes n (record node { desk = with_slot node.desk s y }) }) h positions (t ++ Call z Update op ∷ [])) (sym e)
     (seat_event m w h positions t n s node (with_slot node.desk s y) node.reads (Call (session m.config n s) Update op) at_n (slot_in m n s node free.0 o.desk free.1) refl old.0 (omega arith)
     (desk_put m n node s free.0 y free.1 (ap is_claimed free.2) refl o.desk) (others_put node s y)
@@ -175,7 +175,7 @@ keeps_post m w h positions t n s op node p at_n taken x =
       },
     )))
     x)) in
-    subst (λ z. Kept m w h positions t n z) d.2 (subst (λ z. Kept m w h positions t n (with_call_or_back (Call (session_at node s) Update op) w.log (record node { desk = z }))) (posted_is s op node.desk d.0 free.0 free.1 d.1) made)
+    subst (λ z. Kept m w h positions t n z) d.2 (subst (λ z. Kept m w h positions t n (with_call_or_back (Call (session_of_slot node s) Update op) w.log (record node { desk = z }))) (posted_is s op node.desk d.0 free.0 free.1 d.1) made)
 
 right_open : (m : Opening) (h : History) (positions : Positions) (t : Trace) (x : ℕ) (mode : Mode) (op : Operation) (c : ℕ) (a : Answer) → IsOpen t x mode op c → Right m h positions t op c a → (k : Mode) (o : Operation) (d : ℕ) → IsOpen t x k o d → Right m h positions t o d a
 right_open m h positions t x mode op c a open_c right k o d open_d =
@@ -209,15 +209,15 @@ pub keeps_collect : (m : Opening) (w : WorldView) (h : History) (positions : Pos
 keeps_collect m w h positions t n s node p at_n taken x =
     let o = x.nodes n node at_n in
     let e = session_is m n node s o.desk in
-    let d = map_gives (λ c. with_call_or_back (Back (session_at node s) (Updated c.reply)) w.log (record node { desk = c.desk })) (collected s node.desk) p taken in
+    let d = map_gives (λ c. with_call_or_back (Back (session_of_slot node s) (Updated c.reply)) w.log (record node { desk = c.desk })) (collected s node.desk) p taken in
     let reply : Reply = d.0.reply in
     let was = collected_is s node.desk d.0 d.1 in
     let y : Slot = slot Empty (counted reply (was.0).count) in
     let begun : (read : Option BegunRead) × (slice_get node.reads s ≡ Some read) = get_some node.reads s (let a = slot_in m n s node was.0 o.desk was.1 in let b = o.desk.reads in omega arith) in
     let old = answer_waits m w.log.done h positions t (session m.config n s) node.batch (was.0).count reply begun.0 (stage_at m w.log.done h positions t n s node was.0 (Answered reply) begun.0 o was.1 begun.1 was.2) in
     let r = rightly m w h positions t (session m.config n s) (was.0).count reply x.log old.1 in
-    let made : Kept m w h positions t n (with_call_or_back (Back (session_at node s) (Updated reply)) w.log (record node { desk = with_slot node.desk s y })) =
-    same_history m (record { log = w.log; nodes = slice_set w.nodes n (record node { desk = with_slot node.desk s y }) }) h positions (t ++ Back (session_at node s) (Updated reply) ∷ [])
+    let made : Kept m w h positions t n (with_call_or_back (Back (session_of_slot node s) (Updated reply)) w.log (record node { desk = with_slot node.desk s y })) =
+    same_history m (record { log = w.log; nodes = slice_set w.nodes n (record node { desk = with_slot node.desk s y }) }) h positions (t ++ Back (session_of_slot node s) (Updated reply) ∷ [])
     (subst (λ z. Stands m (record { log = w.log; nodes = slice_set w.nodes n (record node { desk = with_slot node.desk s y }) }) h positions (t ++ Back z (Updated reply) ∷ [])) (sym e)
     (seat_event m w h positions t n s node (with_slot node.desk s y) node.reads (Back (session m.config n s) (Updated reply)) at_n (slot_in m n s node was.0 o.desk was.1) refl r.0 r.1
     (desk_put m n node s was.0 y was.1 (ap is_claimed was.2) refl o.desk) (others_put node s y)
@@ -228,7 +228,7 @@ keeps_collect m w h positions t n s node p at_n taken x =
     (subst (λ v. StageStands m w.log.done h positions (t ++ Back (session m.config n s) (Updated reply) ∷ []) (session m.config n s) node.batch y.count y.stage v) nothing
     (idle_back t (session m.config n s) (Updated reply), r.2)))
     x)) in
-    subst (λ z. Kept m w h positions t n z) d.2 (subst (λ z. Kept m w h positions t n (with_call_or_back (Back (session_at node s) (Updated reply)) w.log (record node { desk = z }))) was.3 made)
+    subst (λ z. Kept m w h positions t n z) d.2 (subst (λ z. Kept m w h positions t n (with_call_or_back (Back (session_of_slot node s) (Updated reply)) w.log (record node { desk = z }))) was.3 made)
 
 pub keeps_read_begin : (m : Opening) (w : WorldView) (h : History) (positions : Positions) (t : Trace) (n s : ℕ) (call : ProgramCall) (node : NodeView) (p : Part)
     → slice_get w.nodes n ≡ Some node → read_begin m s call w.log node ≡ Some p → Stands m w h positions t → Kept m w h positions t n p
@@ -242,8 +242,8 @@ keeps_read_begin m w h positions t n s call node p at_n taken x =
     let no_begun = no_read_is (slice_get node.reads s) idle.1 in
     let begun : BegunRead = record { call = call; seen = w.log.done } in
     let old = stage_at m w.log.done h positions t n s node free.0 Empty None o free.1 no_begun free.2 in
-    let made : Kept m w h positions t n (with_call_or_back (Call (session_at node s) Read (Run call)) w.log (with_read node s (Some begun))) =
-    same_history m (record { log = w.log; nodes = slice_set w.nodes n (with_read node s (Some begun)) }) h positions (t ++ Call (session_at node s) Read (Run call) ∷ [])
+    let made : Kept m w h positions t n (with_call_or_back (Call (session_of_slot node s) Read (Run call)) w.log (with_read node s (Some begun))) =
+    same_history m (record { log = w.log; nodes = slice_set w.nodes n (with_read node s (Some begun)) }) h positions (t ++ Call (session_of_slot node s) Read (Run call) ∷ [])
     (subst (λ z. Stands m (record { log = w.log; nodes = slice_set w.nodes n (with_read node s (Some begun)) }) h positions (t ++ Call z Read (Run call) ∷ [])) (sym e)
     (seat_event m w h positions t n s node node.desk (slice_set node.reads s (Some begun)) (Call (session m.config n s) Read (Run call)) at_n (slot_in m n s node free.0 o.desk free.1) refl old.0 (omega arith)
     (read_put m n node s (Some begun) o.desk) (others_read node s (Some begun))
@@ -288,15 +288,15 @@ keeps_read_answer m w h positions t n s node p at_n taken x =
     let tests = and_parts (nat_le read.seen node.replica.tail) (nat_le node.replica.tail w.log.done) c.0 in
     let seen = leb-true read.seen node.replica.tail tests.0 in
     let done = leb-true node.replica.tail w.log.done tests.1 in
-    let d = map_gives (λ (f : ReadEffect). with_call_or_back (Back (session_at node s) (ReadBack (record { point = node.replica.tail; reply = f.reply }))) w.log (with_read node s None)) (store_meaning.read m.catalogue (Run read.call) node.replica.state) p c.1 in
+    let d = map_gives (λ (f : ReadEffect). with_call_or_back (Back (session_of_slot node s) (ReadBack (record { point = node.replica.tail; reply = f.reply }))) w.log (with_read node s None)) (store_meaning.read m.catalogue (Run read.call) node.replica.state) p c.1 in
     let a : Answer = ReadBack (record { point = node.replica.tail; reply = d.0.reply }) in
     let there : (y : Slot) × (slice_get node.desk.slots s ≡ Some y) = get_some node.desk.slots s (let l = get_in node.reads s (Some read) begun in let f = o.desk.reads in let g = o.desk.slots in omega arith) in
     let q = read_waits m w.log.done h positions t (session m.config n s) node.batch (there.0).count (there.0).stage read (o.seats s there.0 (Some read) there.1 begun) in
     let old = q.1 in
     let right : read_reply_at store_meaning m.catalogue h node.replica.tail (Run read.call) ≡ Some d.0.reply =
     ap (λ state. option_map (λ (f : ReadEffect). f.reply) (store_meaning.read m.catalogue (Run read.call) state)) (sym o.replica.state) ∙ ap (option_map (λ (f : ReadEffect). f.reply)) d.1 in
-    let made : Kept m w h positions t n (with_call_or_back (Back (session_at node s) a) w.log (with_read node s None)) =
-    same_history m (record { log = w.log; nodes = slice_set w.nodes n (with_read node s None) }) h positions (t ++ Back (session_at node s) a ∷ [])
+    let made : Kept m w h positions t n (with_call_or_back (Back (session_of_slot node s) a) w.log (with_read node s None)) =
+    same_history m (record { log = w.log; nodes = slice_set w.nodes n (with_read node s None) }) h positions (t ++ Back (session_of_slot node s) a ∷ [])
     (subst (λ z. Stands m (record { log = w.log; nodes = slice_set w.nodes n (with_read node s None) }) h positions (t ++ Back z a ∷ [])) (sym e)
     (seat_event m w h positions t n s node node.desk (slice_set node.reads s None) (Back (session m.config n s) a) at_n (slot_in m n s node there.0 o.desk there.1) refl (
       Read,

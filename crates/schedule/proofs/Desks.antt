@@ -19,7 +19,7 @@ use Rattle.replica.specs.StoreMeaning.{outcome_of}
 use Rattle.node.specs.Following.{no_records, may_reply}
 use Rattle.node.specs.Steps.{Replies, is_in_log, reply_batch}
 use Rattle.node.specs.Answering.{answered_batch}
-use Rattle.node.proofs.Answers.{answers_placed, answers_ended}
+use Rattle.node.proofs.Export.{answers_placed, answers_ended}
 use Rattle.schedule.specs.declared.parts.BegunRead.{BegunRead}
 use Rattle.node.specs.declared.parts.Written.{Written}
 use Rattle.node.specs.declared.parts.NodeBatch.TheVariants.{Absent, Held, InLog}

@@ -1,4 +1,4 @@
--- Which programs may be installed.
+-- The programs that may be installed.
 use Rattle.std.proofs.Common.{◌≡◌, Bool, true, false, Some, None, Result, Ok, Err, refl, sym, ap, ◌∙◌, if◌then◌else◌}
 use Rattle.std.specs.Prelude.{◌&&◌, nat_le, is_ok, length}
 use Rattle.std.proofs.lemmas.Bool.{and_parts}

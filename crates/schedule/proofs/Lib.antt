@@ -17,3 +17,4 @@ pub mod ReadOff
 pub mod OnCalls
 pub mod Installs
 pub mod Unless
+pub mod Export

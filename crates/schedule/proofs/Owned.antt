@@ -5,7 +5,7 @@ use Rattle.std.specs.List.{list_any}
 use Rattle.std.proofs.lemmas.Option.{none-some}
 use Rattle.std.proofs.lemmas.Bool.{false≢true}
 use Rattle.loader.specs.StoreState.{IsState, sizes_of}
-use Rattle.loader.proofs.States.{state_sizes}
+use Rattle.loader.proofs.Export.{state_sizes}
 use Rattle.loader.specs.CatalogueView.{CatalogueView, sizes_for}
 use Rattle.oplog.specs.declared.configuration.TheConstants.{ENDLESS}
 use Rattle.oplog.specs.History.{History}
@@ -18,7 +18,7 @@ use Rattle.combiner.specs.declared.slots.Stage.TheVariants.{Empty, Posted, Claim
 use Rattle.combiner.specs.declared.slots.Slot.{Slot}
 use Rattle.combiner.specs.Slots.{is_claimed}
 use Rattle.combiner.specs.Desks.{DeskView, first_author, claimed_from, has_combiner, has_request, claim_refusal, claimed, batch_of, IsBatchOf}
-use Rattle.replica.proofs.Histories.{have_effects}
+use Rattle.replica.proofs.Export.{have_effects}
 use Rattle.node.specs.declared.following.NodeReplica.{NodeReplica}
 use Rattle.node.specs.Following.{IsNext, has_next, with_next}
 use Rattle.schedule.specs.declared.parts.BegunRead.{BegunRead}

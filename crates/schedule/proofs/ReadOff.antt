@@ -21,7 +21,7 @@ use Rattle.schedule.specs.declared.steps.Step.TheVariants.{Post, Install, Claim,
 use Rattle.schedule.specs.declared.steps.StepAnswer.TheVariants as answers
 use Rattle.schedule.specs.Trace.{Answer, Updated, ReadBack, Event, Call, Back, Trace, Positions}
 use Rattle.schedule.specs.Worlds.{NodeView, WorldView, own_of}
-use Rattle.schedule.specs.Steps.{Part, Took, post, with_call_or_back, put_part, part_of, node_of, took, session_at, is_idle, with_read, read_at, no_batch, inner, seen_of, with_event, world_after, trace_after, trace_of}
+use Rattle.schedule.specs.Steps.{Part, Took, post, with_call_or_back, put_part, part_of, node_of, took, session_of_slot, is_idle, with_read, read_at, no_batch, inner, seen_of, with_event, world_after, trace_after, trace_of}
 use Rattle.schedule.specs.Stands.{DeskStands, Stands}
 use Rattle.schedule.specs.Taking.{answer_of, step_answer, answers_to}
 use Rattle.schedule.specs.ReadOff.{event_of, before_events, read_off}
@@ -54,7 +54,7 @@ post_told : (m : Opening) (n s : ℕ) (step : Step) (op : Operation) (g : Log) (
     → IsTold m.config step (Some (Call (session m.config n s) Update op)) → IsTold m.config step p.event
 post_told m n s step op g node p desk taken is =
     let c = cond_gives (is_idle node s && is_operation Update m.catalogue op) _ p taken in
-    let d = map_gives (λ desk. with_call_or_back (Call (session_at node s) Update op) g (record node { desk = desk })) (posted s op node.desk) p c.1 in
+    let d = map_gives (λ desk. with_call_or_back (Call (session_of_slot node s) Update op) g (record node { desk = desk })) (posted s op node.desk) p c.1 in
     told m.config step (Some (Call (session m.config n s) Update op)) p.event (ap (λ x. Some (Call x Update op)) (sym (session_is m n node s desk)) ∙ ap (λ (q : Part). q.event) d.2) is
 
 part_told : (m : Opening) (step : Step) (g : Log) (node : NodeView) (p : Part) → DeskStands m (node_of step) node → part_of m step g node ≡ Some p → IsTold m.config step p.event
@@ -69,7 +69,7 @@ part_told m (Replay n) g node p desk taken = inner_told m Replays (Replay n) g n
 part_told m (Finish n) g node p desk taken = inner_told m Finishes (Finish n) g node p taken refl
 part_told m (Reply n) g node p desk taken = inner_told m Replies (Reply n) g node p taken refl
 part_told m (Collect n s) g node p desk taken =
-    let d = map_gives (λ c. with_call_or_back (Back (session_at node s) (Updated c.reply)) g (record node { desk = c.desk })) (collected s node.desk) p taken in
+    let d = map_gives (λ c. with_call_or_back (Back (session_of_slot node s) (Updated c.reply)) g (record node { desk = c.desk })) (collected s node.desk) p taken in
     told m.config (Collect n s) (Some (Back (session m.config n s) (Updated d.0.reply))) p.event (ap (λ x. Some (Back x (Updated d.0.reply))) (sym (session_is m n node s desk)) ∙ ap (λ (q : Part). q.event) d.2) refl
 part_told m (ReadBegin n s program argument) g node p desk taken =
     let op : Operation = Run (record { program = program; argument = argument.items }) in
@@ -79,7 +79,7 @@ part_told m (ReadAnswer n s) g node p desk taken =
     let r = then_gives _ (read_at node s) p taken in
     let read : BegunRead = r.0 in
     let c = cond_gives (may_answer read.seen g.done (own_of node)) _ p r.2 in
-    let d = map_gives (λ (f : ReadEffect). with_call_or_back (Back (session_at node s) (ReadBack (record { point = node.replica.tail; reply = f.reply }))) g (with_read node s None)) (store_meaning.read m.catalogue (Run read.call) node.replica.state) p c.1 in
+    let d = map_gives (λ (f : ReadEffect). with_call_or_back (Back (session_of_slot node s) (ReadBack (record { point = node.replica.tail; reply = f.reply }))) g (with_read node s None)) (store_meaning.read m.catalogue (Run read.call) node.replica.state) p c.1 in
     let a : Answer = ReadBack (record { point = node.replica.tail; reply = d.0.reply }) in
     told m.config (ReadAnswer n s) (Some (Back (session m.config n s) a)) p.event (ap (λ x. Some (Back x a)) (sym (session_is m n node s desk)) ∙ ap (λ (q : Part). q.event) d.2) refl
 part_told m (Reclaim n) g node p desk taken = inner_told m Reclaims (Reclaim n) g node p taken refl

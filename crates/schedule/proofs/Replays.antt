@@ -11,8 +11,7 @@ use Rattle.oplog.specs.Logs.{Log, HandView, tail_of}
 use Rattle.oplog.specs.Sessions.{session}
 use Rattle.replica.specs.StoreMeaning.{store_meaning, outcome_of, AreUpdates}
 use Rattle.replica.specs.Views.{ReplicaView, with_outcome}
-use Rattle.replica.proofs.Histories.{takes_effect}
-use Rattle.replica.proofs.Kept.{count_with, at_with, off_with}
+use Rattle.replica.proofs.Export.{takes_effect, count_with, at_with, off_with}
 use Rattle.combiner.specs.Desks.{BatchView, IsBatchOf}
 use Rattle.node.specs.declared.parts.Written.{Written}
 use Rattle.node.specs.declared.parts.NodeBatch.{NodeBatch}
@@ -22,7 +21,7 @@ use Rattle.schedule.specs.declared.parts.Opening.{Opening}
 use Rattle.node.specs.declared.following.NodeReplica.{NodeReplica}
 use Rattle.node.specs.Following.{no_records, is_above, has_next, to_run, with_next, with_effect, outcomes_after, replies_after}
 use Rattle.node.specs.Steps.{Replays, batch_after, next}
-use Rattle.node.proofs.Keeping.{after_count, after_first}
+use Rattle.node.proofs.Export.{after_count, after_first}
 use Rattle.schedule.specs.Worlds.{NodeView, WorldView, own_of}
 use Rattle.schedule.specs.Steps.{Part, inner, seen_of, put_seen}
 use Rattle.schedule.specs.Stands.{DeskStands, NodeStands, LogStands, BatchStands, WrittenStands, Stands, batch_in, index_in}

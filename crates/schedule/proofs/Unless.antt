@@ -11,7 +11,7 @@ use Rattle.oplog.specs.Sessions.{session}
 use Rattle.combiner.specs.declared.slots.Stage.{Stage}
 use Rattle.combiner.specs.declared.slots.Stage.TheVariants.{Empty, Posted, Claimed, Answered}
 use Rattle.replica.specs.StoreMeaning.{store_meaning, as_read, is_operation}
-use Rattle.replica.proofs.Histories.{have_effects}
+use Rattle.replica.proofs.Export.{have_effects}
 use Rattle.node.specs.declared.parts.NodeBatch.{NodeBatch}
 use Rattle.schedule.specs.declared.parts.BegunRead.{BegunRead}
 use Rattle.schedule.specs.declared.parts.Opening.{Opening}

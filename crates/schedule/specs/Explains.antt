@@ -1,4 +1,4 @@
--- What it is that one list of operations explains a trace: each call took its effect at one index of the list, between the call and
+-- When one list of operations explains a trace: each call took its effect at one index of the list, between the call and
 -- its answer (Herlihy and Wing, TOPLAS 1990: a linearization).
 use Rattle.std.specs.Prelude.{◌≡◌, ◌≢◌, ℕ, ◌+◌, ◌≤◌, ◌==◌, true, [], ◌∷◌, length, take, Some, slice_get, if◌then◌else◌}
 use Rattle.verifier.specs.declared.refusal.Mode.{Mode}

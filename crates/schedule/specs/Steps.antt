@@ -39,8 +39,8 @@ with_call_or_back e g node = record { log = g; node = node; event = Some e }
 -- ---- what guards ask
 
 -- the session of a slot of the node
-abbrev pub session_at : NodeView → ℕ → ℕ
-session_at node s = first_author node.desk + s
+abbrev pub session_of_slot : NodeView → ℕ → ℕ
+session_of_slot node s = first_author node.desk + s
 
 -- the slot is there, and has no request
 abbrev pub is_free : Option Slot → Bool
@@ -76,7 +76,7 @@ with_read node s read = record node { reads = slice_set node.reads s read }
 abbrev pub post : Opening → ℕ → Operation → Log → NodeView → Option Part
 post m s op g node =
     cond (is_idle node s && is_operation Update m.catalogue op)
-    (option_map (λ desk. with_call_or_back (Call (session_at node s) Update op) g (record node { desk = desk })) (posted s op node.desk))
+    (option_map (λ desk. with_call_or_back (Call (session_of_slot node s) Update op) g (record node { desk = desk })) (posted s op node.desk))
     None
 
 -- claim: the node has no batch, and a request is posted at its desk; the posted requests are claimed as its batch
@@ -88,13 +88,13 @@ claim g node =
 
 -- collect: an answer waits at the slot; the slot's session takes it
 abbrev pub collect : ℕ → Log → NodeView → Option Part
-collect s g node = option_map (λ c. with_call_or_back (Back (session_at node s) (Updated c.reply)) g (record node { desk = c.desk })) (collected s node.desk)
+collect s g node = option_map (λ c. with_call_or_back (Back (session_of_slot node s) (Updated c.reply)) g (record node { desk = c.desk })) (collected s node.desk)
 
 -- readbegin: the slot is idle, and the call is a read of the catalogue; it is called, with the completed tail of that moment
 abbrev pub read_begin : Opening → ℕ → ProgramCall → Log → NodeView → Option Part
 read_begin m s call g node =
     cond (is_idle node s && is_operation Read m.catalogue (Run call))
-    (Some (with_call_or_back (Call (session_at node s) Read (Run call)) g (with_read node s (Some (record { call = call; seen = g.done })))))
+    (Some (with_call_or_back (Call (session_of_slot node s) Read (Run call)) g (with_read node s (Some (record { call = call; seen = g.done })))))
     None
 
 -- readanswer: a read was begun at the slot, the replica has come to what the read saw completed, and all that the replica has applied
@@ -103,7 +103,7 @@ abbrev pub read_answer : Opening → ℕ → Log → NodeView → Option Part
 read_answer m s g node =
     option_and_then (λ read.
     cond (may_answer read.seen g.done (own_of node))
-    (option_map (λ e. with_call_or_back (Back (session_at node s) (ReadBack (record { point = node.replica.tail; reply = e.reply }))) g (with_read node s None))
+    (option_map (λ e. with_call_or_back (Back (session_of_slot node s) (ReadBack (record { point = node.replica.tail; reply = e.reply }))) g (with_read node s None))
     (store_meaning.read m.catalogue (Run read.call) node.replica.state))
     None)
     (read_at node s)

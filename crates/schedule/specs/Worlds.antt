@@ -36,7 +36,7 @@ pub record WorldView : Type 0 where
 abbrev pub opening_of : Sizes → CatalogueView → Opening
 opening_of config c = record { config = config; catalogue = with_places c config.spare }
 
--- the same on a state
+-- `opening_of`, but on a state
 abbrev pub opening_on : Sizes → CatalogueView → StoreState → Opening
 opening_on config c s = record { config = config; catalogue = opened_on (with_places c config.spare) s }
 

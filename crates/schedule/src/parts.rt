@@ -6,16 +6,16 @@ use oplog::{Call, Sizes};
 /// What a store is opened with.
 #[derive(Drop)]
 pub struct Opening {
-    /// Its sizes.
+    /// The sizes of the store.
     pub config: Sizes,
-    /// Its maps and programs.
+    /// The maps and programs of the store.
     pub catalogue: Catalogue,
 }
 
 /// A read that was called, and has no answer yet.
 #[derive(Clone, Copy)]
 pub struct BegunRead {
-    /// What it asks.
+    /// What the read asks.
     pub call: Call,
     /// How many operations were completed when it was called.
     pub seen: u64,

@@ -19,7 +19,7 @@ pub enum Step {
         slot: u64,
         /// The program's number: in the catalogue, or behind it that of a place.
         program: u64,
-        /// Its argument.
+        /// The program's argument.
         argument: Vec<u8>,
     },
     /// A session calls an install: its request stands in its slot of the desk.
@@ -32,7 +32,7 @@ pub enum Step {
         mode: Mode,
         /// How many bytes its argument has.
         arg_len: u64,
-        /// Its instructions.
+        /// The program's instructions.
         bytes: Vec<u8>,
     },
     /// A combiner claims the posted requests of its desk as its batch.
@@ -75,7 +75,7 @@ pub enum Step {
         slot: u64,
         /// The program's number: in the catalogue, or behind it that of a place.
         program: u64,
-        /// Its argument.
+        /// The program's argument.
         argument: Vec<u8>,
     },
     /// The read is answered by the replica.
@@ -122,12 +122,12 @@ impl Step {
 /// What a step answers.
 #[derive(Clone, Copy, Debug, PartialEq, Eq)]
 pub enum StepAnswer {
-    /// It was taken.
+    /// The step was taken.
     Done,
-    /// It may not be taken now: nothing is changed.
+    /// The step may not be taken now: nothing is changed.
     NotNow,
-    /// It was taken, and an update is answered.
+    /// The step was taken, and an update is answered.
     Back(Reply),
-    /// It was taken, and a read is answered.
+    /// The step was taken, and a read is answered.
     ReadBack(ReadAnswer),
 }

@@ -107,7 +107,7 @@ impl World {
         }
     }
 
-    /// The same store on a state that was taken out of another: its maps have what the state's maps have, and the programs that were
+    /// `open`, but on a state that was taken out of another store: the maps have what the state's maps have, and the programs that were
     /// installed there are installed.
     ///
     /// # Errors
@@ -256,6 +256,7 @@ impl World {
     fn stands(&self)
         ensures stands { IsStanding self.now }
     {
+        // (the invariant of the world, which is all that this says)
         let _log = &self.log;
     }
 

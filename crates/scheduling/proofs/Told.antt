@@ -1,13 +1,13 @@
 -- A list of steps and its answers tell a trace, for which a history stands.
-use Rattle.std.proofs.Common.{◌≡◌, ℕ, ◌≤◌, true, cond, List, [], ◌∷◌, ◌++◌, length, Option, Some, None, refl, sym, ap, ◌∙◌, inl, inr, subst}
+use Rattle.std.proofs.Common.{◌≡◌, ℕ, ◌≤◌, true, cond, List, [], ◌∷◌, ◌++◌, length, Option, Some, None, refl, sym, ap, ◌∙◌, inl, inr, subst, arith}
 use Rattle.std.specs.Prelude.{◌&&◌, nat_le, slice_get, option_map, option_and_then, Ok}
 use Rattle.std.specs.Option.{option_map_or}
 use Rattle.std.proofs.lemmas.Bool.{and_parts, leb-true}
 use Rattle.text.specs.Lines.{lines_of, next_line}
 use Rattle.verifier.specs.declared.refusal.Mode.TheVariants.{Update, Read}
 use Rattle.loader.specs.CatalogueView.{CatalogueView, IsCatalogue}
-use Rattle.loader.specs.Loading.{Outcome, loaded}
-use Rattle.loader.specs.declared.installed.TheConstants.{MAX_PLACES}
+use Rattle.loader.specs.Loading.{Outcome}
+use Rattle.loader.specs.declared.installed.TheConstants.{MAX_SPARE}
 use Rattle.oplog.specs.Operations.{Operation}
 use Rattle.oplog.specs.declared.configuration.Config.{Config}
 use Rattle.oplog.specs.declared.configuration.TheConstants.{MAX_NODES, MAX_NODE_SLOTS, MIN_WINDOW, MAX_WINDOW, MAX_LIMIT}
@@ -25,28 +25,23 @@ use Rattle.schedule.specs.declared.parts.Opening.{Opening}
 use Rattle.schedule.specs.declared.steps.StepAnswer.TheVariants as answers
 use Rattle.schedule.specs.Trace.{Answer as TheAnswer, Updated, ReadBack, Event, Call, Back, Trace, Positions}
 use Rattle.schedule.specs.Worlds.{NodeView, WorldView, own_of, opened, opening_of}
-use Rattle.schedule.specs.Steps.{Part, Took, claim, collect, post, read_answer, read_begin, with_call_or_back, put_part, session_at, is_idle, with_read, read_at, no_batch, inner, seen_of, with_event, world_after}
+use Rattle.schedule.specs.Steps.{Part, Took, claim, collect, post, read_answer, read_begin, with_call_or_back, put_part, session_of_slot, is_idle, with_read, read_at, no_batch, inner, seen_of, with_event, world_after}
 use Rattle.schedule.specs.Stands.{DeskStands, Stands}
 use Rattle.schedule.specs.Taking.{answer_of, step_answer}
-use Rattle.schedule.proofs.Options.{cond_gives, map_gives, then_gives}
-use Rattle.schedule.proofs.Calls.{Kept, session_is, keeps_post, keeps_collect, keeps_read_begin, keeps_read_answer}
-use Rattle.schedule.proofs.Logs.{keeps_finish, keeps_reclaim, keeps_rebase}
-use Rattle.schedule.proofs.Replays.{keeps_replay}
-use Rattle.schedule.proofs.Desks.{keeps_claim, keeps_reply}
-use Rattle.schedule.proofs.Append.{keeps_append}
-use Rattle.schedule.proofs.Runs.{opening_stands, standing_is_explained}
+use Rattle.schedule.proofs.Export.{cond_gives, map_gives, then_gives, Kept, session_is, keeps_post, keeps_collect, keeps_read_begin, keeps_read_answer, keeps_finish, keeps_reclaim, keeps_rebase, keeps_replay, keeps_claim, keeps_reply, keeps_append, opening_stands, standing_is_explained}
+use Rattle.engine.proofs.Export.{are_limits}
 use Rattle.engine.specs.Answer.{Answer}
 use Rattle.engine.specs.Sizes.{are_sizes, sizes_refused}
-use Rattle.engine.specs.Reading.{TextsRead}
+use Rattle.engine.specs.Reading.{TextsRead, loaded_by, limits_of}
 use Rattle.scripts.specs.StepLine.{StepMeaning, Comment, Post, Install, ReadBegin, Collect, ReadAnswer, Claim, Append, Replay, Finish, Reply, Reclaim, Rebase, step_line_meaning}
 use Rattle.running.specs.RunAnswer.{behind, bad_line}
-use Rattle.running.proofs.RunsOfLines.{loaded_is_catalogue}
+use Rattle.running.proofs.Export.{loaded_is_catalogue}
 use Rattle.scheduling.specs.ScheduleAnswer.{StepTurn, line_took, step_turn, step_line_turn, steps_answer, scheduled, schedule_answer}
 use Rattle.scheduling.specs.Traced.{call_said, event_told, line_text, Tells, AreExplained}
 
 -- ---- one line
 
--- its node, and what its step makes of the log and of that node
+-- the node of a line, and what its step makes of the log and of that node
 abbrev node_of : StepMeaning → ℕ
 node_of Comment = 0
 node_of (Post at call) = at.node
@@ -122,7 +117,7 @@ post_told : (m : Opening) (n s : ℕ) (line : StepMeaning) (op : Operation) (g :
     → IsTold m line (Some (Call (session m.config n s) Update op)) → IsTold m line p.event
 post_told m n s line op g node p desk taken is =
     let c = cond_gives (is_idle node s && is_operation Update m.catalogue op) _ p taken in
-    let d = map_gives (λ desk. with_call_or_back (Call (session_at node s) Update op) g (record node { desk = desk })) (posted s op node.desk) p c.1 in
+    let d = map_gives (λ desk. with_call_or_back (Call (session_of_slot node s) Update op) g (record node { desk = desk })) (posted s op node.desk) p c.1 in
     told m line (Some (Call (session m.config n s) Update op)) p.event (ap (λ x. Some (Call x Update op)) (sym (session_is m n node s desk)) ∙ ap (λ (q : Part). q.event) d.2) is
 
 part_told : (m : Opening) (line : StepMeaning) (g : Log) (node : NodeView) (p : Part) → DeskStands m (node_of line) node → part_of m line g node ≡ Some p → IsTold m line p.event
@@ -134,14 +129,14 @@ part_told m (ReadBegin to call) g node p desk taken =
     let c = cond_gives (is_idle node to.slot && is_operation Read m.catalogue op) _ p taken in
     told m (ReadBegin to call) (Some (Call (session m.config to.node to.slot) Read op)) p.event (ap (λ x. Some (Call x Read op)) (sym (session_is m to.node node to.slot desk)) ∙ event_is _ p c.1) refl
 part_told m (Collect to) g node p desk taken =
-    let d = map_gives (λ c. with_call_or_back (Back (session_at node to.slot) (Updated c.reply)) g (record node { desk = c.desk })) (collected to.slot node.desk) p taken in
+    let d = map_gives (λ c. with_call_or_back (Back (session_of_slot node to.slot) (Updated c.reply)) g (record node { desk = c.desk })) (collected to.slot node.desk) p taken in
     told m (Collect to) (Some (Back (session m.config to.node to.slot) (Updated d.0.reply))) p.event
     (ap (λ x. Some (Back x (Updated d.0.reply))) (sym (session_is m to.node node to.slot desk)) ∙ ap (λ (q : Part). q.event) d.2) refl
 part_told m (ReadAnswer to) g node p desk taken =
     let r = then_gives _ (read_at node to.slot) p taken in
     let read : BegunRead = r.0 in
     let c = cond_gives (may_answer read.seen g.done (own_of node)) _ p r.2 in
-    let d = map_gives (λ (f : ReadEffect). with_call_or_back (Back (session_at node to.slot) (ReadBack (record { point = node.replica.tail; reply = f.reply }))) g (with_read node to.slot None)) (store_meaning.read m.catalogue (Run read.call) node.replica.state) p c.1 in
+    let d = map_gives (λ (f : ReadEffect). with_call_or_back (Back (session_of_slot node to.slot) (ReadBack (record { point = node.replica.tail; reply = f.reply }))) g (with_read node to.slot None)) (store_meaning.read m.catalogue (Run read.call) node.replica.state) p c.1 in
     let a : TheAnswer = ReadBack (record { point = node.replica.tail; reply = d.0.reply }) in
     told m (ReadAnswer to) (Some (Back (session m.config to.node to.slot) a)) p.event (ap (λ x. Some (Back x a)) (sym (session_is m to.node node to.slot desk)) ∙ ap (λ (q : Part). q.event) d.2) refl
 part_told m (Claim n) g node p desk taken = let c = cond_gives (no_batch node.batch && has_request node.desk) _ p taken in told m (Claim n) None p.event (event_is _ p c.1) refl
@@ -260,17 +255,17 @@ lists_explained m ls whole =
 
 -- ---- the command
 
-few_places : (c : Config) → are_sizes c ≡ true → c.spare ≤ MAX_PLACES
+few_places : (c : Config) → are_sizes c ≡ true → c.spare ≤ MAX_SPARE
 few_places c e =
     let one = and_parts (nat_le 1 c.nodes && nat_le c.nodes MAX_NODES) _ e in
     let two = and_parts (nat_le 1 c.slots && nat_le c.slots MAX_NODE_SLOTS) _ one.1 in
     let three = and_parts (nat_le MIN_WINDOW c.window && nat_le c.window MAX_WINDOW) _ two.1 in
-    let four = and_parts (nat_le 1 c.limit && nat_le c.limit MAX_LIMIT) (nat_le c.spare MAX_PLACES) three.1 in
-    leb-true c.spare MAX_PLACES four.1
+    let four = and_parts (nat_le 1 c.limit && nat_le c.limit MAX_LIMIT) (nat_le c.spare MAX_SPARE) three.1 in
+    leb-true c.spare MAX_SPARE four.1
 
-pub schedules_explained : (config : Config) (t : TextsRead) (c : CatalogueView) → loaded t.manifest t.files ≡ Ok c → are_sizes config ≡ true → AreExplained (opening_of (sizes_in config) c) (lines_of t.file) (schedule_answer config (Some t))
+pub schedules_explained : (config : Config) (t : TextsRead) (c : CatalogueView) → loaded_by t ≡ Ok c → are_sizes config ≡ true → AreExplained (opening_of (sizes_in config) c) (lines_of t.file) (schedule_answer config (Some t))
 schedules_explained config t c is fine =
     let opening = opening_of (sizes_in config) c in
     let answer : schedule_answer config (Some t) ≡ steps_answer opening 1 (opened opening) (lines_of t.file) =
     ap (λ (o : Outcome). scheduled config o t.file) is ∙ ap (λ b. cond b (steps_answer opening 1 (opened opening) (lines_of t.file)) sizes_refused) fine in
-    subst (AreExplained opening (lines_of t.file)) (sym answer) (lists_explained opening (lines_of t.file) (loaded_is_catalogue t.manifest t.files c config.spare is (few_places config fine)))
+    subst (AreExplained opening (lines_of t.file)) (sym answer) (lists_explained opening (lines_of t.file) (loaded_is_catalogue (limits_of t.sizes) t.manifest t.files c config.spare (are_limits t.sizes) is (omega (arith, few_places config fine))))

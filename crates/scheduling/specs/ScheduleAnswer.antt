@@ -3,7 +3,7 @@ use Rattle.std.specs.Option.{option_map_or}
 use Rattle.std.specs.Prelude.{ℕ, suc, List, [], ◌∷◌, ◌++◌, codes, decimal, Option, Some, None, option_map, unwrap_or, length, Ok, Err, if◌then◌else◌}
 use Rattle.text.specs.Lines.{lines_of, next_line}
 use Rattle.loader.specs.CatalogueView.{CatalogueView, number_named}
-use Rattle.loader.specs.Loading.{Outcome, loaded}
+use Rattle.loader.specs.Loading.{Outcome}
 use Rattle.oplog.specs.declared.records.Op.TheVariants.{Run, Install as AnInstall}
 use Rattle.oplog.specs.Logs.{tail_of}
 use Rattle.oplog.specs.declared.configuration.Config.{Config}
@@ -20,7 +20,7 @@ use Rattle.schedule.specs.Taking.{step_answer}
 use Rattle.engine.specs.declared.replies.Verdict.TheVariants as verdicts
 use Rattle.engine.specs.Answer.{Answer, not_text, refusal_answer}
 use Rattle.engine.specs.Sizes.{are_sizes, sizes_refused}
-use Rattle.engine.specs.Reading.{TextsRead}
+use Rattle.engine.specs.Reading.{TextsRead, loaded_by}
 use Rattle.scripts.specs.Script.{ProgramKey, Named, Numbered}
 use Rattle.scripts.specs.StepLine.{StepMeaning, Comment, Post, Install, ReadBegin, Collect, ReadAnswer, Claim, Append, Replay, Finish, Reply, Reclaim, Rebase, step_line_meaning}
 use Rattle.running.specs.RunAnswer.{behind, bad_line}
@@ -99,4 +99,4 @@ scheduled config (Err refusal) text = refusal_answer refusal
 -- what `schedule` answers to what was read: the manifest is loaded, then the sizes are judged, then the steps are taken
 abbrev pub schedule_answer : Config → Option TextsRead → Answer
 schedule_answer config None = not_text
-schedule_answer config (Some t) = scheduled config (loaded t.manifest t.files) t.file
+schedule_answer config (Some t) = scheduled config (loaded_by t) t.file

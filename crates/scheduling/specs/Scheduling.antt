@@ -21,7 +21,7 @@ abbrev pub StepLineTaken : WorldState → Option StepTurn → Bool → WorldStat
 StepLineTaken old None good new before after = (good ≡ false) × (after ≡ before)
 StepLineTaken old (Some turn) good new before after = (good ≡ true) × (after ≡ before ++ turn.text) × (new ≡ record old { world = turn.world })
 
--- the same of the line that a text says
+-- `StepLineTaken` of the line that a text says
 abbrev pub TakesStepLine : WorldState → List ℕ → Bool → WorldState → List ℕ → List ℕ → Type 0
 TakesStepLine old line = StepLineTaken old (step_line_turn old.opening old.world line)
 

@@ -3,7 +3,6 @@ use Rattle.std.specs.Prelude.{◌≡◌, ◌⊎◌, ℕ, true, List, [], ◌∷�
 use Rattle.verifier.specs.declared.refusal.Mode.TheVariants.{Update, Read}
 use Rattle.text.specs.Lines.{lines_of, next_line}
 use Rattle.loader.specs.CatalogueView.{CatalogueView, IsCatalogue}
-use Rattle.loader.specs.Loading.{loaded}
 use Rattle.oplog.specs.Calls.{Call as TheCall}
 use Rattle.oplog.specs.Sessions.{session}
 use Rattle.oplog.specs.declared.records.Op.TheVariants.{Run, Install as AnInstall}
@@ -19,7 +18,7 @@ use Rattle.schedule.specs.Headline.{IsExplained}
 use Rattle.engine.specs.declared.replies.Verdict.TheVariants as verdicts
 use Rattle.engine.specs.Answer.{Answer}
 use Rattle.engine.specs.Sizes.{are_sizes}
-use Rattle.engine.specs.Reading.{TextsRead}
+use Rattle.engine.specs.Reading.{TextsRead, loaded_by}
 use Rattle.scripts.specs.Script.{KeyedCall}
 use Rattle.scripts.specs.StepLine.{StepMeaning, Comment, Post, Install, ReadBegin, Collect, ReadAnswer, step_line_meaning}
 use Rattle.running.specs.RunAnswer.{behind, bad_line}
@@ -68,5 +67,5 @@ StepListsAreExplained = (m : Opening) (ls : List (List ℕ)) → IsCatalogue m.c
 -- and of what `schedule` writes where the manifest is good and the sizes are in their limits
 abbrev pub SchedulesAreExplained : Type 0
 SchedulesAreExplained =
-    (config : Config) (t : TextsRead) (c : CatalogueView) → loaded t.manifest t.files ≡ Ok c → are_sizes config ≡ true
+    (config : Config) (t : TextsRead) (c : CatalogueView) → loaded_by t ≡ Ok c → are_sizes config ≡ true
     → AreExplained (opening_of (sizes_in config) c) (lines_of t.file) (schedule_answer config (Some t))

@@ -47,7 +47,7 @@ fn program_of(step: &Step) -> u64 {
     }
 }
 
-// The same, to be looked up: a number that is too large is no program's.
+// `program_of`, to be looked up: a number that is too large is no program's.
 fn number_of(step: &Step) -> u16 {
     u16::try_from(program_of(step)).unwrap_or(u16::MAX)
 }

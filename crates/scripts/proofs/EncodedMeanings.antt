@@ -3,7 +3,7 @@ use Rattle.std.proofs.Common.{◌≡◌, ◌⊎◌, inl, inr, ℕ, List, [], ◌
 use Rattle.std.specs.List.{AllZip}
 use Rattle.text.specs.Lines.{lines_of}
 use Rattle.encoding.specs.Calls.{IsCallOf, IsWrittenAs}
-use Rattle.encoding.proofs.WrittenLines.{lines_are_written}
+use Rattle.encoding.proofs.Export.{lines_are_written}
 use Rattle.scripts.specs.EncodedCalls.{MeansItsCall, EncodedLinesMean}
 use Rattle.scripts.specs.Script.{Comment, Call, line_meaning, call_meaning, named_call}
 

@@ -12,14 +12,10 @@ use Rattle.hex.proofs.HexLemmas.{decode_of-ok}
 use Rattle.text.specs.Fields.{is_space, has_no_space, split_at_space}
 use Rattle.text.specs.Words.{is_lower, is_name, number_of}
 use Rattle.text.specs.Digits.{good, field_bytes}
-use Rattle.text.proofs.Numbers.{own}
-use Rattle.text.proofs.Numerals.{numerals_are_decimals}
-use Rattle.text.proofs.Cuts.{steps, split_from, split_to}
+use Rattle.text.proofs.Export.{own, numerals_are_decimals, steps, split_from, split_to}
 use Rattle.loader.specs.Grammar.{mode_of}
 use Rattle.loader.specs.Spelling.{mode_word}
-use Rattle.loader.proofs.Respelled.{no_space_from, no_space_in_number, no_space_in_name, no_space_in_mode, mode_to}
-use Rattle.loader.proofs.Spelled.{mode_from}
-use Rattle.loader.proofs.WordLemmas.{word_is}
+use Rattle.loader.proofs.Export.{no_space_from, no_space_in_number, no_space_in_name, no_space_in_mode, mode_to, mode_from, word_is}
 use Rattle.oplog.specs.Calls.{NewProgram}
 use Rattle.scripts.specs.Script.{ProgramKey, Named, Numbered, KeyedCall, program_key, keyed_call, program_fields, new_program}
 use Rattle.scripts.specs.LineSpelling.{IsNumber, SpellsBytes, IsKey, key_text}

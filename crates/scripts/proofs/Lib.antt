@@ -3,3 +3,4 @@ pub mod SpelledScripts
 pub mod SpelledSteps
 pub mod SpelledTold
 pub mod EncodedMeanings
+pub mod Export

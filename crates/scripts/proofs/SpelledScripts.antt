@@ -10,14 +10,12 @@ use Rattle.text.specs.declared.lines.TheConstants.{LINE_BYTES}
 use Rattle.text.specs.Fields.{has_no_space, split_at_space}
 use Rattle.text.specs.Words.{is_lower, is_name_byte, is_name, number_of}
 use Rattle.text.specs.Digits.{field_bytes}
-use Rattle.text.proofs.LineReadings.{IsSilent, by_kind_from, by_words, by_hash, by_empty}
-use Rattle.text.proofs.Cuts.{steps, where_true, split_from, split_to}
+use Rattle.text.proofs.Export.{IsSilent, by_kind_from, by_words, by_hash, by_empty, steps, where_true, split_from, split_to}
 use Rattle.loader.specs.Spelling.{mode_word}
-use Rattle.loader.proofs.WordLemmas.{word_is}
+use Rattle.loader.proofs.Export.{word_is, no_space_in_name, no_space_in_number}
 use Rattle.oplog.specs.Calls.{Call as NumberedCall}
 use Rattle.scripts.specs.Script.{ProgramCall, Meaning, Comment, Call, InvokeAt, ReadAt, Install, named_call, numbered_call, new_program, word_meaning, call_meaning, line_meaning}
 use Rattle.scripts.specs.LineSpelling.{IsNumber, SpellsBytes, Spells, EachLineIsItsSpelling}
-use Rattle.loader.proofs.Respelled.{no_space_in_name, no_space_in_number}
 use Rattle.scripts.proofs.Fields.{mapped, new_from, new_to, number_from, number_to, two_no_bytes}
 
 -- ---- by words

@@ -5,15 +5,14 @@ use Rattle.std.proofs.lemmas.Option.{same_Some}
 use Rattle.text.specs.declared.lines.TheConstants.{LINE_BYTES}
 use Rattle.text.specs.Fields.{has_no_space, split_at_space}
 use Rattle.text.specs.Words.{number_of}
-use Rattle.text.proofs.LineReadings.{IsSilent, by_kind_from, by_words, by_hash, by_empty}
-use Rattle.text.proofs.Cuts.{steps, where_true, split_from, split_to}
+use Rattle.text.proofs.Export.{IsSilent, by_kind_from, by_words, by_hash, by_empty, steps, where_true, split_from, split_to}
 use Rattle.loader.specs.Spelling.{mode_word}
 use Rattle.oplog.specs.Calls.{NewProgram}
 use Rattle.scripts.specs.Script.{KeyedCall, keyed_call, new_program}
 use Rattle.scripts.specs.StepLine.{StepMeaning, Comment, Post, Install, ReadBegin, Collect, ReadAnswer, Claim, Append, Replay, Finish, Reply, Reclaim, Rebase, is_named_so, slot_at, call_at, install_at, node_step, step_words, step_meaning, step_line_meaning}
 use Rattle.scripts.specs.declared.step_lines.SlotAt.{SlotAt}
 use Rattle.scripts.specs.LineSpelling.{IsNumber, IsKey, SpellsBytes, SpellsStep, EachStepIsItsSpelling, key_text}
-use Rattle.loader.proofs.Respelled.{no_space_in_number}
+use Rattle.loader.proofs.Export.{no_space_in_number}
 use Rattle.scripts.proofs.Fields.{key_plain, keyed_from, keyed_to, mapped, new_from, new_to, number_from, number_to}
 use Rattle.scripts.proofs.SpelledScripts.{by_word}
 

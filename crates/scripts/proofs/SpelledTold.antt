@@ -8,15 +8,14 @@ use Rattle.verifier.specs.declared.refusal.Mode.TheVariants.{Update, Read}
 use Rattle.text.specs.declared.lines.TheConstants.{LINE_BYTES}
 use Rattle.text.specs.Fields.{has_no_space, split_at_space}
 use Rattle.text.specs.Words.{number_of}
-use Rattle.text.proofs.LineReadings.{IsSilent, by_kind_from, by_words, by_hash, by_empty}
-use Rattle.text.proofs.Cuts.{steps, split_from, split_to}
+use Rattle.text.proofs.Export.{IsSilent, by_kind_from, by_words, by_hash, by_empty, steps, split_from, split_to}
 use Rattle.loader.specs.Spelling.{mode_word}
 use Rattle.oplog.specs.Calls.{NewProgram}
 use Rattle.scripts.specs.Script.{KeyedCall, keyed_call, program_fields, new_program}
 use Rattle.scripts.specs.Transcript.{TranscriptMeaning, Comment, Answered, Installed, Ended, EndedInstall, answered_call, answered_install, ended_call, transcript_words, transcript_meaning, transcript_line_meaning}
 use Rattle.scripts.specs.declared.transcripts.ToldReply.{ToldReply}
 use Rattle.scripts.specs.LineSpelling.{IsNumber, IsKey, SpellsBytes, SpellsTold, EachToldIsItsSpelling, key_text, mode_letter}
-use Rattle.loader.proofs.Respelled.{no_space_in_mode, no_space_in_number}
+use Rattle.loader.proofs.Export.{no_space_in_mode, no_space_in_number}
 use Rattle.scripts.proofs.Fields.{bytes_plain, key_plain, keyed_from, keyed_to, mapped, new_from, new_to, number_from, number_to, program_from, program_to, two_no_bytes}
 use Rattle.scripts.proofs.SpelledScripts.{by_word}
 

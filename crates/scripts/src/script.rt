@@ -51,11 +51,11 @@ pub struct KeyedCall<'a> {
 /// A program to be installed.
 #[derive(Drop)]
 pub struct ProgramText {
-    /// What it may call.
+    /// The program's mode: what the program may call.
     pub mode: Mode,
     /// How many bytes its argument has.
     pub arg_len: u64,
-    /// Its instructions.
+    /// The program's instructions.
     pub bytes: ArrayVec<u8, FIELD_BYTES>,
 }
 

@@ -15,7 +15,7 @@ use verifier::Mode;
 pub struct ToldReply {
     /// The number of updates before it.
     pub index: u64,
-    /// What it replied.
+    /// What the call replied.
     pub reply: u64,
 }
 
@@ -75,7 +75,7 @@ fn ended_call(text: &str) -> Option<KeyedCall<'_>>
     keyed_call(name, digits)
 }
 
-// The same, or MODE ARGLEN HEX
+// NAME HEX, or K HEX, or MODE ARGLEN HEX
 fn ended_line(text: &str) -> Option<TranscriptLine<'_>>
     requires { length text.now ≤ LINE_BYTES }
     ensures { option_map told_of result ≡ option_or (option_map Ended (ended_call text.now)) (option_map EndedInstall (new_program text.now)) }

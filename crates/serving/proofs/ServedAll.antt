@@ -17,7 +17,7 @@ use Rattle.engine.specs.ReadFaults.{IfCannotRead}
 use Rattle.engine.specs.Reading.{TextsRead}
 use Rattle.engine.specs.Report.{Sends, answer_of}
 use Rattle.engine.specs.Texts.{no_memory_line}
-use Rattle.engine.proofs.Reports.{reports}
+use Rattle.engine.proofs.Export.{reports}
 use Rattle.serving.specs.ServeAnswer.{Serves, ServesAll, served_text, nothing_served, service}
 use Rattle.serving.proofs.Served.{none_served}
 use Rattle.serving.proofs.Turned.{between, appends_none, appends_kept, consumes_none, never_good, no_memory_at, none_given, state_served}

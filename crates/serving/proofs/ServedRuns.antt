@@ -13,7 +13,7 @@ use Rattle.oplog.specs.History.{History}
 use Rattle.std.specs.Str.{is_utf8}
 use Rattle.engine.specs.Answer.{Answer}
 use Rattle.running.specs.RunAnswer.{Turn, line_turn, behind, bad_line, lines_answer}
-use Rattle.running.proofs.UnderLimits.{limit_is_unfelt}
+use Rattle.running.proofs.Export.{limit_is_unfelt}
 use Rattle.serving.specs.ServeAnswer.{Serving, served, served_behind, served_text, text_turn, turn_at, behind_line}
 use Rattle.serving.specs.ServeLaws.{EachLineEnds, AreTextLines, BeginsAs, ServedIsEndless, ServedIsRun}
 

@@ -16,7 +16,7 @@ use Rattle.engine.specs.Texts.{no_memory_line}
 use Rattle.engine.specs.Report.{Sends}
 use Rattle.oplog.specs.declared.configuration.TheConstants.{ENDLESS}
 use Rattle.running.specs.RunAnswer.{state_of}
-use Rattle.running.proofs.Turns as run_turns
+use Rattle.running.proofs.Export as run_turns
 use Rattle.serving.specs.ServeAnswer.{Serving, Served, served, served_text, nothing_served, given_back, AnswersBytes, Ports, Serves}
 use Rattle.serving.specs.Serving.{Stands, TakesBytes, Turns, Going}
 use Rattle.serving.proofs.Served.{served_parts, none_served}

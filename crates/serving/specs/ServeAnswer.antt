@@ -70,7 +70,7 @@ pub record Ports : Type 0 where
   pub old : Option (List ℕ)
   pub new : Option (List ℕ)
 
--- those of a reader, by what it has left, and of a writer, by what it holds
+-- the ports of a reader, by what it has left, and of a writer, by what it holds
 abbrev pub ports : {R W : Type 0} → (R → Option (List ℕ)) → R → R → (W → Option (List ℕ)) → W → W → Ports
 ports remaining given left contents old new = record { given = remaining given; left = remaining left; old = contents old; new = contents new }
 
@@ -114,6 +114,6 @@ abbrev pub ServesAll : Ports → ServeEnd → Result CatalogueView Answer → Ty
 ServesAll at ended opening =
     MatchResult opening (λ c. Serves c at ended) (λ a. Reports answer_of (λ r. answer_of r ≡ a) at.old at.new ended.status × (ended.state ≡ None) × (at.left ≡ at.given))
 
--- the same of what there was to read before
+-- `ServesAll` of what there was to read before
 abbrev pub ServesGiven : ℕ → Ports → ServeEnd → Given → Type 0
 ServesGiven spare at ended g = ServesAll at ended (service spare (read g))

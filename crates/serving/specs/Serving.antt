@@ -18,7 +18,7 @@ use Rattle.serving.specs.ServeAnswer.{Serving, Ports, nothing_served, text_turn,
 abbrev pub with_byte : Serving → ℕ → Serving
 with_byte s b = record s { left = s.left ++ b ∷ [] }
 
--- this is so of what is served, or answered in its place, where that was opened
+-- P holds of what is served, or answered in its place, if that was opened
 abbrev pub IfOpened : {E : Type 0} → Result Opened E → (Result CatalogueView Answer → Type 0) → Type 0
 IfOpened opened P = (on : Result CatalogueView Answer) → IfOk opened (λ o. on_which o ≡ on) → P on
 
@@ -69,7 +69,7 @@ pub record Turns (c : CatalogueView) (s : Serving) (service : Service) (at : Por
   pub whole : ended ≡ Some statuses.Good → IsAtEnd at.left × (bytes ≡ [])
   pub answers : TurnEnds c s bytes service at.old at.new ended
 
--- the same of any state that the service stands in
+-- `Turns` from any state that the service is in
 abbrev pub TakesTurns : Ports → Service → Service → Option Status → Type 0
 TakesTurns at old new ended = (s : Serving) → Stands s old → Turns old.catalogue s new at ended
 

@@ -25,9 +25,9 @@ pub(crate) struct Service {
     node: SingleNode,
     // The number of the line at hand.
     number: u32,
-    // Its first bytes.
+    // The first bytes of the line.
     left: ArrayVec<u8, KEPT_BYTES>,
-    // What it writes.
+    // What the line writes.
     answer: Vec<u8>,
 }
 

@@ -202,9 +202,9 @@ pub fn serve<F: Folder, S: Source + Drop, R: Feed, W: Sink>(
 ) -> ServeEnd
     // Where the readers and the folder tell their bytes, those are served.
     ensures written { IfGiven F.holds S.remaining inputs.old (ServesGiven spare (ports R.remaining reader.old reader.new W.contents writer.old writer.new) result) }
-    // It says that a read failed only after one of the input did, or of a text after texts that are all UTF-8.
+    // The status says that a read failed only after one of the input did, or of a text after texts that are all UTF-8.
     ensures read { result.status ≡ statuses.CannotRead → FailedInTurn F.holds F.can_fail S.remaining S.has_failed inputs.old inputs.new ⊎ R.has_failed reader.new }
-    // It says that a write failed only after one did.
+    // The status says that a write failed only after one did.
     ensures wrote { result.status ≡ statuses.CannotWrite → W.has_failed writer.new }
     // Whatever they give, or where they fail.
     ensures ended { (t : Option TextsRead) × ServesAll (ports R.remaining reader.old reader.new W.contents writer.old writer.new) result (service spare t) }

@@ -8,7 +8,7 @@ use Rattle.schedule.specs.declared.steps.Step.{Step}
 use Rattle.schedule.specs.Worlds.{WorldView, opened}
 use Rattle.schedule.specs.Steps.{took, world_after, world_of, trace_of}
 use Rattle.schedule.specs.Taking.{IsStanding}
-use Rattle.schedule.proofs.Runs.{run_stands, opening_stands, every_schedule}
+use Rattle.schedule.proofs.Export.{run_stands, opening_stands, every_schedule}
 use Rattle.settlement.specs.Settling.{settling, settling_all, settling_store, taken_of, IsSettledAt, SettlesAlone, EveryScheduleSettles}
 use Rattle.settlement.specs.Others.{AreOfOthers}
 use Rattle.settlement.proofs.OwnSteps.{the_store, other_step}

@@ -14,8 +14,7 @@ use Rattle.schedule.specs.Explains.{Explains}
 use Rattle.schedule.specs.Worlds.{NodeView, WorldView}
 use Rattle.schedule.specs.Steps.{is_idle, is_free, no_read}
 use Rattle.schedule.specs.Stands.{NodeStands, StageStands, Stands}
-use Rattle.schedule.proofs.Lists.{get_in, get_take, get_taken}
-use Rattle.schedule.proofs.Options.{free_is, no_read_is}
+use Rattle.schedule.proofs.Export.{get_in, get_take, get_taken, free_is, no_read_is}
 use Rattle.settlement.specs.Settling.{IsSettledAt, AllAnswered}
 
 -- ---- the first event of a session behind its call

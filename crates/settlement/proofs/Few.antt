@@ -10,8 +10,7 @@ use Rattle.replica.specs.StoreMeaning.{store_meaning}
 use Rattle.node.specs.Following.{no_records, may_answer}
 use Rattle.schedule.specs.Trace.{Updated, ReadBack, Back}
 use Rattle.schedule.specs.Stands.{StageStands}
-use Rattle.schedule.proofs.Lists.{get_in, get_some}
-use Rattle.schedule.proofs.Options.{collected_is}
+use Rattle.schedule.proofs.Export.{get_in, get_some, collected_is, of_store}
 use Rattle.settlement.proofs.Handing.{HandsOut, HandsRead, collect_empties, read_empties}
 use Rattle.std.specs.Option.{option_and_then}
 use Rattle.std.proofs.lemmas.Bool.{false≢true}
@@ -26,11 +25,10 @@ use Rattle.schedule.specs.declared.parts.Opening.{Opening}
 use Rattle.schedule.specs.declared.steps.Step.{Step}
 use Rattle.schedule.specs.declared.steps.Step.TheVariants.{Claim, Append, Replay, Finish, Reply, Collect, ReadAnswer, Reclaim, Rebase}
 use Rattle.schedule.specs.Worlds.{NodeView, WorldView, own_of}
-use Rattle.schedule.specs.Steps.{Took, put_part, part_of, node_of, took, world_after, seen_of, put_seen, read_at, with_read, with_call_or_back, session_at}
+use Rattle.schedule.specs.Steps.{Took, put_part, part_of, node_of, took, world_after, seen_of, put_seen, read_at, with_read, with_call_or_back, session_of_slot}
 use Rattle.schedule.specs.Taking.{IsStanding, IsOfStore}
 use Rattle.settlement.specs.declared.calls.Taken.{Taken}
 use Rattle.settlement.specs.Settling.{before_taken, taken_of, handing_out, settling}
-use Rattle.schedule.proofs.Answers.{of_store}
 use Rattle.settlement.proofs.OwnSteps.{Fact, Leads, Reaches, own_next, stands_on, the_store, node_after}
 use Rattle.settlement.proofs.Lines.{Side, SideOf, IsBare, IsAbove, IsAtEnd, IsUp, HasRest, Any, NotLogged, HasRoomFor, LeavesRoomFor, IsFree, kind_of, no_kind, by_guard, replay_empties, rebase_lifts, replay_ends, finish_completes, replay_rest, reply_ends, reclaim_frees, append_logs, batch_ends, claim_takes}
 
@@ -143,7 +141,7 @@ module _ (m : Opening) (n : ℕ) where
   collect_leads : (s : ℕ) → s < size → Leads m (Collect n s) (Waits s) (NoRead s)
   collect_leads s lt g node x (h, (c, e)) = (collect_empties m n s lt g node x h, reads_same (collected s node.desk) ∙ no_read_beside g node x s c e)
     where
-      reads_same : (o : Option Collection) → read_at (node_after (option_map (λ (c : Collection). with_call_or_back (Back (session_at node s) (Updated c.reply)) g (record node { desk = c.desk })) o) node) s ≡ read_at node s
+      reads_same : (o : Option Collection) → read_at (node_after (option_map (λ (c : Collection). with_call_or_back (Back (session_of_slot node s) (Updated c.reply)) g (record node { desk = c.desk })) o) node) s ≡ read_at node s
       reads_same None = refl
       reads_same (Some c) = refl
 
@@ -160,10 +158,10 @@ module _ (m : Opening) (n : ℕ) where
     where
       none_read : (g : Log) (node : NodeView) → read_at node s ≡ None → part_of m (ReadAnswer n s) g node ≡ None
       none_read g node none =
-          ap (λ o. option_and_then (λ (read : BegunRead). cond (may_answer read.seen g.done (own_of node)) (option_map (λ (e : ReadEffect). with_call_or_back (Back (session_at node s) (ReadBack (record { point = node.replica.tail; reply = e.reply }))) g (with_read node s None)) (store_meaning.read m.catalogue (Run read.call) node.replica.state)) None) o) none
+          ap (λ o. option_and_then (λ (read : BegunRead). cond (may_answer read.seen g.done (own_of node)) (option_map (λ (e : ReadEffect). with_call_or_back (Back (session_of_slot node s) (ReadBack (record { point = node.replica.tail; reply = e.reply }))) g (with_read node s None)) (store_meaning.read m.catalogue (Run read.call) node.replica.state)) None) o) none
 
       none_collected : (g : Log) (node : NodeView) → collected s node.desk ≡ None → part_of m (Collect n s) g node ≡ None
-      none_collected g node none = ap (λ o. option_map (λ (c : Collection). with_call_or_back (Back (session_at node s) (Updated c.reply)) g (record node { desk = c.desk })) o) none
+      none_collected g node none = ap (λ o. option_map (λ (c : Collection). with_call_or_back (Back (session_of_slot node s) (Updated c.reply)) g (record node { desk = c.desk })) o) none
 
   -- ---- the whole list
 

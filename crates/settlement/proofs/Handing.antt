@@ -21,11 +21,9 @@ use Rattle.schedule.specs.declared.parts.Opening.{Opening}
 use Rattle.schedule.specs.declared.steps.Step.TheVariants.{Collect, ReadAnswer}
 use Rattle.schedule.specs.Trace.{Updated, ReadBack, Back, Trace}
 use Rattle.schedule.specs.Worlds.{NodeView, own_of}
-use Rattle.schedule.specs.Steps.{Part, with_call_or_back, session_at, is_free, no_read, is_idle, with_read, read_answer}
+use Rattle.schedule.specs.Steps.{Part, with_call_or_back, session_of_slot, is_free, no_read, is_idle, with_read, read_answer}
 use Rattle.schedule.specs.Stands.{StageStands, batch_in}
-use Rattle.schedule.proofs.Lists.{get_in, get_some, set_same}
-use Rattle.schedule.proofs.Slots.{claimed_has, requests_have}
-use Rattle.schedule.proofs.Unless.{has_answer}
+use Rattle.schedule.proofs.Export.{get_in, get_some, set_same, claimed_has, requests_have, has_answer}
 use Rattle.settlement.proofs.OwnSteps.{Fact, Stays, Leads, log_after, node_after, set_other}
 use Rattle.settlement.proofs.Lines.{IsUp, IsFree, up_stays, posted_at, no_kind, requests_alike, as_claimed}
 
@@ -97,8 +95,8 @@ collect_empties m n s inside g node x ((empty, above, end, done, free), idle) =
   where
     Q : Option Collection → Type 0
     Q o = HandsRead m.config.slots s
-        (log_after (option_map (λ (c : Collection). with_call_or_back (Back (session_at node s) (Updated c.reply)) g (record node { desk = c.desk })) o) g)
-        (node_after (option_map (λ (c : Collection). with_call_or_back (Back (session_at node s) (Updated c.reply)) g (record node { desk = c.desk })) o) node)
+        (log_after (option_map (λ (c : Collection). with_call_or_back (Back (session_of_slot node s) (Updated c.reply)) g (record node { desk = c.desk })) o) g)
+        (node_after (option_map (λ (c : Collection). with_call_or_back (Back (session_of_slot node s) (Updated c.reply)) g (record node { desk = c.desk })) o) node)
 
     go : (y : Slot) → slice_get node.desk.slots s ≡ Some y → (st : Stage) → y.stage ≡ st → Q (collected s node.desk)
     go y at Empty is =
@@ -156,7 +154,7 @@ read_empties m n s inside g node x ((empty, above, end, done, room), idle, free)
     go y.0 y.1
   where
     part : ReadEffect → Part
-    part e = with_call_or_back (Back (session_at node s) (ReadBack (record { point = node.replica.tail; reply = e.reply }))) g (with_read node s None)
+    part e = with_call_or_back (Back (session_of_slot node s) (ReadBack (record { point = node.replica.tail; reply = e.reply }))) g (with_read node s None)
 
     of : BegunRead → Option Part
     of read = cond (may_answer read.seen g.done (own_of node)) (option_map part (store_meaning.read m.catalogue (Run read.call) node.replica.state)) None

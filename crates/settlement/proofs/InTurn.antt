@@ -31,7 +31,7 @@ taken_append m w (x ∷ xs) ys =
 
 -- ---- those that are taken, alone
 
--- they lead to the same store
+-- the steps that are taken lead to the same store
 pub kept_world : (m : Opening) (steps : List Step) (w : WorldView) → world_of m w (map (λ (t : Taken). t.step) (taken_of m w steps)) ≡ world_of m w steps
 kept_world m [] w = refl
 kept_world m (step ∷ steps) w = go (kept_world m steps) (took m w step) refl

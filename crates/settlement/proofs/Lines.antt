@@ -25,7 +25,7 @@ use Rattle.schedule.specs.Worlds.{NodeView, own_of}
 use Rattle.schedule.specs.Steps.{Part, inner, seen_of, put_seen, no_batch}
 use Rattle.schedule.specs.Stands.{batch_in}
 use Rattle.schedule.specs.Taking.{IsOfStore}
-use Rattle.schedule.proofs.Options.{none_is}
+use Rattle.schedule.proofs.Export.{none_is}
 use Rattle.settlement.proofs.OwnSteps.{Fact, Stays, Leads, log_after, node_after}
 
 -- ---- what holds of a node between two steps

@@ -22,9 +22,7 @@ use Rattle.schedule.specs.Steps.{took, world_after, world_of, seen_of, put_seen}
 use Rattle.schedule.specs.Stands.{batch_in}
 use Rattle.schedule.specs.Taking.{IsStanding, IsOfStore}
 use Rattle.settlement.specs.Others.{AreOfOthers, HasEnded, LoggedBatchesEnd}
-use Rattle.schedule.proofs.Slots.{claimed_has}
-use Rattle.schedule.proofs.Lists.{get_in}
-use Rattle.schedule.proofs.Answers.{of_store}
+use Rattle.schedule.proofs.Export.{claimed_has, get_in, of_store}
 use Rattle.settlement.proofs.InTurn.{world_append}
 use Rattle.settlement.proofs.OwnSteps.{Fact, Leads, GoesUp, Reaches, other_step, own_next, world_up, stands_on, the_store}
 use Rattle.settlement.proofs.Lines.{Side, SideOf, IsBare, kind_of, as_claimed, replay_empties, by_guard}

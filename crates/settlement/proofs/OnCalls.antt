@@ -9,7 +9,7 @@ use Rattle.schedule.specs.Steps.{Took, took, world_after, world_of, node_of}
 use Rattle.schedule.specs.Taking.{WorldState, IsStanding, Takes}
 use Rattle.schedule.specs.ReadOff.{read_off}
 use Rattle.schedule.specs.Headline.{StepsAreExplained}
-use Rattle.schedule.proofs.OnCalls.{steps_explained}
+use Rattle.schedule.proofs.Export.{steps_explained}
 use Rattle.settlement.specs.declared.calls.Taken.{Taken}
 use Rattle.settlement.specs.Settling.{before_taken, taken_of, HasTaken, settling, settling_store, IsSettledAt, AnswersAll}
 use Rattle.settlement.proofs.NodeLists.{settling_own}

@@ -22,12 +22,10 @@ use Rattle.schedule.specs.declared.steps.Step.TheVariants.{Post, Install, Claim,
 use Rattle.schedule.specs.declared.parts.BegunRead.{BegunRead}
 use Rattle.schedule.specs.Trace.{Updated, ReadBack, Call, Back}
 use Rattle.schedule.specs.Worlds.{NodeView, WorldView, own_of}
-use Rattle.schedule.specs.Steps.{Part, Took, put_part, part_of, node_of, took, world_after, trace_after, world_of, inner, seen_of, put_seen, post, claim, collect, read_begin, read_answer, silent, with_call_or_back, session_at, is_idle, no_batch, with_read, read_at}
+use Rattle.schedule.specs.Steps.{Part, Took, put_part, part_of, node_of, took, world_after, trace_after, world_of, inner, seen_of, put_seen, post, claim, collect, read_begin, read_answer, silent, with_call_or_back, session_of_slot, is_idle, no_batch, with_read, read_at}
 use Rattle.schedule.specs.Taking.{WorldState, IsStanding, IsOfStore}
 use Rattle.settlement.specs.Others.{HasMoved, Woven, Ends, Own, Other, OthersMove, Here, Later}
-use Rattle.schedule.proofs.Lists.{set_same}
-use Rattle.schedule.proofs.Answers.{of_store}
-use Rattle.schedule.proofs.Runs.{step_keeps}
+use Rattle.schedule.proofs.Export.{set_same, of_store, step_keeps}
 
 -- ---- what a part leaves of the log and of the node
 
@@ -140,19 +138,19 @@ up_reclaim {m} {g} {node} x e =
 
 leaves_post : (m : Opening) (g : Log) (node : NodeView) (s : ℕ) (op : Operation) → Leaves g (post m s op g node)
 leaves_post m g node s op =
-    leaves_cond g (is_idle node s && is_operation Update m.catalogue op) (option_map (λ desk. with_call_or_back (Call (session_at node s) Update op) g (record node { desk = desk })) (posted s op node.desk))
-    (leaves_map g (λ (desk : DeskView). with_call_or_back (Call (session_at node s) Update op) g (record node { desk = desk })) (λ a. refl) (posted s op node.desk))
+    leaves_cond g (is_idle node s && is_operation Update m.catalogue op) (option_map (λ desk. with_call_or_back (Call (session_of_slot node s) Update op) g (record node { desk = desk })) (posted s op node.desk))
+    (leaves_map g (λ (desk : DeskView). with_call_or_back (Call (session_of_slot node s) Update op) g (record node { desk = desk })) (λ a. refl) (posted s op node.desk))
 
 leaves_claim : (g : Log) (node : NodeView) → Leaves g (claim g node)
 leaves_claim g node = leaves_cond g (no_batch node.batch && has_request node.desk) (Some (silent g (record node { desk = claimed node.desk; batch = Held (batch_of node.desk) }))) refl
 
 leaves_collect : (g : Log) (node : NodeView) (s : ℕ) → Leaves g (collect s g node)
-leaves_collect g node s = leaves_map g (λ (c : Collection). with_call_or_back (Back (session_at node s) (Updated c.reply)) g (record node { desk = c.desk })) (λ a. refl) (collected s node.desk)
+leaves_collect g node s = leaves_map g (λ (c : Collection). with_call_or_back (Back (session_of_slot node s) (Updated c.reply)) g (record node { desk = c.desk })) (λ a. refl) (collected s node.desk)
 
 leaves_begin : (m : Opening) (g : Log) (node : NodeView) (s : ℕ) (call : ProgramCall) → Leaves g (read_begin m s call g node)
 leaves_begin m g node s call =
     leaves_cond g (is_idle node s && is_operation Read m.catalogue (Run call))
-    (Some (with_call_or_back (Call (session_at node s) Read (Run call)) g (with_read node s (Some (record { call = call; seen = g.done }))))) refl
+    (Some (with_call_or_back (Call (session_of_slot node s) Read (Run call)) g (with_read node s (Some (record { call = call; seen = g.done }))))) refl
 
 leaves_answer : (m : Opening) (g : Log) (node : NodeView) (s : ℕ) → Leaves g (read_answer m s g node)
 leaves_answer m g node s =
@@ -162,7 +160,7 @@ leaves_answer m g node s =
     (read_at node s)
   where
     part : ReadEffect → Part
-    part e = with_call_or_back (Back (session_at node s) (ReadBack (record { point = node.replica.tail; reply = e.reply }))) g (with_read node s None)
+    part e = with_call_or_back (Back (session_of_slot node s) (ReadBack (record { point = node.replica.tail; reply = e.reply }))) g (with_read node s None)
 
     of : BegunRead → Option Part
     of read = cond (may_answer read.seen g.done (own_of node)) (option_map part (store_meaning.read m.catalogue (Run read.call) node.replica.state)) None

@@ -10,7 +10,7 @@ use Rattle.schedule.specs.Steps.{node_of, part_of, took, world_after, world_of}
 use Rattle.schedule.specs.Taking.{IsStanding}
 use Rattle.settlement.specs.Settling.{handing_out, settling, NodesSettleAlone}
 use Rattle.settlement.specs.Others.{Woven, Ends, Own, OthersMove, Here, Later, NodesSettleOrOthersMove}
-use Rattle.schedule.proofs.Lists.{get_some}
+use Rattle.schedule.proofs.Export.{get_some}
 use Rattle.settlement.proofs.OwnSteps.{Fact, Stays, Leads, Chain, Stops, Then, walk, log_after, node_after, the_store, stands_on, other_step}
 use Rattle.settlement.proofs.Lines.{SideOf, IsBare, IsAbove, IsAtEnd, IsUp, HasRest, Any, NotLogged, HasRoomFor, LeavesRoomFor, IsFree, any_stays, bare_stays, above_stays, end_stays, up_stays, rest_stays, replay_empties, rebase_lifts, replay_ends, finish_completes, replay_rest, reply_ends, reclaim_frees, append_logs, batch_ends, claim_takes}
 use Rattle.settlement.proofs.NodeLists.{AreOwn, settling_own}
@@ -71,7 +71,7 @@ module _ (m : Opening) (n : ℕ) where
 
 -- ---- from a store that stands
 
--- it stands after these steps, too
+-- the store is standing after these steps, too
 pub stands_after : (m : Opening) (w : WorldView) (steps : List Step) → IsStanding (the_store m w) → IsStanding (the_store m (world_of m w steps))
 stands_after m w [] x = x
 stands_after m w (step ∷ steps) x = stands_after m (world_after w (took m w step)) steps (stands_on m w step x)

@@ -51,7 +51,7 @@ abbrev pub before_taken : Step → Option Took → List Taken → List Taken
 before_taken step None rest = rest
 before_taken step (Some r) rest = record { step = step; answer = answer_of r.event } ∷ rest
 
--- those of these steps that are taken, with what each answers
+-- the steps that are taken, with what each answers
 abbrev pub taken_of : Opening → WorldView → List Step → List Taken
 taken_of m w [] = []
 taken_of m w (step ∷ steps) = before_taken step (took m w step) (taken_of m (world_after w (took m w step)) steps)

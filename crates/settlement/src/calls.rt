@@ -15,7 +15,7 @@ use std::alloc::{AllocError, Global};
 pub struct Taken {
     /// The step.
     pub step: Step,
-    /// What it answered.
+    /// What the step answered.
     pub answer: StepAnswer,
 }
 
@@ -55,7 +55,7 @@ pub fn settle_node(alloc: Global, world: &mut World, node: u64) -> Result<Vec<Ta
     take_steps(alloc, world, steps)
 }
 
-/// The same at every node in turn: no call of the store is open then.
+/// `settle_node` at every node in turn: no call of the store is open then.
 ///
 /// # Errors
 ///

@@ -17,7 +17,7 @@ use Rattle.accounts.specs.declared.sessions.SessionNote.{SessionNote}
 use Rattle.accounts.specs.Accounts.{Extends, IsWellFormed}
 use Rattle.accounts.specs.Moves.{answered_with}
 use Rattle.accounts.specs.Told.{Tells}
-use Rattle.accounts.proofs.Finish.{grown_long}
+use Rattle.accounts.proofs.Export.{grown_long}
 use Rattle.store_steps.specs.declared.deeds.Stage.{Stage}
 use Rattle.store_steps.specs.declared.deeds.Stage.TheVariants.{Idle, Asked, Claimed, Ready}
 use Rattle.store_steps.specs.declared.steps.Caller.{Caller}
@@ -30,11 +30,8 @@ use Rattle.store_steps.specs.Views.{IsIdle, SessionView, session_view}
 use Rattle.store.specs.Sessions.{HasRoom, IsOf, StoreView}
 use Rattle.store_steps.specs.Standing.{SessionKnown, StoreSeat}
 use Rattle.store_steps.specs.Trying.{IsStill}
-use Rattle.store_steps.proofs.Gone.{asks}
-use Rattle.store_steps.proofs.Views.{both, seen_as}
+use Rattle.store_steps.proofs.Export.{asks, both, seen_as, free_by, well_formed}
 use Rattle.store.proofs.Invoked.{has_asked}
-use Rattle.store_steps.proofs.Resumed.{free_by}
-use Rattle.store_steps.proofs.Taken.{well_formed}
 
 abbrev K : Type 0
 K = SessionKnown
@@ -80,7 +77,7 @@ module _ (s : S) (caller : Caller) where
     pub well_at : (stage : Stage) → IsPolled s caller b kept stage → IsWellFormed store_meaning (session_view s).progress
     well_at stage v = let k = known_at stage v in subst (λ (z : SessionView). IsWellFormed store_meaning z.progress) (sym (seen_as s k.0 k.1)) k.2
 
-    -- its store's shelf and catalogue are these
+    -- the shelf and the catalogue of the session's store are these
     pub on_at : (shared : Shared) (store : StoreView) (stage : Stage) → IsPolled s caller b kept stage → IsOf store (session_view s) → shared.shelf.now.places ≡ 1 + store.config.nodes + store.config.nodes
         → (shared.nodes ≡ store.config.nodes) × (store.config.nodes ≤ MAX_NODES) → shared.catalogue.now ≡ store.catalogue → Knows s (IsOn shared)
     on_at shared store stage v own places nodes same =

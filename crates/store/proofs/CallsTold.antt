@@ -1,8 +1,9 @@
 -- What a session's calls say of an answer may be told.
-use Rattle.std.proofs.Common.{◌≡◌, ℕ, List, Ok, None, sym, ap, ◌∙◌, subst}
+use Rattle.std.proofs.Common.{◌≡◌, ℕ, List, [], ◌∷◌, ◌++◌, Option, Result, Ok, Err, Some, None, inl, refl, inr, sym, ap, ◌∙◌, subst}
+use Rattle.std.proofs.lemmas.Option.{none-some}
 use Rattle.maps.specs.Maps.{AreBytes}
 use Rattle.ownlock.specs.Seats.{Continues}
-use Rattle.ownlock.proofs.Run.{continues_on, continues_self}
+use Rattle.ownlock.proofs.Export.{continues_on, continues_self}
 use Rattle.verifier.specs.declared.refusal.Mode.TheVariants.{Read}
 use Rattle.loader.specs.CatalogueView.{CatalogueView}
 use Rattle.oplog.specs.Operations.{Operation}
@@ -10,13 +11,24 @@ use Rattle.combiner.specs.declared.slots.Reply.{Reply}
 use Rattle.combiner.specs.declared.slots.Reply.TheVariants.{Ended, Placed}
 use Rattle.readpath.specs.declared.reading.ReadAnswer.{ReadAnswer}
 use Rattle.replica.specs.Refusals.{early_refusal}
-use Rattle.store_steps.specs.Standing.{SessionKnown}
-use Rattle.store_steps.specs.Updating.{Begins, Combines, Rounds, UpdatesBy, Waits}
-use Rattle.store_steps.specs.Views.{SessionView, first_in, op_of}
-use Rattle.store.specs.CallsTold.{IsToldRead, ReadsAreTold, Rests, SessionsRest, TriedReadsAreTold, UpdatesAreTold}
+use Rattle.replica.specs.declared.refusals.StoreRefused.{StoreRefused}
+use Rattle.accounts.specs.declared.sessions.Pending.{Pending}
+use Rattle.accounts.specs.declared.sessions.SessionNote.{SessionNote}
+use Rattle.accounts.specs.Moves.{answered_with}
+use Rattle.store_steps.specs.Standing.{SessionKnown, StoreSeat}
+use Rattle.store_steps.specs.declared.steps.Caller.{Caller}
+use Rattle.store_steps.specs.declared.deeds.Stage.{Stage}
+use Rattle.store_steps.specs.declared.deeds.Stage.TheVariants.{Asked, Claimed, Idle, Ready}
+use Rattle.store_steps.specs.Stages.{IsAsking}
+use Rattle.store_steps.specs.Updating.{Answers, Begins, ClaimsIt, CollectsBy, Combines, DeedBy, Deeds, Gives, Looks, PostsBy, Rests as NoDeed, Rounds, Then, Tries, UpdatesBy, Waits}
+use Rattle.store_steps.specs.Views.{SessionView, first_in, op_of, session_view}
+use Rattle.store.specs.CallsTold.{ClosesTold, GoesOn, IsToldRead, IsUnderWay, PolledRest, PolledUpdatesAreTold, Posts, ReadsAreTold, Rests, SessionsRest, TriedReadsAreTold, UpdatesAreTold}
 use Rattle.store.specs.Going.{ReadGoes}
-use Rattle.store.specs.Sessions.{IsOf, StoreView, TellsRead, TellsUpdate, said}
-use Rattle.thread_order.specs.CallsMade.{noted_with}
+use Rattle.store.specs.Opening.{setup_of}
+use Rattle.store.specs.Sessions.{IsOf, StoreView, TellsRead, TellsUpdate, known_of, said}
+use Rattle.store.specs.declared.answers.Answer.{Answer}
+use Rattle.store_laws.specs.CallsMade.{PollsBy, WasUpdate, noted_with}
+use Rattle.store_laws.proofs.Export.{calls_are_explained}
 
 pub sessions_rest : SessionsRest
 sessions_rest seat caller idle =
@@ -60,6 +72,121 @@ pub updates_are_told : UpdatesAreTold
 updates_are_told old new op result rests goes tells = (
   goes.0,
   goes.1,
-  record { idle = rests; goes = goes.2; answered = noted_so old new op goes.0 (subst (TellsUpdate old new op) goes.1 tells) },
+  record { idle = rests; goes = inl goes.2; answered = noted_so old new op goes.0 (subst (TellsUpdate old new op) goes.1 tells) },
   update_goes _ _ op goes.0 goes.2,
 )
+
+-- ---- a polled update
+
+deed_goes : (k after : SessionKnown) → DeedBy k after → Continues k.run after.run
+deed_goes k after (Tries steps nothing did) = did.goes_on
+deed_goes k after (Looks batch turn) = turn.at.did.goes_on
+deed_goes k after (ClaimsIt batch turn) = turn.at.did.goes_on
+deed_goes k after (Answers node batch kept noted answers) = answers.did.goes_on
+deed_goes k after (Gives node batch kept hands) = hands.did.goes_on
+
+deeds_go : (k after : SessionKnown) → Deeds k after → Continues k.run after.run
+deeds_go k after (NoDeed j) = continues_self k.run
+deeds_go k after (Then j m i deeds deed) = continues_on k.run m.run after.run (deeds_go k m deeds) (deed_goes m after deed)
+
+deeds_on : (k m after : SessionKnown) → Deeds k m → Deeds m after → Deeds k after
+deeds_on k m after first (NoDeed j) = first
+deeds_on k m after first (Then j i n deeds deed) = Then k i after (deeds_on k m i first deeds) deed
+
+-- what is known of an update that is under way
+pub record UnderWay (old : SessionView) (op : Operation) (s : SessionView) : Type 0 where
+  pub request : Pending
+  pub op_is : request.op ≡ op
+  pub waits : s.note.pending ≡ Some request
+  pub answered : s.note.answered ≡ old.note.answered
+  pub asked : SessionKnown
+  pub posts : PostsBy (known_of old) asked op
+  pub deeds : Deeds asked (known_of s)
+
+under_way : (old : SessionView) (op : Operation) (s : SessionView) → IsUnderWay old op s → UnderWay old op s
+under_way old op s (Posts new posted goes) = record {
+  request = posted.0;
+  op_is = posted.1;
+  waits = ap (λ (n : SessionNote). n.pending) posted.3;
+  answered = ap (λ (n : SessionNote). n.answered) posted.3;
+  asked = known_of s;
+  posts = goes;
+  deeds = NoDeed (known_of s);
+}
+under_way old op s (GoesOn m new o under tells goes) =
+    let u : UnderWay old op m = under_way old op m under in
+    record {
+      request = u.request;
+      op_is = u.op_is;
+      waits = tells.0 ∙ u.waits;
+      answered = tells.1 ∙ u.answered;
+      asked = u.asked;
+      posts = u.posts;
+      deeds = deeds_on u.asked (known_of m) (known_of s) u.deeds goes;
+    }
+
+abbrev reply_in : Result Answer StoreRefused → Reply
+reply_in (Ok a) = Placed a.index a.reply
+reply_in (Err e) = Ended
+
+reply_back : (reply : Reply) → reply_in (said reply) ≡ reply
+reply_back (Placed i reply) = refl
+reply_back Ended = refl
+
+abbrev request_or : Pending → Option Pending → Pending
+request_or d (Some o) = o
+request_or d None = d
+
+-- the note of a session that has its answer
+polled_note : (n0 n : SessionNote) (op : Operation) (reply : Reply) → (n0.pending ≡ None) × (n0.batch ≡ []) → n.answered ≡ n0.answered
+    → answered_with (record n { batch = [] }) op reply ≡ noted_with n0 op reply
+polled_note n0 n op (Placed i reply) rests same = ap (λ z. record { answered = z ++ record { index = i; op = op; reply = reply } ∷ []; pending = None; batch = [] }) same
+polled_note n0 n op Ended rests same = λ i. record { answered = same i; pending = sym rests.0 i; batch = sym rests.1 i }
+
+pub polled_updates_are_told : PolledUpdatesAreTold
+polled_updates_are_told old asked new op o result rests under waits goes tells = (
+  reply,
+  goes.1,
+  record { idle = rests; goes = inr polls; answered = note },
+  continues_on old.run u.asked.run new.run u.posts.at.did.goes_on
+      (continues_on u.asked.run goes.2.0.run new.run polls_go goes.2.2.1.at.did.goes_on),
+)
+  where
+    u : UnderWay old op asked
+    u = under_way old op asked under
+
+    reply : Reply
+    reply = goes.0
+
+    deeds : Deeds u.asked goes.2.0
+    deeds = deeds_on u.asked (known_of asked) goes.2.0 u.deeds goes.2.1
+
+    polls : PollsBy (known_of old) (known_of new) op reply
+    polls = record { asked = u.asked; posts = u.posts; waited = goes.2.0; deeds = deeds; collects = goes.2.2 }
+
+    polls_go : Continues u.asked.run goes.2.0.run
+    polls_go = deeds_go u.asked goes.2.0 deeds
+
+    -- what was told is what was collected
+    one : tells.0 ≡ reply
+    one = sym (reply_back tells.0) ∙ (ap reply_in (sym tells.1 ∙ goes.1) ∙ reply_back reply)
+
+    op_is : o.op ≡ op
+    op_is = ap (λ z. (request_or o z).op) (sym waits ∙ u.waits) ∙ u.op_is
+
+    note : new.note ≡ noted_with old.note op reply
+    note =
+        tells.2.1 ∙ (ap (λ (z : Operation × Reply). answered_with (record asked.note { batch = [] }) z.0 z.1) (λ i. (op_is i, one i))
+        ∙ polled_note old.note asked.note op reply rests u.answered)
+
+not_out : (seat : StoreSeat) (caller : Caller) (k : SessionKnown) (o : Pending) → IsAsking seat caller k o → (session_view seat).note.pending ≡ None → Rests (session_view seat)
+not_out seat caller k o a none = absurd (none-some o (sym none ∙ (ap (λ ks. (first_in ks).note.pending) a.is ∙ a.pending)))
+
+pub polled_rest : PolledRest
+polled_rest seat caller batch kept Idle is none = sessions_rest seat caller is
+polled_rest seat caller batch kept Asked is none = not_out seat caller is.0 is.1 is.2 none
+polled_rest seat caller batch kept Claimed is none = not_out seat caller is.0 is.1 is.2 none
+polled_rest seat caller batch kept Ready is none = not_out seat caller is.0 is.1 is.2 none
+
+pub closes_told : ClosesTold
+closes_told store sessions closed is told = calls_are_explained (setup_of store) is.run is.progress is.notes is.leads told

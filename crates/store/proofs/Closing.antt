@@ -20,10 +20,7 @@ use Rattle.accounts.specs.declared.sessions.SessionNote.{SessionNote}
 use Rattle.accounts.specs.Accounts.{Extends, IsWellFormed}
 use Rattle.accounts.specs.Agreement.{LogAgrees, ReplicaAgrees}
 use Rattle.accounts.specs.LogSteps.{fresh_note}
-use Rattle.accounts.proofs.Ended.{ends, stand}
-use Rattle.accounts.proofs.Lists.{at_none}
-use Rattle.accounts.proofs.Puts.{at_there}
-use Rattle.accounts.proofs.Tellings.{tail_is}
+use Rattle.accounts.proofs.Export.{ends, stand, at_none, at_there, tail_is}
 use Rattle.node.specs.declared.following.NodeReplica.{NodeReplica}
 use Rattle.store_steps.specs.declared.values.Setup.{Setup}
 use Rattle.store_steps.specs.declared.values.Value.{Value}
@@ -35,7 +32,7 @@ use Rattle.store_steps.specs.Standing.{SessionKnown}
 use Rattle.store.specs.Opening.{AreIdle, AreLeft, AreOf, IsClosed, IsLogFor, closed_view, known_back, log_in, replica_slots, replicas_in}
 use Rattle.store.proofs.Joined.{back_has, back_is}
 use Rattle.store.proofs.Last.{ends_in, is_log_for}
-use Rattle.store_steps.proofs.StoreLaws.{session_laws}
+use Rattle.store_steps.proofs.Export.{session_laws}
 
 abbrev L : Type 0
 L = Progress CatalogueView

@@ -5,15 +5,13 @@ use Rattle.store_steps.specs.Views.{SessionView}
 use Rattle.store.specs.Explained.{ClosesExplained}
 use Rattle.store.specs.Opening.{ClosedView, IsClosed, setup_of}
 use Rattle.store.specs.Sessions.{StoreView}
-use Rattle.thread_order.specs.RunEvents.{opening_of}
-use Rattle.thread_order.proofs.CallsMade.{calls_are_explained}
-use Rattle.thread_order.proofs.RunEvents.{answers_are_in_run, runs_are_explained}
+use Rattle.store_laws.specs.RunEvents.{opening_of}
+use Rattle.store_laws.proofs.Export.{answers_are_in_run, runs_are_explained}
 
 pub closes_explained : (store : StoreView) (sessions : List SessionView) (closed : ClosedView) → IsClosed store sessions closed → ClosesExplained store sessions closed
 closes_explained store sessions closed c = record {
   is = c;
   explains = λ says may. runs_are_explained (opening_of (setup_of store)) (sessions_of store.config) (places_of store.config) c.run c.progress c.notes says c.leads may;
-  calls = calls_are_explained (setup_of store) c.run c.progress c.notes c.leads;
   told = λ says may a q s u at has.
       answers_are_in_run (opening_of (setup_of store)) (sessions_of store.config) (places_of store.config) c.run c.progress c.notes says c.leads may s.session q s.note u (c.noted a s at) has;
 }

@@ -9,10 +9,7 @@ use Rattle.replica.specs.StoreMeaning.{store_meaning}
 use Rattle.accounts.specs.Values.{TheDesk}
 use Rattle.accounts.specs.Agreement.{AgreesWith, desk_place}
 use Rattle.accounts.specs.LogSteps.{first_progress, fresh_note}
-use Rattle.accounts.proofs.Finish.{opens}
-use Rattle.accounts.proofs.Lists.{at_front, at_behind}
-use Rattle.accounts.proofs.Putting.{store_opens}
-use Rattle.accounts.proofs.StoreRules.{desk_store}
+use Rattle.accounts.proofs.Export.{opens, at_front, at_behind, store_opens, desk_store}
 use Rattle.store_steps.specs.declared.values.Value.{Value}
 use Rattle.store_steps.specs.declared.values.Value.TheVariants.{Log, Replica, Desk}
 use Rattle.store.specs.Places.{AreFilled, AreKept, AreShelved, IsOpenedDesk}

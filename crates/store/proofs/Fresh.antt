@@ -8,7 +8,7 @@ use Rattle.oplog.specs.declared.configuration.Sizes.{Sizes}
 use Rattle.accounts.specs.declared.sessions.Progress.{Progress}
 use Rattle.accounts.specs.declared.sessions.SessionNote.{SessionNote}
 use Rattle.accounts.specs.LogSteps.{first_progress, fresh_note}
-use Rattle.accounts.proofs.Lists.{at_none}
+use Rattle.accounts.proofs.Export.{at_none}
 use Rattle.store_steps.specs.declared.steps.Caller.{Caller}
 use Rattle.store_steps.specs.declared.values.Value.{Value}
 use Rattle.store.specs.Opening.{AreOf}
@@ -50,7 +50,7 @@ module _ (config : Sizes) (c : CatalogueView) where
       by zero count is = absurd (omega (arith, count, lt))
       by (suc n) count is = (n, omega (arith, count), is)
 
-  -- it is one of a session that waits for nothing
+  -- the seat is one of a session that waits for nothing
   inside : (a node slot slots nodes : ℕ) → a ≡ node * slots + slot → a < nodes * slots → node < nodes
   inside a node slot slots nodes is lt = ⊎_elim (λ h. h) (λ (far : nodes ≤ node). let low : nodes * slots ≤ node * slots = mul-le-mul_right slots far in absurd (omega (arith, is, lt, low))) (cases_lt node nodes)
 

@@ -13,18 +13,16 @@ use Rattle.accounts.specs.declared.sessions.SessionNote.{SessionNote}
 use Rattle.accounts.specs.Accounts.{Extends, IsWellFormed}
 use Rattle.accounts.specs.Moves.{answered_with}
 use Rattle.accounts.specs.Told.{Tells}
-use Rattle.accounts.proofs.Finish.{grown_long}
+use Rattle.accounts.proofs.Export.{grown_long}
 use Rattle.store_steps.specs.declared.steps.Caller.{Caller}
 use Rattle.store_steps.specs.declared.values.Value.{Value}
+use Rattle.store_steps.specs.AtOnce.{IsAlone}
 use Rattle.store_steps.specs.AtDesk.{HasAsked}
 use Rattle.store_steps.specs.Requests.{HasCompleted, HasPosted}
 use Rattle.store.specs.Sessions.{said, IsOf, StoreView, TellsUpdate, known_of}
 use Rattle.store_steps.specs.Views.{IsIdle, SessionView, request_of, session_view}
 use Rattle.store_steps.specs.Standing.{IsFree, SessionKnown, Stands}
-use Rattle.store_steps.proofs.Resumed.{free_by}
-use Rattle.store_steps.proofs.StoreLaws.{store_laws}
-use Rattle.store_steps.proofs.Taken.{well_formed}
-use Rattle.store_steps.proofs.Views.{view_known}
+use Rattle.store_steps.proofs.Export.{free_by, store_laws, well_formed, view_known}
 
 abbrev K : Type 0
 K = SessionKnown
@@ -38,6 +36,14 @@ has_asked k a op config p same limits alone within well = record {
   pending = ap (λ (n : SessionNote). n.pending) p.note;
   alone = ap (λ (n : SessionNote). n.batch) p.note ∙ alone;
   few = subst (λ (n : SessionNote). suc (length n.answered) < 2 ^ 64) (sym p.note) (let top = well.limit in let most = limits.limit.1 in let is = ap (λ (z : Sizes). z.limit) same in omega (arith, within, top, most, is));
+}
+
+-- who waits for nothing may ask
+pub may_ask : (k : K) (config : Sizes) → k.progress.config ≡ config → AreSizes config → k.note.pending ≡ None → k.note.batch ≡ [] → length k.note.answered ≤ length k.progress.history → IsWellFormed store_meaning k.progress → IsAlone k
+may_ask k config same limits free alone within well = record {
+  pending = free;
+  alone = alone;
+  few = let top = well.limit in let most = limits.limit.1 in let is = ap (λ (z : Sizes). z.limit) same in omega (arith, within, top, most, is);
 }
 
 -- the whole call

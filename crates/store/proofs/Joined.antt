@@ -6,7 +6,7 @@ use Rattle.loader.specs.CatalogueView.{CatalogueView}
 use Rattle.accounts.specs.declared.sessions.Progress.{Progress}
 use Rattle.accounts.specs.declared.sessions.Pending.{Pending}
 use Rattle.accounts.specs.declared.sessions.SessionNote.{SessionNote}
-use Rattle.accounts.proofs.Lists.{at_none, at_front, at_behind, at_joined}
+use Rattle.accounts.proofs.Export.{at_none, at_front, at_behind, at_joined}
 use Rattle.store_steps.specs.declared.steps.Caller.{Caller}
 use Rattle.store_steps.specs.declared.values.Value.{Value}
 use Rattle.store.specs.Opening.{AreIdle, AreOf, known_back}

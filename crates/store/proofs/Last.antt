@@ -8,10 +8,10 @@ use Rattle.replica.specs.StoreMeaning.{store_meaning}
 use Rattle.accounts.specs.declared.sessions.Progress.{Progress}
 use Rattle.accounts.specs.Accounts.{IsWellFormed}
 use Rattle.accounts.specs.Agreement.{LogAgrees}
-use Rattle.accounts.proofs.Lists.{at_of}
+use Rattle.accounts.proofs.Export.{at_of}
 use Rattle.store.specs.Opening.{IsLogFor}
 use Rattle.store_steps.specs.Shelving.{log_value}
-use Rattle.store_steps.proofs.Places.{at_drop}
+use Rattle.store_steps.proofs.Export.{at_drop}
 
 after_both : (c : CatalogueView) (state : StoreState) (first rest : History) → after store_meaning c state (first ++ rest) ≡ after store_meaning c (after store_meaning c state first) rest
 after_both c state [] rest = refl

@@ -11,3 +11,6 @@ pub mod Closing
 pub mod EachSession
 pub mod Explained
 pub mod CallsTold
+pub mod MayInstall
+pub mod Confines
+pub mod Export

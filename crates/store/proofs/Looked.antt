@@ -14,8 +14,7 @@ use Rattle.store_steps.specs.Knowing.{IsOn, Knows}
 use Rattle.store_steps.specs.Stages.{IsPolled}
 use Rattle.store_steps.specs.Standing.{IsFree, SessionKnown, StoreSeat}
 use Rattle.store_steps.specs.Views.{IsIdle, SessionView, session_view}
-use Rattle.store_steps.proofs.Gone.{on_known}
-use Rattle.store_steps.proofs.Views.{both}
+use Rattle.store_steps.proofs.Export.{on_known, both}
 use Rattle.accounts.specs.Accounts.{Extends, IsWellFormed}
 use Rattle.loader.specs.Installed.{InstalledView}
 use Rattle.replica.specs.StoreMeaning.{store_meaning}
@@ -46,7 +45,7 @@ idle_seen old new caller i m is point r = stays_idle old new caller i m is r.ses
 
 -- ---- a session whose calls wait for nobody, and of which no update is out
 
--- it has looked, and is idle still
+-- the session has looked, and is idle still
 pub record HasLooked (was : SessionView) (new : StoreSeat) (caller : Caller) (b : BatchView) (kept : RepliesView) (stage : Stage) (room : InstalledView) : Type 0 where
   pub grown : Extends was.progress (session_view new).progress
   pub well_formed : IsWellFormed store_meaning (session_view new).progress

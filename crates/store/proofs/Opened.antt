@@ -1,8 +1,7 @@
 -- What a store opens with agrees.
 use Rattle.std.proofs.Common.{◌≡◌, sym, refl, ap, subst}
 use Rattle.loader.specs.StoreState.{sizes_of}
-use Rattle.loader.proofs.States.{state_sizes}
-use Rattle.loader.proofs.Openings.{opening_is_state}
+use Rattle.loader.proofs.Export.{state_sizes, opening_is_state}
 use Rattle.loader.specs.CatalogueView.{CatalogueView, IsCatalogue, opening_state, sizes_for}
 use Rattle.oplog.specs.declared.configuration.Sizes.{Sizes}
 use Rattle.replica.specs.StoreMeaning.{store_meaning}

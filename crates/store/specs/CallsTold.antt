@@ -4,18 +4,25 @@ use Rattle.maps.specs.Maps.{AreBytes}
 use Rattle.ownlock.specs.Seats.{Continues}
 use Rattle.verifier.specs.declared.refusal.Mode.TheVariants.{Read}
 use Rattle.oplog.specs.Operations.{Operation}
+use Rattle.combiner.specs.Desks.{BatchView}
 use Rattle.combiner.specs.declared.slots.Reply.{Reply}
 use Rattle.readpath.specs.declared.reading.ReadAnswer.{ReadAnswer}
 use Rattle.replica.specs.Refusals.{early_refusal}
+use Rattle.replica.specs.Views.{RepliesView}
 use Rattle.replica.specs.declared.refusals.StoreRefused.{StoreRefused}
+use Rattle.accounts.specs.declared.sessions.Pending.{Pending}
 use Rattle.store_steps.specs.Standing.{StoreSeat}
+use Rattle.store_steps.specs.Stages.{IsPolled}
+use Rattle.store_steps.specs.Updating.{PostsBy}
 use Rattle.store_steps.specs.Views.{IsIdle, SessionView, op_of, session_view}
+use Rattle.store_steps.specs.declared.deeds.Stage.{Stage}
 use Rattle.store_steps.specs.declared.steps.Caller.{Caller}
-use Rattle.store.specs.Going.{ReadGoes, TriedReadGoes, UpdateGoes}
-use Rattle.store.specs.Polled.{TellsTriedRead}
+use Rattle.store.specs.Going.{CompleteGoes, ReadGoes, TriedReadGoes, UpdateGoes}
+use Rattle.store.specs.Opening.{ClosedView, IsClosed, setup_of}
+use Rattle.store.specs.Polled.{HasPostedFor, TellsCompleted, TellsTriedRead}
 use Rattle.store.specs.Sessions.{IsOf, StoreView, TellsRead, TellsUpdate, known_of, said}
 use Rattle.store.specs.declared.answers.Answer.{Answer}
-use Rattle.thread_order.specs.CallsMade.{WasRead, WasUpdate}
+use Rattle.store_laws.specs.CallsMade.{ExplainsCalls, ToldOf, WasRead, WasUpdate}
 
 -- a session that waits for nothing, and combines for nobody
 abbrev pub Rests : SessionView → Type 0
@@ -24,6 +31,12 @@ Rests s = (s.note.pending ≡ None) × (s.note.batch ≡ [])
 -- as it is between its calls
 abbrev pub SessionsRest : Type 0
 SessionsRest = (seat : StoreSeat) (caller : Caller) → IsIdle seat caller → Rests (session_view seat)
+
+-- so it is of a session whose calls answer at once, where no update is out
+abbrev pub PolledRest : Type 0
+PolledRest =
+    (seat : StoreSeat) (caller : Caller) (batch : BatchView) (kept : RepliesView) (stage : Stage) → IsPolled seat caller batch kept stage
+    → (session_view seat).note.pending ≡ None → Rests (session_view seat)
 
 -- a read by this program that got this answer may be listed as a read, and the run has gone on
 abbrev pub IsToldRead : (old new : SessionView) → (program : ℕ) → List ℕ → ReadAnswer → Type 0
@@ -48,3 +61,24 @@ abbrev pub UpdatesAreTold : Type 0
 UpdatesAreTold =
     (old new : SessionView) (op : Operation) (result : Result Answer StoreRefused) → Rests old → UpdateGoes old new op result → TellsUpdate old new op result
     → (reply : Reply) × (result ≡ said reply) × WasUpdate (known_of old) (known_of new) op reply × Continues old.run new.run
+
+-- a session has posted an operation, and has gone on with it by calls that had no answer
+pub data IsUnderWay (old : SessionView) (op : Operation) : SessionView → Type 0 where
+  -- `posted` and `goes` of `Polled::try_post` and `Polled::try_install` say so where the operation was posted
+  Posts : (new : SessionView) → HasPostedFor old new op → PostsBy (known_of old) (known_of new) op → IsUnderWay old op new
+  -- `completed` and `goes` of `Polled::try_complete` where it had no answer
+  GoesOn : (m new : SessionView) (o : Pending) → IsUnderWay old op m → TellsCompleted m new o None → CompleteGoes m new None → IsUnderWay old op new
+
+-- where the next `Polled::try_complete` has the answer, all these calls may be listed as one update
+abbrev pub PolledUpdatesAreTold : Type 0
+PolledUpdatesAreTold =
+    (old asked new : SessionView) (op : Operation) (o : Pending) (result : Result Answer StoreRefused) → Rests old → IsUnderWay old op asked
+    → asked.note.pending ≡ Some o → CompleteGoes asked new (Some result) → TellsCompleted asked new o (Some result)
+    → (reply : Reply) × (result ≡ said reply) × WasUpdate (known_of old) (known_of new) op reply × Continues old.run new.run
+
+-- the history of a closed store explains the calls of all its sessions, whatever calls are listed for each: each session has exactly these, in
+-- their order
+abbrev pub ClosesTold : Type 0
+ClosesTold =
+    (store : StoreView) (sessions : List SessionView) (closed : ClosedView) (is : IsClosed store sessions closed) (told : (a : ℕ) → ToldOf (setup_of store) is.run a)
+    → ExplainsCalls (setup_of store) is.progress.history is.run told

@@ -1,4 +1,4 @@
--- Of which steps the calls of a session are made, as their users see them, where they are not refused.
+-- The steps of which the calls of a session are made, as their users see them, if the calls are not refused.
 use Rattle.std.specs.Prelude.{◌≡◌, ℕ, List, Option, Result, IfOk, IfSome, MatchOption}
 use Rattle.oplog.specs.Operations.{Operation}
 use Rattle.readpath.specs.declared.reading.ReadAnswer.{ReadAnswer}
@@ -11,6 +11,7 @@ use Rattle.store_steps.specs.Views.{SessionView}
 use Rattle.combiner.specs.declared.slots.Reply.{Reply}
 use Rattle.store.specs.declared.answers.Answer.{Answer}
 use Rattle.store.specs.Sessions.{known_of, said}
+use Rattle.store_steps.specs.Polling.{BeginsBy}
 use Rattle.store_steps.specs.Standing.{SessionKnown}
 use Rattle.store_steps.specs.Updating.{CollectsBy, Deeds, PostsBy, UpdatesBy}
 use Rattle.store_steps.specs.Whole.{ReadsBy}
@@ -23,6 +24,10 @@ UpdateGoes old new op result = (reply : Reply) × (result ≡ said reply) × Upd
 -- a post, unless the desk is held
 abbrev pub PostGoes : {A : Type 0} → (old new : SessionView) → Operation → Result (Option A) StoreRefused → Type 0
 PostGoes old new op result = IfOk result (λ o. IfSome o (λ _. PostsBy (known_of old) (known_of new) op))
+
+-- a post and what the session did in the same hold, unless the desk is held
+abbrev pub BeginGoes : {A : Type 0} → (old new : SessionView) → Operation → Result (Option A) StoreRefused → Type 0
+BeginGoes old new op result = IfOk result (λ o. IfSome o (λ _. BeginsBy (known_of old) (known_of new) op))
 
 -- a call that goes on with an update, deed by deed; where it has the answer, that was collected last
 abbrev pub CompleteGoes : (old new : SessionView) → Option (Result Answer StoreRefused) → Type 0

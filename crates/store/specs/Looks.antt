@@ -64,7 +64,7 @@ GetGoes old new of before value result = IfOk result (FindsBy old new of before 
 
 -- ---- a state
 
--- of which steps it was taken
+-- the steps by which the state was taken
 abbrev pub SnapshotGoes : (old new : SessionView) → (point : ℕ) → StoreState → Type 0
 SnapshotGoes old new point state = TakesBy (known_of old) (known_of new) point state
 
@@ -74,13 +74,13 @@ SnapshotGoes old new point state = TakesBy (known_of old) (known_of new) point s
 abbrev pub TellsTried : {A E : Type 0} → Result (Option A) E → (A → Type 0) → Type 0
 TellsTried result P = MatchResult result (λ o. IfSome o P) (λ _. ⊥)
 
--- it went by such steps, where it found no place held
+-- P holds of the answer, if the call found no place held
 abbrev pub TriedGoes : {A E : Type 0} → Result (Option A) E → (A → Type 0) → Type 0
 TriedGoes result P = IfOk result (λ o. IfSome o P)
 
 -- P holds where there is no answer
-abbrev pub UnlessAnswered : {A E : Type 0} → Result (Option A) E → Type 0 → Type 0
-UnlessAnswered result P = MatchResult result (λ o. IfNone o P) (λ _. P)
+abbrev pub IfUnanswered : {A E : Type 0} → Result (Option A) E → Type 0 → Type 0
+IfUnanswered result P = MatchResult result (λ o. IfNone o P) (λ _. P)
 
 -- a scan gave this page, at a point that is not below what was completed when the session looked
 abbrev pub IsScan : (old new : SessionView) → Beginning → (key_room value_room : ℕ) → (keys values : List ℕ) → Scan → Type 0

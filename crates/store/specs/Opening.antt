@@ -93,7 +93,7 @@ pub record IsClosed (store : StoreView) (sessions : List SessionView) (closed : 
   pub of : (progress.config ≡ store.config) × (progress.catalogue ≡ store.catalogue)
   pub well_formed : IsWellFormed store_meaning progress
   pub grown : (a : ℕ) (s : SessionView) → At a s sessions → Extends s.progress progress
-  -- its catalogue is the store's, and its last state that after the whole history
+  -- the closed store's catalogue is the store's, and its last state is that after the whole history
   pub catalogue : closed.catalogue ≡ store.catalogue
   pub last : last_state closed ≡ state_after store_meaning store.catalogue progress.history (length progress.history)
   -- the log agrees with it, and has the store's sizes

@@ -7,16 +7,21 @@ use Rattle.replica.specs.declared.refusals.StoreRefused.{StoreRefused}
 use Rattle.accounts.specs.declared.sessions.Pending.{Pending}
 use Rattle.store.specs.declared.answers.Answer.{Answer}
 use Rattle.store.specs.Sessions.{BeginsWithin, TellsRead, said}
+use Rattle.store_steps.specs.Polling.{HasAskedFor}
 use Rattle.store_steps.specs.Stages.{IsOnItsWay, TellsDone}
 use Rattle.store_steps.specs.Views.{SessionView}
 
--- it waits for the answer to this operation, which it posted when the history was no shorter than it had known
+-- the session waits for the answer to this operation, which it posted when the history was no shorter than it had known
 abbrev pub HasPostedFor : (old new : SessionView) → Operation → Type 0
 HasPostedFor old new op = (o : Pending) × (o.op ≡ op) × (length old.progress.history ≤ o.seen) × (new.note ≡ record old.note { pending = Some o })
 
 -- a post that isn't refused: where its desk is held the session is as it was, else the operation is posted, once
 abbrev pub TellsPost : {A : Type 0} → (old new : SessionView) → Operation → Result (Option A) StoreRefused → Type 0
 TellsPost old new op result = MatchResult result (λ o. MatchOption o (new ≡ old) (λ _. HasPostedFor old new op)) (λ _. ⊥)
+
+-- the same, but the session may have claimed a batch in the same hold
+abbrev pub TellsAsked : {A : Type 0} → (old new : SessionView) → Operation → Result (Option A) StoreRefused → Type 0
+TellsAsked old new op result = MatchResult result (λ o. MatchOption o (new ≡ old) (λ _. HasAskedFor old new op)) (λ _. ⊥)
 
 abbrev pub TellsAnswer : (old new : SessionView) → Pending → Result Answer StoreRefused → Type 0
 TellsAnswer old new o result = (reply : Reply) × (result ≡ said reply) × TellsDone old new o reply

@@ -27,7 +27,7 @@ use Rattle.store_steps.specs.Scanning.{ScanGives}
 use Rattle.store_steps.specs.Standing.{SessionKnown, StoreSeat}
 use Rattle.store_steps.specs.Views.{SessionView, request_of, session_view}
 
--- which shelf a store has, and what it was opened with
+-- the shelf of a store, and what the store was opened with
 pub record StoreView : Type 0 where
   pub id : ShelfId
   pub config : Sizes
@@ -63,7 +63,7 @@ HasRoom room s = IsRoomFor (session_view s).progress.catalogue.shapes room
 abbrev pub new_program : Mode → ℕ → List ℕ → NewProgram
 new_program mode arg_len bytes = record { mode = mode; arg_len = arg_len; bytes = bytes }
 
--- its installing, as an operation, and its refusal by a store
+-- the install of a program, as an operation, and its refusal by a store
 abbrev pub install_of : Mode → ℕ → List ℕ → Operation
 install_of mode arg_len bytes = Install (new_program mode arg_len bytes)
 

@@ -3,7 +3,7 @@
 /// The answer to an update.
 #[derive(Clone, Copy, Debug, PartialEq, Eq)]
 pub struct Answer {
-    /// Its index in the history, from 0.
+    /// The update's index in the history, from 0.
     pub index: u64,
     /// What its program replied there.
     pub reply: u64,

@@ -25,7 +25,7 @@ pub(crate) fn write(op: &mut Op, asked: Asked<'_>)
     }
 }
 
-// Its locals have the room of a program, which is cleared where they are made.
+// Makes `op` an install. The locals have the room of a program, which is cleared where they are made.
 #[inline(never)]
 fn set_install(op: &mut Op, program: &NewProgram)
     ensures op { op.new ≡ Install program.now }

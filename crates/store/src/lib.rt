@@ -10,11 +10,14 @@ mod opening;
 mod polled;
 mod session;
 mod store;
+mod updating;
+mod within;
 
 pub use answers::Answer;
 pub use closed::Closed;
 pub use laws::calls_are_told;
-pub use loader::{Catalogue, LoadError, StoreState, load_manifest};
+pub use loader::{Catalogue, LoadError, StoreState, load_manifest, load_manifest_within};
+pub use maps::MapLimits;
 pub use node::NodeReplica;
 pub use oplog::{Config, ENDLESS, OpenError, Sizes};
 pub use polled::Polled;
@@ -27,3 +30,4 @@ pub use store_steps::{
     Setup, Value, desks,
 };
 pub use verifier::Mode;
+pub use within::Confined;

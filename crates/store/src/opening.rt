@@ -2,7 +2,7 @@
 
 ghost use Rattle.std.specs.Prelude.{◌≡◌, ◌+◌, ◌*◌, ◌<◌, ◌≤◌, [], length, replicate, vec_capacity, IfOk};
 ghost use Rattle.std.specs.List.{All};
-ghost use Rattle.maps.specs.Shapes.{AreShapesOk};
+ghost use Rattle.maps.specs.Shapes.{AreShapesSupported};
 ghost use Rattle.loader.specs.CatalogueView.{IsCatalogue, OpensOn, opening_state};
 ghost use Rattle.replica.specs.Refusals.{IsRoomFor};
 ghost use Rattle.oplog.specs.Limits.{AreSizes};
@@ -121,7 +121,7 @@ pub(crate) fn session_rooms(
     shapes: &[Shape],
     count: usize,
 ) -> Result<Vec<Installed>, AllocError>
-    requires shapes { AreShapesOk shapes.now }
+    requires shapes { AreShapesSupported shapes.now }
     ensures rooms { IfOk result (λ v. All (IsRoomFor shapes.now) v.items × (length v.items ≡ count)) }
 {
     let mut rooms = Vec::with_capacity(alloc, count)?;

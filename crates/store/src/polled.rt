@@ -11,7 +11,8 @@ ghost use Rattle.store.specs.Going.{CompleteGoes, PostGoes, TriedReadGoes};
 ghost use Rattle.store_steps.specs.Views.{op_of};
 ghost use Rattle.store.specs.Sessions.{IsFresh, IsOf, known_of, install_of, install_refused};
 ghost use Rattle.store_steps.specs.Stages.{HasDone};
-ghost use Rattle.store_steps.specs.Updating.{DeedGoes, PostsBy};
+ghost use Rattle.store_steps.specs.Polling.{DeedsGo};
+ghost use Rattle.store_steps.specs.Updating.{PostsBy};
 ghost use Rattle.loader.specs.CatalogueView.{sizes_for};
 ghost use Rattle.loader.specs.StoreState.{sizes_of};
 ghost use Rattle.store_steps.specs.declared.getting.GetRefused.{GetRefused};
@@ -21,7 +22,7 @@ ghost use Rattle.store_steps.specs.Questions.{first_refused};
 ghost use Rattle.store_steps.specs.Scanning.{scan_refusal};
 ghost use Rattle.store.specs.Looks.{AnswerBy, AreAnswers, FindsBy, GoesToSee, IsFound, IsRefused, IsScan, IsSight, MayScan, PagesBy, SnapshotGoes, key_refused};
 ghost use Rattle.store_steps.specs.Snapshots.{SnapshotTells};
-ghost use Rattle.store.specs.Looks.{TellsTried, TriedGoes, UnlessAnswered};
+ghost use Rattle.store.specs.Looks.{TellsTried, TriedGoes, IfUnanswered};
 ghost use Rattle.store.specs.Polled.{HasPostedFor, TellsCompleted, TellsPost, TellsTriedRead};
 
 use crate::answers::Answer;
@@ -36,7 +37,8 @@ use replica::{Replies, StoreRefused, check_call, check_install};
 use std::marker::Model;
 use store_steps::{
     Beginning, Caller, Deed, Get, GetRefused, Here, Look, Lookup, MapKey, Page, Question,
-    QuestionRefused, Reads, Scan, ScanRefused, Snapshot, Stage, Value, go_on, try_look, try_post,
+    QuestionRefused, Reads, Scan, ScanRefused, Snapshot, Stage, Value, go_on, go_on_at_once,
+    try_look, try_post,
 };
 use verifier::Mode;
 
@@ -50,15 +52,17 @@ const DEEDS: usize = 16;
 /// of its node. If the session is dropped then, these and all later updates of the node are never answered.
 #[derive(Drop)]
 pub struct Polled {
-    seat: Seat<Value>,
-    caller: Caller,
+    pub(crate) seat: Seat<Value>,
+    pub(crate) caller: Caller,
     // Room for the requests that it combines.
-    batch: Batch,
+    pub(crate) batch: Batch,
     // Room for what their programs answer.
-    replies: Replies,
+    pub(crate) replies: Replies,
     // Room to find out whether a program may be installed.
-    room: Installed,
-    stage: Stage,
+    pub(crate) room: Installed,
+    pub(crate) stage: Stage,
+    // Whether the update that is out goes by four takes.
+    pub(crate) at_once: bool,
 }
 
 impl Model for Polled {
@@ -89,6 +93,7 @@ impl Polled {
             replies: Replies::new(0, 0),
             room,
             stage: Stage::Idle,
+            at_once: false,
         }
     }
 
@@ -104,6 +109,7 @@ impl Polled {
             batch: _batch,
             replies: _replies,
             stage: _stage,
+            at_once: _at_once,
         } = self;
         Session::new(seat, caller, room)
     }
@@ -120,7 +126,7 @@ impl Polled {
 
     // Posts an operation that is not refused. `None` where the desk is held.
     #[inline(always)]
-    fn post(&mut self, store: &Store, op: &Op) -> Option<()>
+    pub(crate) fn post(&mut self, store: &Store, op: &Op) -> Option<()>
         requires own { IsOf store.now self.old }
         requires idle { self.old.note.pending ≡ None }
         requires update { is_operation Update store.now.catalogue op.now ≡ true }
@@ -137,6 +143,7 @@ impl Polled {
             seat,
             caller,
             stage,
+            at_once,
             ..
         } = self;
         let here = Here {
@@ -147,6 +154,7 @@ impl Polled {
             return None;
         };
         *stage = Stage::Asked;
+        *at_once = false;
         Some(())
     }
 
@@ -156,6 +164,35 @@ impl Polled {
     /// # Errors
     ///
     /// S1 unknown program, S2 argument length, S3 not an update: nothing is done then.
+    ///
+    /// # Examples
+    ///
+    /// ```
+    /// use store::{Answer, Config, Polled, Store, load_manifest};
+    ///
+    /// let manifest = "map array 8 16\nprogram set update 0 five.hex\nprogram see read 0 five.hex\n";
+    /// let files = [("five.hex", "b7000000050000009500000000000000")]; // a program that replies 5
+    /// let catalogue = load_manifest(rt.alloc(), manifest, &files)?;
+    /// let config = Config { nodes: 1, slots: 1, window: 16, limit: 100, spare: 1 };
+    /// let (store, mut sessions) = Store::open(rt.alloc(), config, catalogue)?;
+    /// let Some(mut session) = sessions.pop() else { unreachable!() };
+    ///
+    /// let mut polled = Polled::new(session);
+    /// let posted = polled.try_post(&store, 0, &[]);
+    /// // Nobody else holds a place, so the first try ends the update.
+    /// let answer = polled.try_complete(&store);
+    /// let session = polled.into_session();
+    ///
+    /// // `close` spends the session. The list that it came in has room for it.
+    /// sessions.push_reserved(session);
+    /// let closed = match store.close(sessions) {
+    ///     Ok(closed) => closed,
+    ///     Err(_) => unreachable!(),
+    /// };
+    /// assert_eq!(rt; posted, Ok(Some(())));
+    /// assert_eq!(rt; answer, Some(Ok(Answer { index: 0, reply: 5 })));
+    /// assert_eq!(rt; closed.log().tail(), 1);
+    /// ```
     pub fn try_post(
         &mut self,
         store: &Store,
@@ -175,6 +212,7 @@ impl Polled {
         ensures goes { early_refusal store.now.catalogue Update program argument.now ≡ None
             → PostGoes self.old self.new (op_of program argument.now) result }
     {
+        // (the session's invariant, where the call is refused and no other part is looked at)
         let _seat = &self.seat;
         check_call(store.catalogue(), Mode::Update, program, argument)?;
         let call = Call::new(program, argument);
@@ -226,7 +264,7 @@ impl Polled {
         ensures grown { Extends self.old.progress self.new.progress }
         ensures well_formed { IsWellFormed store_meaning self.new.progress }
         ensures done { (o : Pending) → self.old.note.pending ≡ Some o → HasDone self.old self.new o result }
-        ensures goes { DeedGoes (known_of self.old) (known_of self.new) result }
+        ensures goes { DeedsGo (known_of self.old) (known_of self.new) result }
     {
         let shared = store.shared();
         let Polled {
@@ -235,12 +273,16 @@ impl Polled {
             batch,
             replies,
             stage,
+            at_once,
             ..
         } = self;
         let here = Here {
             shared,
             caller: *caller,
         };
+        if *at_once {
+            return go_on_at_once(here, seat, batch, replies, stage);
+        }
         go_on(here, seat, batch, replies, stage)
     }
 
@@ -260,6 +302,7 @@ impl Polled {
         ensures completed { (o : Pending) → self.old.note.pending ≡ Some o → TellsCompleted self.old self.new o result }
         ensures goes { CompleteGoes self.old self.new result }
     {
+        // (the session's invariant, from which the loop's begins)
         let _seat = &self.seat;
         for _ in 0..DEEDS {
             match self.deed(store) {
@@ -285,7 +328,7 @@ impl Polled {
         ensures grown { Extends self.old.progress self.new.progress }
         ensures well_formed { IsWellFormed store_meaning self.new.progress }
         ensures early { IsRefused (L.refusal look.old store.now.catalogue) result (self.new ≡ self.old) }
-        ensures kept { UnlessAnswered result (look.new ≡ look.old) }
+        ensures kept { IfUnanswered result (look.new ≡ look.old) }
         ensures lent { TriedGoes result (λ _. L.lent look.old look.new) }
         ensures told { L.refusal look.old store.now.catalogue ≡ None
             → TellsTried result (IsSight (L.sees look.old look.new) L.point self.old self.new) }
@@ -349,7 +392,7 @@ impl Polled {
         requires room { length replies.old ≡ length questions.now }
         ensures early { (r : QuestionRefused) → first_refused store.now.catalogue 0 questions.now ≡ Some r → (result ≡ Err r)
             × (self.new ≡ self.old) }
-        ensures kept { UnlessAnswered result (replies.new ≡ replies.old) }
+        ensures kept { IfUnanswered result (replies.new ≡ replies.old) }
         ensures own { IsOf store.now self.new }
         ensures same { (self.new.shelf ≡ self.old.shelf) × (self.new.session ≡ self.old.session) × (self.new.note ≡ self.old.note) }
         ensures grown { Extends self.old.progress self.new.progress }
@@ -379,7 +422,7 @@ impl Polled {
         requires idle { self.old.note.pending ≡ None }
         ensures early { (r : ScanRefused) → scan_refusal store.now.catalogue begin.map begin.from ≡ Some r → (result ≡ Err r)
             × (self.new ≡ self.old) }
-        ensures kept { UnlessAnswered result ((keys.new ≡ keys.old) × (values.new ≡ values.old)) }
+        ensures kept { IfUnanswered result ((keys.new ≡ keys.old) × (values.new ≡ values.old)) }
         ensures own { IsOf store.now self.new }
         ensures same { (self.new.shelf ≡ self.old.shelf) × (self.new.session ≡ self.old.session) × (self.new.note ≡ self.old.note) }
         ensures grown { Extends self.old.progress self.new.progress }
@@ -414,7 +457,7 @@ impl Polled {
         requires own { IsOf store.now self.old }
         requires idle { self.old.note.pending ≡ None }
         ensures early { (r : GetRefused) → key_refused store.now of.entry (length value.old) ≡ Some r → (result ≡ Err r) × (self.new ≡ self.old) }
-        ensures kept { UnlessAnswered result (value.new ≡ value.old) }
+        ensures kept { IfUnanswered result (value.new ≡ value.old) }
         ensures own { IsOf store.now self.new }
         ensures same { (self.new.shelf ≡ self.old.shelf) × (self.new.session ≡ self.old.session) × (self.new.note ≡ self.old.note) }
         ensures grown { Extends self.old.progress self.new.progress }

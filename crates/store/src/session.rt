@@ -33,7 +33,8 @@ use std::marker::Model;
 use std::sync::Wait;
 use store_steps::{
     Batches, Beginning, Caller, Get, GetRefused, Here, Look, Lookup, MapKey, Page, Question,
-    QuestionRefused, Reads, Room, Scan, ScanRefused, Snapshot, Value, complete, look_waiting, post,
+    QuestionRefused, Reads, Room, Scan, ScanRefused, Snapshot, Value, ask_at_once, complete,
+    look_waiting, post,
 };
 use verifier::Mode;
 
@@ -45,7 +46,7 @@ pub struct Session {
     // Room for what it combines, and what it has combined.
     combining: Room,
     // Room to find out whether a program may be installed.
-    room: Installed,
+    pub(crate) room: Installed,
     // Room for the operation that it asks for.
     op: Op,
 }
@@ -90,7 +91,7 @@ impl Session {
         }
     }
 
-    // Its seat, its slot, and its room for a program.
+    // Gives the session's seat, its slot, and its room for a program.
     pub(crate) fn into_room(self) -> (Seat<Value>, Caller, Installed)
         ensures shelf { result.0.shelf ≡ self.shelf }
         ensures known { result.0.sessions ≡ known_of self ∷ [] }
@@ -107,7 +108,7 @@ impl Session {
         (seat, caller, room)
     }
 
-    /// Its seat, and its slot, for who makes its steps one by one. A seat that is let go leaves the store without this session, so that it
+    /// Gives the session's seat and slot, to make its steps one by one. A seat that is let go leaves the store without this session, so that it
     /// can't be closed.
     pub fn into_parts(self) -> (Seat<Value>, Caller)
         ensures shelf { result.0.shelf ≡ self.shelf }
@@ -118,13 +119,13 @@ impl Session {
         (seat, caller)
     }
 
-    /// What it has combined since it was opened, or came back from a [`Polled`](crate::Polled), which counts nothing. For statistics: no clause speaks of it.
+    /// What the session has combined since it was opened or came back from a [`Polled`](crate::Polled), which counts nothing. No clause speaks of it.
     pub fn batches(&self) -> Batches {
         self.combining.batches
     }
 
     // Has an update performed that is not refused, as the next operation of the history.
-    fn update<R: Wait>(
+    pub(crate) fn perform<R: Wait>(
         &mut self,
         rt: &R,
         store: &Store,
@@ -149,6 +150,33 @@ impl Session {
         post(rt, here, &mut self.seat, &self.op);
         let reply = complete(rt, here, &mut self.seat, &mut self.combining);
         answer_of(reply)
+    }
+
+    // The same by four takes: it posts and claims in one hold of the desk, and answers its batch and collects in another.
+    fn perform_at_once<R: Wait>(
+        &mut self,
+        rt: &R,
+        store: &Store,
+        asked: Asked<'_>,
+    ) -> Result<Answer, StoreRefused>
+        requires own { IsOf store.now self.old }
+        requires fits { FitsCall asked }
+        requires update { is_operation Update store.now.catalogue (operation_of asked) ≡ true }
+        ensures own { IsOf store.now self.new }
+        ensures same { (self.new.shelf ≡ self.old.shelf) × (self.new.session ≡ self.old.session) }
+        ensures grown { Extends self.old.progress self.new.progress }
+        ensures well_formed { IsWellFormed store_meaning self.new.progress }
+        ensures answered { TellsUpdate self.old self.new (operation_of asked.entry) result }
+        ensures goes { UpdateGoes self.old self.new (operation_of asked.entry) result }
+    {
+        let shared = store.shared();
+        let here = Here {
+            shared,
+            caller: self.caller,
+        };
+        write(&mut self.op, asked);
+        let given = ask_at_once(rt, here, &mut self.seat, &self.op, &mut self.combining);
+        answer_of(given)
     }
 
     /// Runs an update program of the store on its argument, as the next operation of the history. A number behind the catalogue's programs
@@ -180,7 +208,38 @@ impl Session {
         let _seat = &self.seat;
         check_call(store.catalogue(), Mode::Update, program, argument)?;
         let question = Question { program, argument };
-        self.update(rt, store, Asked::Call(question))
+        self.perform(rt, store, Asked::Call(question))
+    }
+
+    /// Runs an update program as [`invoke`](Session::invoke) does, with four takes where `invoke` has six: where nobody else combines, it takes the desk
+    /// of its node, the replica, the log, and the desk again.
+    ///
+    /// # Errors
+    ///
+    /// As with [`invoke`](Session::invoke).
+    pub fn update<R: Wait>(
+        &mut self,
+        rt: &R,
+        store: &Store,
+        program: u16,
+        argument: &[u8],
+    ) -> Result<Answer, StoreRefused>
+        requires own { IsOf store.now self.old }
+        ensures own { IsOf store.now self.new }
+        ensures same { (self.new.shelf ≡ self.old.shelf) × (self.new.session ≡ self.old.session) }
+        ensures grown { Extends self.old.progress self.new.progress }
+        ensures well_formed { IsWellFormed store_meaning self.new.progress }
+        ensures early { (r : StoreRefused) → early_refusal store.now.catalogue Update program argument.now ≡ Some r → (result ≡ Err r)
+            × (self.new ≡ self.old) }
+        ensures answered { early_refusal store.now.catalogue Update program argument.now ≡ None
+            → TellsUpdate self.old self.new (op_of program argument.now) result }
+        ensures goes { early_refusal store.now.catalogue Update program argument.now ≡ None
+            → UpdateGoes self.old self.new (op_of program argument.now) result }
+    {
+        let _seat = &self.seat;
+        check_call(store.catalogue(), Mode::Update, program, argument)?;
+        let question = Question { program, argument };
+        self.perform_at_once(rt, store, Asked::Call(question))
     }
 
     /// Installs a program in the store, as the next operation of the history: its instructions as bytes, for arguments of `arg_len` bytes. The
@@ -192,6 +251,34 @@ impl Session {
     /// S6 where there are more than 192 bytes of instructions or 64 of an argument, S7 where the bytes are no program, S8 where the program isn't
     /// safe for the store's maps: nothing is done then. S4: the history has all its records, and this request has none. The session goes on
     /// after each.
+    ///
+    /// # Examples
+    ///
+    /// ```
+    /// use store::{Answer, Config, Mode, ReadAnswer, Store, load_manifest};
+    ///
+    /// let manifest = "map array 8 16\nprogram set update 0 five.hex\nprogram see read 0 five.hex\n";
+    /// let files = [("five.hex", "b7000000050000009500000000000000")]; // a program that replies 5
+    /// let catalogue = load_manifest(rt.alloc(), manifest, &files)?;
+    /// let config = Config { nodes: 1, slots: 1, window: 16, limit: 100, spare: 1 };
+    /// let (store, mut sessions) = Store::open(rt.alloc(), config, catalogue)?;
+    /// let Some(mut session) = sessions.pop() else { unreachable!() };
+    ///
+    /// // The catalogue has programs 0 and 1, so the first place is number 2.
+    /// let six = [0xb7, 0, 0, 0, 6, 0, 0, 0, 0x95, 0, 0, 0, 0, 0, 0, 0];
+    /// let placed = session.install(&rt, &store, Mode::Read, 0, &six);
+    /// let seen = session.read(&rt, &store, 2, &[]);
+    ///
+    /// // `close` spends the session. The list that it came in has room for it.
+    /// sessions.push_reserved(session);
+    /// let closed = match store.close(sessions) {
+    ///     Ok(closed) => closed,
+    ///     Err(_) => unreachable!(),
+    /// };
+    /// assert_eq!(rt; placed, Ok(Answer { index: 0, reply: 2 }));
+    /// assert_eq!(rt; seen, Ok(ReadAnswer { point: 1, reply: 6 }));
+    /// assert_eq!(rt; closed.log().tail(), 1);
+    /// ```
     pub fn install<R: Wait>(
         &mut self,
         rt: &R,
@@ -214,7 +301,7 @@ impl Session {
     {
         check_install(&mut self.room, mode, arg_len as u64, bytes)?;
         let program = NewProgram::new(mode, arg_len, bytes);
-        self.update(rt, store, Asked::New(&program))
+        self.perform(rt, store, Asked::New(&program))
     }
 
     // Looks at the replica of the session's node, once the replica has everything that was completed when the call began.

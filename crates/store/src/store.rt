@@ -21,6 +21,32 @@ use std::marker::Model;
 use store_steps::{Setup, Shared, Value, records_worth};
 
 /// A log of updates, and a replica of the maps for each node. Sessions work on it from any number of threads.
+///
+/// # Examples
+///
+/// ```
+/// use store::{Answer, Config, ReadAnswer, Store, load_manifest};
+///
+/// let manifest = "map array 8 16\nprogram set update 0 five.hex\nprogram see read 0 five.hex\n";
+/// let files = [("five.hex", "b7000000050000009500000000000000")]; // a program that replies 5
+/// let catalogue = load_manifest(rt.alloc(), manifest, &files)?;
+/// let config = Config { nodes: 1, slots: 1, window: 16, limit: 100, spare: 1 };
+/// let (store, mut sessions) = Store::open(rt.alloc(), config, catalogue)?;
+/// let Some(mut session) = sessions.pop() else { unreachable!() };
+///
+/// let answer = session.invoke(&rt, &store, 0, &[]);
+/// let seen = session.read(&rt, &store, 1, &[]);
+///
+/// // `close` spends the session. The list that it came in has room for it.
+/// sessions.push_reserved(session);
+/// let closed = match store.close(sessions) {
+///     Ok(closed) => closed,
+///     Err(_) => unreachable!(),
+/// };
+/// assert_eq!(rt; answer, Ok(Answer { index: 0, reply: 5 }));
+/// assert_eq!(rt; seen, Ok(ReadAnswer { point: 1, reply: 5 }));
+/// assert_eq!(rt; closed.log().tail(), 1);
+/// ```
 #[derive(Drop)]
 pub struct Store {
     shelf: Shelf<Value>,
@@ -100,7 +126,7 @@ impl Store {
         }
     }
 
-    /// The same store on a state that was taken out of another ([`Closed::into_state`]), or made by hand: its maps have what the state's maps
+    /// `open`, but on a state that was taken out of another store ([`Closed::into_state`]), or made by hand: the maps have what the state's maps
     /// have, and the programs that were installed there are installed. All that the store explains begins with this state. The state is
     /// copied for the log and for each node.
     ///
@@ -108,6 +134,33 @@ impl Store {
     ///
     /// O1 where a number of the configuration is out of its limits, then O3 where the state has other maps than the catalogue or more
     /// programs than the configuration has places, then O2 where there is no memory.
+    ///
+    /// # Examples
+    ///
+    /// ```
+    /// use store::{Config, ReadAnswer, Store, StoreState, load_manifest};
+    ///
+    /// let manifest = "map array 8 16\nprogram see read 0 five.hex\n";
+    /// let files = [("five.hex", "b7000000050000009500000000000000")]; // a program that replies 5
+    /// let catalogue = load_manifest(rt.alloc(), manifest, &files)?;
+    /// let state = StoreState::open(rt.alloc(), &catalogue)?;
+    /// let config = Config { nodes: 1, slots: 1, window: 16, limit: 100, spare: 1 };
+    /// let (store, mut sessions) = Store::open_on(rt.alloc(), config, catalogue, &state)?;
+    /// let Some(mut session) = sessions.pop() else { unreachable!() };
+    ///
+    /// // Indices and points count from 0 again.
+    /// let seen = session.read(&rt, &store, 0, &[]);
+    ///
+    /// // `close` spends the session. The list that it came in has room for it.
+    /// sessions.push_reserved(session);
+    /// let closed = match store.close(sessions) {
+    ///     Ok(closed) => closed,
+    ///     Err(_) => unreachable!(),
+    /// };
+    /// let (_, catalogue) = closed.into_state();
+    /// assert_eq!(rt; seen, Ok(ReadAnswer { point: 0, reply: 5 }));
+    /// assert_eq!(rt; catalogue.number("see"), Some(0));
+    /// ```
     pub fn open_on(
         alloc: Global,
         config: Config,
@@ -256,7 +309,7 @@ impl Store {
         }
     }
 
-    /// Its maps and programs, and how many places are behind these.
+    /// The maps and programs of the store, and how many places come after them.
     pub fn catalogue(&self) -> &Catalogue
         ensures catalogue { result.now ≡ self.now.catalogue }
     {

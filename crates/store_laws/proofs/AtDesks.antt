@@ -11,10 +11,10 @@ use Rattle.combiner.specs.declared.slots.DeskRefused.{DeskRefused}
 use Rattle.combiner.specs.declared.slots.DeskRefused.TheVariants.{CombinerAtWork, NothingPosted}
 use Rattle.combiner.specs.declared.slots.Slot.{Slot}
 use Rattle.combiner.specs.declared.slots.Stage.TheVariants.{Posted}
-use Rattle.accounts.proofs.Parts.{author_is}
+use Rattle.accounts.proofs.Export.{author_is}
 use Rattle.node.specs.declared.parts.NodeBatch.TheVariants.{Held}
 use Rattle.schedule.specs.declared.parts.Opening.{Opening}
-use Rattle.schedule.specs.Steps.{Part, is_free, no_read, session_at, silent, with_call_or_back}
+use Rattle.schedule.specs.Steps.{Part, is_free, no_read, session_of_slot, silent, with_call_or_back}
 use Rattle.schedule.specs.Trace.{Back, Call, Updated}
 use Rattle.schedule.specs.Worlds.{NodeView}
 use Rattle.replica.specs.StoreMeaning.{is_operation}
@@ -39,7 +39,7 @@ posts (Some x) r u F f er eu = by (is_empty x.stage)
 pub posts_there : (m : Opening) (s : ℕ) (op : Operation) (g : Log) (node : NodeView) → PostsThere m s op g node
 posts_there m s op g node unread allowed =
     posts (slice_get node.desk.slots s) (no_read (slice_get node.reads s)) (is_operation Update m.catalogue op)
-    (λ y. with_call_or_back (Call (session_at node s) Update op) g (record node { desk = y }))
+    (λ y. with_call_or_back (Call (session_of_slot node s) Update op) g (record node { desk = y }))
     (λ x. with_slot node.desk s (slot (Posted op) x.count)) (ap no_read unread) allowed
 
 pub is_its_own : (s : ℕ) (node : NodeView) → IsItsOwn s node
@@ -52,9 +52,9 @@ module _ (s : ℕ) (g : Log) (node : NodeView) where
   collects_there y batch turn = by turn
     where
       by : (turn : Turn) → IsTurn s node.desk y batch turn → CollectIs s g node y turn
-      by (Collects reply) i = ap (option_map (λ c. with_call_or_back (Back (session_at node s) (Updated c.reply)) g (record node { desk = c.desk }))) i
-      by Combines i = ap (option_map (λ c. with_call_or_back (Back (session_at node s) (Updated c.reply)) g (record node { desk = c.desk }))) i.0
-      by Waits i = ap (option_map (λ c. with_call_or_back (Back (session_at node s) (Updated c.reply)) g (record node { desk = c.desk }))) i.0
+      by (Collects reply) i = ap (option_map (λ c. with_call_or_back (Back (session_of_slot node s) (Updated c.reply)) g (record node { desk = c.desk }))) i
+      by Combines i = ap (option_map (λ c. with_call_or_back (Back (session_of_slot node s) (Updated c.reply)) g (record node { desk = c.desk }))) i.0
+      by Waits i = ap (option_map (λ c. with_call_or_back (Back (session_of_slot node s) (Updated c.reply)) g (record node { desk = c.desk }))) i.0
 
   abbrev claiming : Part
   claiming = silent g (record node { desk = claimed node.desk; batch = Held (batch_of node.desk) })

@@ -14,7 +14,7 @@ use Rattle.node.specs.Seen.{Goes, Ends as GoesEnds, Does as GoesDoes, Meets as G
 use Rattle.node.specs.Steps.{NodeStep, Appends, Replays, Finishes, Reclaims, Rebases, Replies, Seen, may, next}
 use Rattle.schedule.specs.declared.parts.BegunRead.{BegunRead}
 use Rattle.schedule.specs.declared.parts.Opening.{Opening}
-use Rattle.schedule.specs.Steps.{Part, inner, part_of, put_seen, read_at, session_at, with_call_or_back, with_read}
+use Rattle.schedule.specs.Steps.{Part, inner, part_of, put_seen, read_at, session_of_slot, with_call_or_back, with_read}
 use Rattle.schedule.specs.declared.steps.Step.TheVariants.{ReadAnswer as Answers}
 use Rattle.schedule.specs.Trace.{Back, ReadBack}
 use Rattle.schedule.specs.Worlds.{NodeView}
@@ -65,7 +65,7 @@ module _ (m : Opening) (n s : ℕ) (reads : List (Option BegunRead)) (w : WholeL
   last = node_of t reads
 
   abbrev told : ReadAnswer → Part
-  told a = with_call_or_back (Back (session_at last s) (ReadBack a)) t.log (with_read last s None)
+  told a = with_call_or_back (Back (session_of_slot last s) (ReadBack a)) t.log (with_read last s None)
 
   abbrev told_reply : ℕ → Part
   told_reply x = told (record { point = c.left.replica.tail; reply = x })

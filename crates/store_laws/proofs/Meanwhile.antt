@@ -3,8 +3,8 @@ use Rattle.std.proofs.Common.{sym, ◌∙◌, ⊎_elim}
 use Rattle.std.proofs.lemmas.List.{length-replicate}
 use Rattle.ownlock.specs.Invariant.{LockInvariant}
 use Rattle.ownlock.specs.Between.{Between}
-use Rattle.ownlock.proofs.Laws.{between}
-use Rattle.accounts.proofs.Ended.{stand}
+use Rattle.ownlock.proofs.Export.{between}
+use Rattle.accounts.proofs.Export.{stand}
 use Rattle.replica.specs.StoreMeaning.{store_meaning}
 use Rattle.store_steps.specs.declared.values.Setup.{Setup}
 use Rattle.store_steps.specs.Shelving.{store_rules, store_opening, sessions_of}

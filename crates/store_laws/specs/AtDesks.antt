@@ -8,7 +8,7 @@ use Rattle.replica.specs.StoreMeaning.{store_meaning}
 use Rattle.accounts.specs.Accounts.{IsAllowed}
 use Rattle.node.specs.declared.parts.NodeBatch.TheVariants.{Held}
 use Rattle.schedule.specs.declared.parts.Opening.{Opening}
-use Rattle.schedule.specs.Steps.{claim, collect, no_batch, post, session_at, silent, with_call_or_back}
+use Rattle.schedule.specs.Steps.{claim, collect, no_batch, post, session_of_slot, silent, with_call_or_back}
 use Rattle.schedule.specs.Trace.{Back, Call, Updated}
 use Rattle.schedule.specs.Worlds.{NodeView}
 use Rattle.store_steps.specs.declared.desks.Turn.{Turn}
@@ -24,18 +24,18 @@ use Rattle.store_steps.specs.Standing.{SessionKnown}
 abbrev pub PostsThere : Opening → (s : ℕ) → Operation → Log → NodeView → Type 0
 PostsThere m s op g node =
     slice_get node.reads s ≡ Some None → IsAllowed store_meaning m.catalogue op
-    → post m s op g node ≡ option_map (λ y. with_call_or_back (Call (session_at node s) Update op) g (record node { desk = y })) (posted s op node.desk)
+    → post m s op g node ≡ option_map (λ y. with_call_or_back (Call (session_of_slot node s) Update op) g (record node { desk = y })) (posted s op node.desk)
 
 -- the session of a slot of the node is the one that knows k, where that is at its own slot of this desk
 abbrev pub IsItsOwn : (s : ℕ) → NodeView → Type 0
-IsItsOwn s node = (k : SessionKnown) → IsAt s k node.desk → session_at node s ≡ k.session
+IsItsOwn s node = (k : SessionKnown) → IsAt s k node.desk → session_of_slot node s ≡ k.session
 
 -- ---- collect
 
 -- of a turn at the desk, after which it is y: the answer that is collected is the one that the schedule's collect
 -- gives; else that may not be taken
 abbrev pub CollectIs : (s : ℕ) → Log → NodeView → (y : DeskView) → Turn → Type 0
-CollectIs s g node y (Collects reply) = collect s g node ≡ Some (with_call_or_back (Back (session_at node s) (Updated reply)) g (record node { desk = y }))
+CollectIs s g node y (Collects reply) = collect s g node ≡ Some (with_call_or_back (Back (session_of_slot node s) (Updated reply)) g (record node { desk = y }))
 CollectIs s g node y Combines = collect s g node ≡ None
 CollectIs s g node y Waits = collect s g node ≡ None
 

@@ -13,7 +13,7 @@ use Rattle.schedule.specs.declared.parts.BegunRead.{BegunRead}
 use Rattle.schedule.specs.declared.parts.Opening.{Opening}
 use Rattle.schedule.specs.declared.steps.Step.{Step}
 use Rattle.schedule.specs.declared.steps.Step.TheVariants.{Append, Replay, Finish, Reply, Reclaim, Rebase, ReadAnswer as Answers}
-use Rattle.schedule.specs.Steps.{Part, part_of, read_at, seen_of, session_at, with_call_or_back, with_read}
+use Rattle.schedule.specs.Steps.{Part, part_of, read_at, seen_of, session_of_slot, with_call_or_back, with_read}
 use Rattle.schedule.specs.Trace.{Back, ReadBack}
 use Rattle.schedule.specs.Worlds.{NodeView}
 use Rattle.store_steps.specs.Views.{RepliesThere}
@@ -40,7 +40,7 @@ pub data InOrder (m : Opening) : Log → NodeView → List Step → Log → Node
   Takes : (step : Step) (g h : Log) (node last : NodeView) (steps : List Step) (p : Part) → part_of m step g node ≡ Some p → InOrder m p.log p.node steps h last → InOrder m g node (step ∷ steps) h last
   Meets : (g f h : Log) (node other last : NodeView) (steps : List Step) → OthersDo m.catalogue (seen_of g node) (seen_of f other) → InOrder m f other steps h last → InOrder m g node steps h last
 
--- the same of what is seen of the node n
+-- `InOrder`, but of what is seen of the node n
 abbrev pub SeenInOrder : Opening → ℕ → List (Option BegunRead) → Seen → List NodeStep → Seen → Type 0
 SeenInOrder m n reads s steps t = InOrder m s.log (node_of s reads) (map (step_of n) steps) t.log (node_of t reads)
 
@@ -54,7 +54,7 @@ pub record WholeCombine (m : Opening) : Type 0 where
   pub answered : BatchView
   pub by : CombinesBy k after batch answered
 
--- its steps
+-- the steps of a whole combine
 abbrev pub CombinesInOrder : (m : Opening) → ℕ → List (Option BegunRead) → WholeCombine m → Type 0
 CombinesInOrder m n reads w = let c = w.by in
     SeenInOrder m n reads (sees c.from c.log c.own (Held w.batch) c.desk) (combine_steps c.low c.full c.next c.later c.more c.ahead)
@@ -62,7 +62,7 @@ CombinesInOrder m n reads w = let c = w.by in
 
 -- the read of the slot s is answered so on that log and node
 abbrev pub IsAnsweredThere : Opening → (n s : ℕ) → Log → NodeView → ReadAnswer → Type 0
-IsAnsweredThere m n s g node answer = part_of m (Answers n s) g node ≡ Some (with_call_or_back (Back (session_at node s) (ReadBack answer)) g (with_read node s None))
+IsAnsweredThere m n s g node answer = part_of m (Answers n s) g node ≡ Some (with_call_or_back (Back (session_of_slot node s) (ReadBack answer)) g (with_read node s None))
 
 -- a whole look at a node's replica on a store with the catalogue of this opening, as store promises it of a read, of
 -- several at one point and of a scan: what its session knew, and knows after it; and at which point of the history it
@@ -81,7 +81,7 @@ look_from w d = let c = w.by in sees c.from c.log c.own Absent d
 abbrev pub look_to : {m : Opening} → WholeLook m → DeskView → Seen
 look_to w d = let c = w.by in sees w.after.progress c.back c.left Absent d
 
--- its steps, and then the schedule's own answer to each read that was begun at the slot s, with the completed tail as
+-- the steps of a whole look, and then the schedule's own answer to each read that was begun at the slot s, with the completed tail as
 -- the call loaded it: the reply of there
 pub record ReadsInOrder (m : Opening) (n s : ℕ) (reads : List (Option BegunRead)) (w : WholeLook m) (d : DeskView) : Type 0 where
   pub steps : SeenInOrder m n reads (look_from w d) (read_steps w.by.low w.by.next w.by.later) (look_to w d)

@@ -44,7 +44,7 @@ pub record Meanwhile (opening : Setup) (s : StoreState) : Type 0 where
   -- of each session, one for each slot of each node, which updates were answered it, which it waits for, and which it combines
   pub notes : List SessionNote
   pub count : length notes ≡ opening.config.nodes * opening.config.slots
-  -- they account for one another
+  -- the sessions' notes account for one another
   pub accounts : Accounts store_meaning progress notes
   -- each answered update stands once in the history, at its index, with the reply that it gets there
   pub answered : (a q : ℕ) (n : SessionNote) (u : AnsweredUpdate) → At a n notes → At q u n.answered → StandsOnce store_meaning progress a q u

@@ -1,8 +1,16 @@
-//! What a store's sessions on many threads promise, beyond what each call's contract says: what holds between any two
-//! atomic steps, and of which steps of the schedule a whole call and a step at a desk are made, and that a call which
-//! begins when another has returned stands behind it. Laws alone, and no code that runs.
+//! What a store's sessions on many threads promise, beyond what each call's contract says. Laws alone, and no code that runs.
+//!
+//! `laws`: what holds between any two atomic steps, of which steps of the schedule a whole call and a step at a desk are made, and that a
+//! call which begins when another has returned comes behind it.
+//!
+//! `threads`: the steps by which the threads of a store change what all sessions see, as the rules of the lock allow them; the events of calls
+//! that each makes; and that after any list of such steps one history explains these events, by the schedule's own definition.
 #![tactic(auto)]
 
 mod laws;
+mod threads;
 
 pub use laws::{between_steps, desks_are_steps, stands_behind, whole_calls_are_steps};
+pub use threads::{
+    calls_are_explained, contracts_are_steps, runs_are_explained, threads_are_explained,
+};

@@ -25,10 +25,7 @@ use Rattle.accounts.specs.LogSteps.{LogStep}
 use Rattle.accounts.specs.Moves.{placed_from, record_of, unplaced}
 use Rattle.accounts.specs.Putting.{KeepsSizes}
 use Rattle.accounts.specs.Picks.{put_progress, put_note, IsPut}
-use Rattle.accounts.proofs.DeskNotes.{batch_noted}
-use Rattle.accounts.proofs.Tellings.{tail_is}
-use Rattle.accounts.proofs.Picked.{log_picks, log_picked, puts_account}
-use Rattle.accounts.proofs.Lists.{at_behind}
+use Rattle.accounts.proofs.Export.{batch_noted, tail_is, log_picks, log_picked, puts_account, at_behind}
 use Rattle.node.specs.declared.following.NodeReplica.{NodeReplica}
 use Rattle.store_steps.specs.declared.values.Value.{Value}
 use Rattle.store_steps.specs.declared.values.Value.TheVariants.{Log, Replica, Desk}

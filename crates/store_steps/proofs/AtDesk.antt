@@ -17,8 +17,7 @@ use Rattle.replica.specs.Views.{RepliesView}
 use Rattle.combiner.specs.declared.slots.Reply.{Reply}
 use Rattle.combiner.specs.declared.slots.Reply.TheVariants.{Placed, Ended}
 use Rattle.node.specs.Answering.{answered_batch}
-use Rattle.node.proofs.Answers.{answers_placed, answers_ended}
-use Rattle.node.proofs.Keeping.{get_some}
+use Rattle.node.proofs.Export.{answers_placed, answers_ended, get_some}
 use Rattle.accounts.specs.declared.sessions.Claim.{Claim}
 use Rattle.accounts.specs.declared.sessions.Pending.{Pending}
 use Rattle.accounts.specs.declared.sessions.SessionNote.{SessionNote}
@@ -27,12 +26,7 @@ use Rattle.accounts.specs.Agreement.{StageAgrees, SlotAgrees}
 use Rattle.accounts.specs.DeskSteps.{PostStep, ClaimStep, ReplyStep, CollectStep, Gives}
 use Rattle.accounts.specs.Batches.{Ascend}
 use Rattle.accounts.specs.Moves.{record_of, unplaced}
-use Rattle.accounts.proofs.Batches.{batch_is, claims_ascend}
-use Rattle.accounts.proofs.Desks.{collected_is}
-use Rattle.accounts.proofs.Ended.{answered}
-use Rattle.accounts.proofs.Lists.{at_below, at_of, at_one, get_of}
-use Rattle.accounts.proofs.Moved.{some_none}
-use Rattle.accounts.proofs.Puts.{at_there}
+use Rattle.accounts.proofs.Export.{batch_is, claims_ascend, collected_is, answered, at_below, at_of, at_one, get_of, some_none, at_there}
 use Rattle.store_steps.specs.declared.desks.Turn.{Turn}
 use Rattle.store_steps.specs.declared.desks.Turn.TheVariants.{Collects, Combines, Waits}
 use Rattle.store_steps.specs.AtDesk.{IsAt, HasAsked, IsReady, IsTurn, IsClaim, Steps, TurnSteps}

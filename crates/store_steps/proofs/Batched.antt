@@ -6,7 +6,7 @@ use Rattle.oplog.specs.History.{History}
 use Rattle.oplog.specs.declared.records.Record.{Record}
 use Rattle.accounts.specs.declared.sessions.Claim.{Claim}
 use Rattle.accounts.specs.Moves.{placed_from, record_of, unplaced}
-use Rattle.accounts.proofs.Lists.{at_none}
+use Rattle.accounts.proofs.Export.{at_none}
 
 pub records_of_unplaced : (rs : History) → map record_of (unplaced rs) ≡ rs
 records_of_unplaced [] = refl

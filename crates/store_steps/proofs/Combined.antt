@@ -13,18 +13,14 @@ use Rattle.combiner.specs.declared.slots.Reply.TheVariants.{Placed, Ended}
 use Rattle.replica.specs.StoreMeaning.{store_meaning}
 use Rattle.replica.specs.Views.{RepliesView}
 use Rattle.node.specs.Answering.{answered_batch, HaveRun}
-use Rattle.node.proofs.Answers.{answers_placed, answers_ended}
-use Rattle.node.proofs.Keeping.{get_some}
+use Rattle.node.proofs.Export.{answers_placed, answers_ended, get_some}
 use Rattle.accounts.specs.declared.sessions.Claim.{Claim}
 use Rattle.accounts.specs.declared.sessions.SessionNote.{SessionNote}
 use Rattle.accounts.specs.Accounts.{Accounts, Extends}
 use Rattle.accounts.specs.Batches.{Ascend}
 use Rattle.accounts.specs.DeskSteps.{Gives}
 use Rattle.accounts.specs.Moves.{placed_from, record_of, unplaced}
-use Rattle.accounts.proofs.Lists.{at_below}
-use Rattle.accounts.proofs.Parts.{placed_back}
-use Rattle.accounts.proofs.Puts.{at_there}
-use Rattle.accounts.proofs.Tellings.{reply_on}
+use Rattle.accounts.proofs.Export.{at_below, placed_back, at_there, reply_on}
 use Rattle.store_steps.specs.declared.values.Value.{Value}
 use Rattle.store_steps.specs.AtDesk.{IsReady}
 use Rattle.store_steps.specs.Combining.{HasCombined}

@@ -1,5 +1,5 @@
 -- What a session has done on the shelf, step by step.
-use Rattle.ownlock.proofs.Run.{continues_on}
+use Rattle.ownlock.proofs.Export.{continues_on}
 use Rattle.ownlock.specs.Seats.{HasStepped}
 use Rattle.std.proofs.Common.{◌≡◌, ℕ, List, [], ◌∷◌, ◌++◌, map, refl, ap, ◌∙◌, Some}
 use Rattle.std.proofs.lemmas.Option.{none-some, same_Some}

@@ -15,9 +15,7 @@ use Rattle.accounts.specs.declared.sessions.SessionNote.{SessionNote}
 use Rattle.accounts.specs.Accounts.{Extends}
 use Rattle.accounts.specs.Agreement.{replica_place}
 use Rattle.accounts.specs.Picks.{put_progress, put_note}
-use Rattle.accounts.proofs.Picked.{replica_picked, replica_picks, puts_account, same_picked, same_picks}
-use Rattle.accounts.proofs.Finish.{grown_long}
-use Rattle.accounts.proofs.Seen.{sized_on}
+use Rattle.accounts.proofs.Export.{replica_picked, replica_picks, puts_account, same_picked, same_picks, grown_long, sized_on}
 use Rattle.node.specs.declared.following.NodeReplica.{NodeReplica}
 use Rattle.store_steps.specs.declared.values.Value.{Value}
 use Rattle.store_steps.specs.Lending.{with_replica}

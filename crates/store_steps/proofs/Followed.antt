@@ -9,13 +9,11 @@ use Rattle.oplog.specs.History.{state_after}
 use Rattle.replica.specs.StoreMeaning.{store_meaning, AreUpdates}
 use Rattle.accounts.specs.declared.sessions.Progress.{Progress}
 use Rattle.accounts.specs.Accounts.{Extends, IsWellFormed}
-use Rattle.accounts.proofs.Tellings.{state_on}
-use Rattle.accounts.proofs.Finish.{grown_long}
+use Rattle.accounts.proofs.Export.{state_on, grown_long, at_of}
 use Rattle.node.specs.declared.following.NodeReplica.{NodeReplica}
 use Rattle.node.specs.Following.{Fits, copied, is_above, may_rebase, no_records, rebased}
 use Rattle.store_steps.specs.Standing.{Follows, HasOthers, IsLogOf}
 use Rattle.store_steps.proofs.Places.{at_drop, drop_drop}
-use Rattle.accounts.proofs.Lists.{at_of}
 
 abbrev L : Type 0
 L = Progress CatalogueView

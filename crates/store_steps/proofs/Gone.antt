@@ -1,7 +1,7 @@
 -- What a deed leaves of an update that is out.
 use Rattle.std.proofs.Common.{◌≡◌, suc, ◌<◌, ◌≤◌, ◌^◌, [], ◌∷◌, length, length-append, sym, refl, ap, ◌∙◌, subst, arith, Some, None}
 use Rattle.ownlock.specs.Seats.{IsSession}
-use Rattle.ownlock.proofs.Seats.{one_known}
+use Rattle.ownlock.proofs.Export.{one_known}
 use Rattle.combiner.specs.Desks.{BatchView}
 use Rattle.combiner.specs.declared.slots.Reply.{Reply}
 use Rattle.combiner.specs.declared.slots.Reply.TheVariants.{Placed, Ended}
@@ -12,7 +12,7 @@ use Rattle.accounts.specs.declared.sessions.SessionNote.{SessionNote}
 use Rattle.accounts.specs.Accounts.{Extends, IsWellFormed}
 use Rattle.accounts.specs.Moves.{answered_with}
 use Rattle.accounts.specs.Told.{Tells}
-use Rattle.accounts.proofs.Finish.{grown_long}
+use Rattle.accounts.proofs.Export.{grown_long}
 use Rattle.store_steps.specs.declared.deeds.Deed.{Deed}
 use Rattle.store_steps.specs.declared.deeds.Deed.TheVariants.{Busy, Went, Collected}
 use Rattle.store_steps.specs.declared.deeds.Stage.{Stage}
@@ -88,7 +88,7 @@ module _ (old new : S) (caller : Caller) (b : BatchView) (kept : RepliesView) (k
     polled = polled;
   }
 
-  -- it waits on
+  -- the session waits on
   on_way : (m : K) (stage : Stage) (deed : Deed) → (IsOnItsWay (view_known old.shelf k) (view_known new.shelf m) → HasDone (view_known old.shelf k) (view_known new.shelf m) o deed) → IsSession new m → Moved k m o → IsPolled new caller b kept stage → HasGone old new caller b kept stage deed
   on_way m stage deed told is v polled = gone m stage deed is v.session v.extends v.well (told (v.pending ∙ sym a.pending, v.answered)) polled
 
@@ -121,7 +121,7 @@ module _ (old new : S) (caller : Caller) (b : BatchView) (kept : RepliesView) (k
       let v : Moved k m o = record { session = h.session; held = h.held; extends = h.extends; well = well_formed m.progress h.stands.notes h.stands.accounts; pending = ap (λ (n : SessionNote). n.pending) h.note ∙ a.pending; answered = ap (λ (n : SessionNote). n.answered) h.note } in
       on_way m Asked Went (λ w. w) is v (m, o, asking_on old new caller k m o a is v, ap (λ (n : SessionNote). n.batch) h.note)
 
-  -- it has its answer
+  -- the session has its answer
   pub collects_gone : (m : K) (reply : Reply) → IsSession new m → k.note.batch ≡ [] → HasTurned k m o b (Collects reply) → HasGone old new caller b kept Idle (Collected reply)
   collects_gone m reply is alone h =
       let well = well_formed m.progress h.back.stands.notes h.back.stands.accounts in

@@ -4,7 +4,7 @@ use Rattle.std.proofs.lemmas.Bool.{ltb-true, ltb-false}
 use Rattle.std.proofs.lemmas.Option.{same_Some}
 use Rattle.loader.specs.CatalogueView.{CatalogueView}
 use Rattle.loader.specs.StoreState.{StoreState}
-use Rattle.replica.proofs.Kept.{get-set_other, get-set_same}
+use Rattle.replica.proofs.Export.{get-set_other, get-set_same}
 use Rattle.store_steps.specs.declared.steps.Question.{Question}
 use Rattle.store_steps.specs.Asking.{asked_op}
 use Rattle.store_steps.specs.Questions.{first_refused, question_refusal, refused_or}

@@ -1,7 +1,7 @@
 -- Lists by their places.
 use Rattle.std.proofs.Common.{◌≡◌, ℕ, zero, suc, ◌+◌, ◌-◌, ◌≤◌, List, [], ◌∷◌, length, take, drop, refl, ap, ◌∙◌, subst, arith}
 use Rattle.ownlock.specs.Seats.{At}
-use Rattle.accounts.proofs.Lists.{at_none}
+use Rattle.accounts.proofs.Export.{at_none}
 
 module _ {A : Type 0} where
   pub at_drop : (t : ℕ) (xs : List A) (i : ℕ) (a : A) → At i a (drop t xs) → At (t + i) a xs

@@ -16,8 +16,7 @@ use Rattle.accounts.specs.declared.sessions.Progress.{Progress}
 use Rattle.accounts.specs.declared.sessions.SessionNote.{SessionNote}
 use Rattle.accounts.specs.Accounts.{Extends, IsWellFormed}
 use Rattle.accounts.specs.Moves.{raised}
-use Rattle.accounts.proofs.Tellings.{replays, replayed_agrees}
-use Rattle.accounts.proofs.Finish.{grown_long}
+use Rattle.accounts.proofs.Export.{replays, replayed_agrees, grown_long, at_of, get_of}
 use Rattle.node.specs.declared.following.NodeReplica.{NodeReplica}
 use Rattle.store_steps.specs.declared.values.Value.{Value}
 use Rattle.store_steps.specs.Shelving.{replica_value, store_rules}
@@ -26,7 +25,6 @@ use Rattle.store_steps.specs.Standing.{SessionKnown, Agrees, IsLogOf, Follows, H
 use Rattle.store_steps.proofs.Doing.{did_one}
 use Rattle.store_steps.proofs.Places.{at_drop, drop_at, long_drop, take_whole}
 use Rattle.store_steps.proofs.Followed.{HasAll, others}
-use Rattle.accounts.proofs.Lists.{at_of, get_of}
 
 abbrev L : Type 0
 L = Progress CatalogueView

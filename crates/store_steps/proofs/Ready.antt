@@ -65,7 +65,7 @@ module _ (k a : K) (p : ℕ) (v : Value) (h : HoldsReady k a p v) where
   pub node_is : (n : NodeReplica) → replica_of v ≡ Some n → n ≡ h.node
   node_is n is = same_Some n h.node (sym is ∙ here)
 
-  -- its sizes are those of the catalogue
+  -- the replica's sizes are those of the catalogue
   pub sized_for : (c : CatalogueView) → k.progress.catalogue ≡ c → (n : NodeReplica) → n ≡ h.node → sizes_of n.replica.state ≡ sizes_for c
   sized_for c same n is = ap (λ (z : NodeReplica). sizes_of z.replica.state) is ∙ (h.agrees.1.0 ∙ ap sizes_for (sym all_along.catalogue ∙ same))
 
@@ -73,7 +73,7 @@ module _ (k a : K) (p : ℕ) (v : Value) (h : HoldsReady k a p v) where
   pub lent_back : (n m : NodeReplica) → replica_of v ≡ Some n → m ≡ n → with_replica v m ≡ with_replica h.value h.node
   lent_back n m is same = ap (with_replica v) (same ∙ node_is n is) ∙ (ap (λ z. with_replica z h.node) h.is ∙ last_with h.value h.node h.node)
 
-  -- it is put back as it is
+  -- the replica is put back as it is
   module _ (sessions : List K) (is : sessions ≡ a ∷ []) (y : Value) (y_is : y ≡ with_replica h.value h.node) (q : ℕ) (at : q ≡ p) where
     held : a.held ≡ (q, h.value) ∷ []
     held = h.held ∙ ap (λ z. (z, h.value) ∷ []) (sym at)
@@ -102,7 +102,7 @@ module _ (k a : K) (p : ℕ) (v : Value) (h : HoldsReady k a p v) where
           well_formed = well_formed f.progress b.stands.notes b.stands.accounts;
         }
 
-    -- it has looked at that replica
+    -- the session has looked at that replica
     pub looks_ready : (q : ℕ) → q ≡ p → HasStepped a (Put q (with_replica h.value h.node)) f → (point : ℕ) → point ≡ h.node.replica.tail → (by : LooksBy k f point) × (by.left ≡ h.node)
     looks_ready q same put point at =
         let here : p ≡ 1 + h.holds.node = ap held_first (sym h.held ∙ h.holds.held) in

@@ -17,7 +17,7 @@ use Rattle.accounts.specs.declared.sessions.Progress.{Progress}
 use Rattle.accounts.specs.declared.sessions.SessionNote.{SessionNote}
 use Rattle.accounts.specs.Accounts.{Accounts, Extends, HasNoRecord}
 use Rattle.accounts.specs.Told.{Tells}
-use Rattle.accounts.proofs.Tellings.{placed_tells}
+use Rattle.accounts.proofs.Export.{placed_tells}
 
 -- ---- a posted request is claimed
 

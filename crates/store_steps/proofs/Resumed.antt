@@ -60,7 +60,7 @@ asked_by k m o note a = record {
 pub has_claimed : (m t : K) (o : Pending) (b : BatchView) → HasTurned m t o b Combines → HasClaimed t b
 has_claimed m t o b h = record { noted = ap (λ (n : SessionNote). n.batch) h.turns.0; some = h.turns.1; ascend = h.turns.2 }
 
--- it waits on, once it has combined, and where there was nothing to do
+-- the session waits on, once it has combined, and where there was nothing to do
 pub resumed_combined : (caller : Caller) (k m t n : K) (o : Pending) (b : BatchView) → IsFree caller k → HasAsked k o → Resumed k m → HasTurned m t o b Combines → HasCombined t n → Resumed k n
 resumed_combined caller k m t n o b free asked r h c = record {
   session = c.session ∙ (h.back.session ∙ r.session);

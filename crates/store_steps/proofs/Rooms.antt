@@ -10,7 +10,7 @@ use Rattle.replica.specs.StoreMeaning.{store_meaning}
 use Rattle.accounts.specs.declared.sessions.Progress.{Progress}
 use Rattle.accounts.specs.Accounts.{IsWellFormed}
 use Rattle.accounts.specs.Agreement.{LogAgrees}
-use Rattle.accounts.proofs.Tellings.{state_on}
+use Rattle.accounts.proofs.Export.{state_on}
 use Rattle.node.specs.declared.following.NodeReplica.{NodeReplica}
 use Rattle.store_steps.specs.Shelving.{log_value}
 use Rattle.node.specs.Following.{copied, exchanged, replayed, told, reclaimed}

@@ -2,9 +2,7 @@
 use Rattle.ownlock.specs.Rules.{Laws}
 use Rattle.replica.specs.StoreMeaning.{store_meaning}
 use Rattle.accounts.specs.StoreRules.{IsStoreRules, IsNoting}
-use Rattle.accounts.proofs.StoreRules.{desk_store}
-use Rattle.accounts.proofs.DeskNotes.{desk_notes}
-use Rattle.accounts.proofs.StoreLaws.{laws_seen}
+use Rattle.accounts.proofs.Export.{desk_store, desk_notes, laws_seen}
 use Rattle.store_steps.specs.Shelving.{view_of, IsSized, session_rules, session_noting, store_rules}
 
 pub session_laws : IsStoreRules store_meaning session_rules

@@ -22,7 +22,7 @@ use Rattle.node.specs.Answering.{answered_batch}
 use Rattle.node.specs.Following.{copied, grown, has_next, may_append, may_rebase, no_records, rebased, reclaimed, replayed, replies_after, replies_for, told}
 use Rattle.node.specs.Seen.{Goes, Ends, Meets, OthersDo}
 use Rattle.node.specs.Steps.{NodeStep, Finishes, Replays, Replies, Seen}
-use Rattle.node.proofs.Going.{goes_on}
+use Rattle.node.proofs.Export.{goes_on}
 use Rattle.node.specs.declared.following.NodeReplica.{NodeReplica}
 use Rattle.node.specs.declared.parts.NodeBatch.{NodeBatch}
 use Rattle.node.specs.declared.parts.NodeBatch.TheVariants.{Absent, Held, InLog}
@@ -196,21 +196,23 @@ module _ (k after : K) (g : LogView) (n m : NodeReplica) (old new : RepliesView)
 
 -- ---- the answers are handed over
 
-pub hands_over : (node : ℕ) (k after : K) (g : LogView) (n : NodeReplica) (b : BatchView) (kept : RepliesView) (d : DeskView) → IsLogOf k.progress g → Agrees k.progress n → Extends k.progress after.progress → after.progress.completed ≤ length after.progress.history
+pub hands_over : (node : ℕ) (k after : K) (b : BatchView) (kept : RepliesView) (d : DeskView) → Extends k.progress after.progress → after.progress.completed ≤ length after.progress.history
     → IsSessionOf k.progress.config d.node k.session → IsBatchOf d b → d.node ≡ node → Did k after (takes_and_puts (desk_place k.progress.config node) (ADesk d) (ADesk (replied (answered_batch kept b) d)))
-    → HandsOver node k after g n b kept
-hands_over node k after g n b kept d is a grown low mine claimed there did =
-    let tail = a.0.tail in let rise = grown.completed in record {
-      log = later after.progress g;
-      log_is = later_is k.progress after.progress g is grown low;
-      desk = d;
-      there = there;
-      mine = mine;
-      claimed = claimed;
-      did = did;
-      goes = Meets _ _ _ _ (others k.progress after.progress g is grown low k.progress.catalogue n (InLog (record { batch = b; replies = kept })) d)
-          (reply_step k.progress.catalogue after.progress (later after.progress g) n b kept d (ap (λ (z : HandView). z.records) a.1.1) (omega (arith, tail, rise)));
-    }
+    → HandsOver node k after b kept
+hands_over node k after b kept d grown low mine claimed there did = record {
+  desk = d;
+  there = there;
+  mine = mine;
+  claimed = claimed;
+  did = did;
+  goes = λ g n is a.
+      let tail = a.0.tail in let rise = grown.completed in (
+        later after.progress g,
+        later_is k.progress after.progress g is grown low,
+        Meets _ _ _ _ (others k.progress after.progress g is grown low k.progress.catalogue n (InLog (record { batch = b; replies = kept })) d)
+            (reply_step k.progress.catalogue after.progress (later after.progress g) n b kept d (ap (λ (z : HandView). z.records) a.1.1) (omega (arith, tail, rise))),
+      );
+}
 
 -- the answers are kept, and the replica is back
 module _ (node : ℕ) (k t a r f : K) (b : BatchView) (n v m : NodeReplica) (old new : RepliesView) (took : Extends k.progress t.progress) (found : Agrees t.progress n) (stands : Stands t) (first : AppendsBy t a b n v old)
@@ -262,12 +264,18 @@ module _ (node : ℕ) (k t a r f : K) (b : BatchView) (n v m : NodeReplica) (old
   }
 
 -- the whole combine: the session k was f when its answers were kept, and z once it had handed them over
-module _ (node : ℕ) (k f z : K) (b : BatchView) (kept : RepliesView) (first : AnswersBy node k f b kept) (last : HandsOver node f z first.back first.left b kept) (on : Extends k.progress f.progress) (end : Extends f.progress z.progress) (stands : Stands f) where
+module _ (node : ℕ) (k f z : K) (b : BatchView) (kept : RepliesView) (first : AnswersBy node k f b kept) (last : HandsOver node f z b kept) (on : Extends k.progress f.progress) (end : Extends f.progress z.progress) (stands : Stands f) where
   abbrev began : Seen
   began = sees first.from first.log first.own (Held b) last.desk
 
+  -- with the log and the replica as the answers left them
+  over : (log : LogView) × IsLogOf z.progress log
+      × Goes f.progress.catalogue (sees f.progress first.back first.left (InLog (record { batch = b; replies = kept })) last.desk) (Replies ∷ [])
+      (sees z.progress log first.left Absent (replied (answered_batch kept b) last.desk))
+  over = last.goes first.back first.left first.back_is first.left_is
+
   abbrev ended : Seen
-  ended = sees z.progress last.log first.left Absent (replied (answered_batch kept b) last.desk)
+  ended = sees z.progress over.0 first.left Absent (replied (answered_batch kept b) last.desk)
 
   within_f : first.left.replica.tail ≤ length f.progress.history
   within_f = let tail = first.left_is.0.tail in let low = stands.accounts.completed in omega (arith, tail, low)
@@ -287,9 +295,9 @@ module _ (node : ℕ) (k f z : K) (b : BatchView) (kept : RepliesView) (first : 
         from = first.from;
         since = first.since;
         log = first.log;
-        back = last.log;
+        back = over.0;
         log_is = first.log_is;
-        back_is = last.log_is;
+        back_is = over.1;
       };
       own = first.own;
       left = first.left;
@@ -303,7 +311,7 @@ module _ (node : ℕ) (k f z : K) (b : BatchView) (kept : RepliesView) (first : 
     claimed = last.claimed;
     course = first.course;
     goes = subst (λ xs. Goes k.progress.catalogue began xs ended) (append_assoc (append_steps first.low first.full first.next first.later) (replay_steps first.more first.ahead) (Replies ∷ []))
-        (goes_on (first.goes last.desk) (under f.progress.catalogue k.progress.catalogue (sym on.catalogue) last.goes));
+        (goes_on (first.goes last.desk) (under f.progress.catalogue k.progress.catalogue (sym on.catalogue) over.2));
     due = first.due;
     base = first.base;
     put = first.put;

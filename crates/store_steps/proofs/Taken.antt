@@ -17,10 +17,8 @@ use Rattle.accounts.specs.Values.{LogValue, ReplicaValue, StoreValue, TheLog, Th
 use Rattle.accounts.specs.Accounts.{Accounts, Extends, IsWellFormed}
 use Rattle.accounts.specs.Agreement.{LogAgrees, ReplicaAgrees}
 use Rattle.accounts.specs.Moves.{HoldsBoth}
-use Rattle.ownlock.proofs.Seats.{one_known}
-use Rattle.accounts.proofs.Putting.{may_take_first, takes_log, takes_its_replica}
-use Rattle.accounts.proofs.Tellings.{tail_is}
-use Rattle.accounts.proofs.Lists.{at_none}
+use Rattle.ownlock.proofs.Export.{one_known}
+use Rattle.accounts.proofs.Export.{may_take_first, takes_log, takes_its_replica, tail_is, at_none}
 use Rattle.store_steps.specs.declared.steps.Caller.{Caller}
 use Rattle.store_steps.specs.declared.values.Value.{Value}
 use Rattle.store_steps.specs.declared.values.Value.TheVariants.{Log, Replica, Desk}

@@ -20,10 +20,7 @@ use Rattle.accounts.specs.Agreement.{desk_place}
 use Rattle.accounts.specs.DeskNotes.{DeskDeed, desk_note, desk_noting}
 use Rattle.accounts.specs.Picks.{put_progress, put_note}
 use Rattle.accounts.specs.Putting.{HoldsDesk, KeepsSizes}
-use Rattle.accounts.proofs.DeskNotes.{desk_picked, desk_picks}
-use Rattle.accounts.proofs.Picked.{puts_account, same_picked, same_picks}
-use Rattle.accounts.proofs.Putting.{may_take_desk, takes_desk}
-use Rattle.accounts.proofs.Puts.{desk_puts}
+use Rattle.accounts.proofs.Export.{desk_picked, desk_picks, puts_account, same_picked, same_picks, may_take_desk, takes_desk, desk_puts}
 use Rattle.store_steps.specs.declared.steps.Caller.{Caller}
 use Rattle.store_steps.specs.declared.values.Value.{Value}
 use Rattle.store_steps.specs.declared.values.Value.TheVariants.{Log, Replica, Desk}

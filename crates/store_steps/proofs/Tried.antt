@@ -59,7 +59,7 @@ still_self k none = record {
   did = did_none k k refl refl;
 }
 
--- its node's replica was put back as it was taken
+-- the replica of the session's node was put back as it was taken
 pub still_back : (p q : ℕ) (k t f : K) (w : Value) (n : NodeReplica) → TookReplica p k t w → Back t f → replica_of w ≡ Some n → q ≡ p → HasStepped t (Put q (with_replica w n)) f → IsStill k f
 still_back p q k t f w n b e is at put = record {
   session = e.session ∙ b.session;
@@ -75,7 +75,7 @@ still_back p q k t f w n b e is at put = record {
   did = did_both k t f p q p w (with_replica w n) (AReplica n) (AReplica n) b.steps put refl at (replica_part w n is) (with_replica_part w n n is);
 }
 
--- it has read the completed tail alone, which is that of the progress l
+-- the session has read the completed tail alone, which is that of the progress l
 pub still_told : (k : K) (l : L) (n : ℕ) (ns : List SessionNote) (run : RunOf L SessionNote Value) → k.held ≡ [] → Possible store_rules k l ns → n ≡ l.completed → Continues k.run run → IsStill k (having_read k l n run)
 still_told k l n ns run none can is on = record {
   session = refl;
@@ -196,7 +196,7 @@ module _ (k m f : K) (s : IsStill k m) where
       }
 
 module _ (k m f : K) (s : IsStill k m) where
-  -- it looked at the same replica
+  -- the session looked at the same replica
   pub looks_since : (point : ℕ) → m.progress.completed ≤ point → (r : LooksBy m f point) → (by : LooksBy k f point) × (by.left ≡ r.left)
   looks_since point far r =
       let may = and_parts (nat_le r.seen r.left.replica.tail) (nat_le r.left.replica.tail f.progress.completed) r.may in

@@ -24,12 +24,7 @@ use Rattle.accounts.specs.Agreement.{StageAgrees}
 use Rattle.accounts.specs.DeskNotes.{ClaimedThere, CollectedThere, DeskDeed, Looked, PostedThere, desk_held, desk_in, desk_note, stage_at}
 use Rattle.accounts.specs.Moves.{answered_with, unplaced}
 use Rattle.accounts.specs.Told.{Tells}
-use Rattle.accounts.proofs.DeskNotes.{claim_noted, collect_noted, desk_picks, post_noted}
-use Rattle.accounts.proofs.Desks.{collected_is, none_claimed}
-use Rattle.accounts.proofs.Finish.{grown_long}
-use Rattle.accounts.proofs.Lists.{get_of}
-use Rattle.accounts.proofs.Moved.{some_none}
-use Rattle.accounts.proofs.Puts.{at_map}
+use Rattle.accounts.proofs.Export.{claim_noted, collect_noted, desk_picks, post_noted, collected_is, none_claimed, grown_long, get_of, some_none, at_map}
 use Rattle.store_steps.specs.declared.desks.Turn.{Turn}
 use Rattle.store_steps.specs.declared.desks.Turn.TheVariants.{Collects, Combines, Waits}
 use Rattle.store_steps.specs.declared.steps.Caller.{Caller}

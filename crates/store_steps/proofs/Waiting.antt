@@ -1,7 +1,7 @@
 -- Who waits holds nothing.
 use Rattle.std.proofs.Common.{◌≡◌, [], ◌∙◌, ap, subst, sym}
 use Rattle.ownlock.specs.Seats.{At, HoldsNone, IsSession}
-use Rattle.ownlock.proofs.Keeps.{at_only}
+use Rattle.ownlock.proofs.Export.{at_only}
 use Rattle.store_steps.specs.Knowing.{Learns}
 use Rattle.store_steps.specs.Standing.{SessionKnown, StoreSeat}
 use Rattle.store_steps.specs.Trying.{IsStill}

@@ -14,7 +14,7 @@ use Rattle.replica.specs.Views.{RepliesView}
 use Rattle.accounts.specs.declared.sessions.Progress.{Progress}
 use Rattle.accounts.specs.Accounts.{Extends}
 use Rattle.accounts.specs.Moves.{raised}
-use Rattle.accounts.proofs.Tellings.{state_on}
+use Rattle.accounts.proofs.Export.{state_on}
 use Rattle.node.specs.Answering.{answered_batch}
 use Rattle.node.specs.Following.{copied, grown, has_next, is_above, may_append, may_rebase, no_records, rebased, reclaimed, replayed, replies_after, replies_for, to_run, told}
 use Rattle.node.specs.Seen.{Goes, Ends, Does, OthersDo, moved_on}

@@ -25,7 +25,7 @@ asked_op asked = op_of asked.program asked.argument.now
 abbrev pub AwaitsNothing : StoreSeat → Caller → Shared → Type 0
 AwaitsNothing s caller shared = (k : SessionKnown) × IsSession s k × IsFree caller k × (k.note.pending ≡ None) × IsOn shared k
 
--- the same, but the session waits for the answer to a request, and combines for nobody
+-- `AwaitsNothing`, but the session waits for the answer to a request, and combines for nobody
 abbrev pub AwaitsAnswer : StoreSeat → Caller → Shared → Type 0
 AwaitsAnswer s caller shared = (k : SessionKnown) × (o : Pending) × IsSession s k × IsFree caller k × HasAsked k o × IsOn shared k
 
@@ -35,10 +35,10 @@ AwaitsAnswer s caller shared = (k : SessionKnown) × (o : Pending) × IsSession 
 abbrev pub SessionPosts : (old new : StoreSeat) → Operation → Type 0
 SessionPosts old new op = Learns old new (λ k after. HasPosted k after op)
 
--- it has had its turn, whichever request it waits for
+-- the session has had its turn, whichever request it waits for
 abbrev pub SessionTurns : (old new : StoreSeat) → BatchView → Turn → Type 0
 SessionTurns old new batch turn = (k : SessionKnown) (o : Pending) → IsSession old k → HasAsked k o → (after : SessionKnown) × IsSession new after × HasTurned k after o batch turn
 
--- it has its answer, whichever request it waits for
+-- the session has its answer, whichever request it waits for
 abbrev pub SessionCompletes : (old new : StoreSeat) → Reply → Type 0
 SessionCompletes old new reply = (k : SessionKnown) (o : Pending) → IsSession old k → HasAsked k o → (after : SessionKnown) × IsSession new after × HasCompleted k after o reply

@@ -54,7 +54,7 @@ pub record IsReady (k : SessionKnown) (b : BatchView) (kept : RepliesView) : Typ
 abbrev pub Steps : SessionKnown → DeskView → SessionNote → DeskView → Type 0
 Steps k x n y = DeskStep store_meaning k.progress k.session k.note x n y
 
--- which it does when it posts the operation, and notes that it waits for the answer
+-- the session does so when it posts the operation, and notes that it waits for the answer
 abbrev pub PostSteps : SessionKnown → Operation → DeskView → DeskView → Type 0
 PostSteps k op x y = Steps k x (record k.note { pending = Some (request_of k.progress op) }) y
 
@@ -65,7 +65,7 @@ IsTurn slot x y batch (Collects reply) = collected slot x ≡ Some (record { rep
 IsTurn slot x y batch Combines = (collected slot x ≡ None) × (has_combiner x ≡ false) × (has_request x ≡ true) × (y ≡ claimed x) × (batch ≡ batch_of x)
 IsTurn slot x y batch Waits = (collected slot x ≡ None) × IsSome (claim_refusal x) × (y ≡ x)
 
--- which is a step of the session: what it collects it may say of its request, and the batch is by ascending authors
+-- the turn is a step of the session: what it collects it may say of its request, and the batch is by ascending authors
 abbrev pub TurnSteps : SessionKnown → Pending → DeskView → DeskView → BatchView → Turn → Type 0
 TurnSteps k o x y batch (Collects reply) = Steps k x (answered_with k.note o.op reply) y × Tells store_meaning k.progress k.session (length k.note.answered) o reply
 TurnSteps k o x y batch Combines = Steps k x (record k.note { batch = unplaced batch.records }) y × Ascend batch.records

@@ -22,7 +22,7 @@ Learns old new P = (k : SessionKnown) → IsSession old k → (after : SessionKn
 abbrev pub Relates : (old new : StoreSeat) → (SessionKnown → SessionKnown → Type 0) → Type 0
 Relates old new P = (k after : SessionKnown) → IsSession old k → IsSession new after → P k after
 
--- its store is the one whose shelf and catalogue these are
+-- the session's store has this shelf and this catalogue
 abbrev pub IsOn : Shared → SessionKnown → Type 0
 IsOn shared k = IsOnShelf shared.shelf.now.places shared.nodes shared.catalogue.now k
 

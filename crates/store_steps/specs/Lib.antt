@@ -30,3 +30,7 @@ pub mod Looking
 pub mod Updating
 -- A replica that is held and has come up.
 pub mod Ready
+-- A post and a turn, or answers and a turn, in one hold of a desk.
+pub mod AtOnce
+-- An update by four takes whose session waits for nobody.
+pub mod Polling

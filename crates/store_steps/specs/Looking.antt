@@ -1,4 +1,4 @@
--- Of which steps several reads and a scan are made, by what the session knows.
+-- The steps of several reads and of a scan, by what the session knows.
 use Rattle.std.specs.Prelude.{ℕ, List}
 use Rattle.store_steps.specs.declared.scanning.Scan.{Scan}
 use Rattle.store_steps.specs.declared.steps.Question.{Question}

@@ -29,7 +29,7 @@ pub record HoldsReady (k after : SessionKnown) (place : ℕ) (v : Value) : Type 
   -- what the replica has become
   pub node : NodeReplica
   pub on : Extends taking.progress after.progress
-  -- it has come up with the log if and only if it was below the tail
+  -- the replica has caught up with the log if and only if it was below the tail
   pub follows : FollowsBy (nat_lt own.replica.tail begun) taking after own node
   pub agrees : Agrees after.progress node
   pub within : node.replica.tail ≤ length after.progress.history

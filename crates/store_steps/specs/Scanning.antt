@@ -39,12 +39,12 @@ pub record Scanned (c : CatalogueView) (state : StoreState) (map from room : ℕ
   pub scans : Scans (map_of m) from room entries s.next
   pub page : IsPage m from entries s.next
 
--- the same, where there was room for so many bytes of keys and of values, and these bytes stand there at the end
+-- `Scanned`, if there was room for so many bytes of keys and of values, and these bytes are there at the end
 abbrev pub GivesIn : CatalogueView → StoreState → (map from key_room value_room : ℕ) → (keys values : List ℕ) → Scan → Type 0
 GivesIn c state map from key_room value_room keys values s =
     (m : Stored) × Scanned c state map from (room_in m.shape key_room value_room) m (given m.shape s.count keys values) s
 
--- it began when so many operations were completed: its point lies from there to the completed tail at its end
+-- the scan began when so many operations were completed: its point is between that number and the completed tail at its end
 abbrev pub ScanGives : Progress CatalogueView → (begun map from key_room value_room : ℕ) → (keys values : List ℕ) → Scan → Type 0
 ScanGives l begun map from key_room value_room keys values s = SightTells (λ c state. GivesIn c state map from key_room value_room keys values s) l begun s.point
 

@@ -31,7 +31,7 @@ pub record IsAsking (s : StoreSeat) (caller : Caller) (k : SessionKnown) (o : Pe
   pub within : length k.note.answered ≤ length k.progress.history
   pub before : length k.note.answered ≤ o.seen
 
--- it waits, and combines for nobody
+-- the session waits, and combines for nobody
 abbrev pub IsAsked : StoreSeat → Caller → Type 0
 IsAsked s caller = (k : SessionKnown) × (o : Pending) × IsAsking s caller k o × (k.note.batch ≡ [])
 
@@ -52,11 +52,11 @@ IsOut Ready = Unit {0}
 
 -- ---- what a deed tells
 
--- it waits for the same answer still
+-- the session waits for the same answer still
 abbrev pub IsOnItsWay : (old new : SessionView) → Type 0
 IsOnItsWay old new = (new.note.pending ≡ old.note.pending) × (new.note.answered ≡ old.note.answered)
 
--- it has its answer, has noted it, and waits for nothing
+-- the session has its answer, has noted it, and waits for nothing
 abbrev pub TellsDone : (old new : SessionView) → Pending → Reply → Type 0
 TellsDone old new o reply = Tells store_meaning new.progress old.session (length old.note.answered) o reply × (new.note ≡ answered_with (record old.note { batch = [] }) o.op reply)
 

@@ -91,7 +91,7 @@ pub record IsFree (caller : Caller) (k : SessionKnown) : Type 0 where
   pub near : caller.node < k.progress.config.nodes
   pub held : k.held ≡ []
 
--- its store has this catalogue and so many nodes, each with a replica and a desk on the shelf behind the log
+-- the session's store has this catalogue and so many nodes, each with a replica and a desk on the shelf after the log
 pub record IsOnShelf (places nodes : ℕ) (c : CatalogueView) (k : SessionKnown) : Type 0 where
   pub places_are : places ≡ 1 + nodes + nodes
   pub few : nodes ≤ MAX_NODES

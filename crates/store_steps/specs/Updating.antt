@@ -15,7 +15,7 @@ use Rattle.store_steps.specs.declared.desks.Turn.TheVariants.{Collects, Combines
 use Rattle.store_steps.specs.AtDesk.{IsTurn}
 use Rattle.store_steps.specs.Doing.{ADesk, ChangesNothing, Did, Part, takes_and_puts}
 use Rattle.store_steps.specs.Standing.{SessionKnown}
-use Rattle.store_steps.specs.Whole.{AnswersBy, CombinesBy, HandsOverAnywhere}
+use Rattle.store_steps.specs.Whole.{AnswersBy, CombinesBy, HandsOver}
 
 -- the session, of this slot of its node, took the desk of that node as x, put it back as y, and did nothing else
 pub record AtItsDesk (k after : SessionKnown) (slot : ℕ) (x y : DeskView) : Type 0 where
@@ -45,7 +45,7 @@ pub data Rounds : SessionKnown → SessionKnown → Type 0 where
   Waits : (k m after : SessionKnown) (batch : BatchView) → Rounds k m → TurnsBy m after batch Idles → Rounds k after
   Combines : (k m claimed after : SessionKnown) (batch answered : BatchView) → Rounds k m → TurnsBy m claimed batch Claims → CombinesBy claimed after batch answered → Rounds k after
 
--- it did that, and then collected this answer
+-- the session made its rounds, and then collected this answer
 pub record CompletesBy (k after : SessionKnown) (reply : Reply) : Type 0 where
   pub waited : SessionKnown
   pub rounds : Rounds k waited
@@ -67,14 +67,14 @@ pub data DeedBy (k after : SessionKnown) : Type 0 where
   Looks : (batch : BatchView) → TurnsBy k after batch Idles → DeedBy k after
   ClaimsIt : (batch : BatchView) → TurnsBy k after batch Claims → DeedBy k after
   Answers : (node : ℕ) (batch : BatchView) (kept : RepliesView) → k.note.batch ≡ unplaced batch.records → AnswersBy node k after batch kept → DeedBy k after
-  Gives : (node : ℕ) (batch : BatchView) (kept : RepliesView) → HandsOverAnywhere node k after batch kept → DeedBy k after
+  Gives : (node : ℕ) (batch : BatchView) (kept : RepliesView) → HandsOver node k after batch kept → DeedBy k after
 
 -- so many of them, one after the other
 pub data Deeds : SessionKnown → SessionKnown → Type 0 where
   Rests : (k : SessionKnown) → Deeds k k
   Then : (k m after : SessionKnown) → Deeds k m → DeedBy m after → Deeds k after
 
--- it collects its answer
+-- the session collects its answer
 abbrev pub CollectsBy : SessionKnown → SessionKnown → Reply → Type 0
 CollectsBy k after reply = (batch : BatchView) × TurnsBy k after batch (Collects reply)
 

@@ -97,7 +97,7 @@ pub record BetweenLogs (k after : SessionKnown) : Type 0 where
   pub log_is : IsLogOf from log
   pub back_is : IsLogOf after.progress back
 
--- the same, and the replica of its node
+-- `BetweenLogs`, and the replica of the session's node
 pub record BetweenReplicas (k after : SessionKnown) : Type 0 where
   pub logs : BetweenLogs k after
   pub open logs use *
@@ -119,7 +119,7 @@ pub record MakesRoom (want : ℕ) (k after : SessionKnown) (g h : LogView) (n m 
   pub is : h ≡ with_room full m g
   pub did : Did k after (room_deeds full h)
 
--- it has taken the log, appended the batch, and put the log back
+-- the session has taken the log, appended the batch, and put the log back
 pub record AppendsBy (k after : SessionKnown) (b : BatchView) (n m : NodeReplica) (kept : RepliesView) : Type 0 where
   pub logs : BetweenLogs k after
   pub open logs use *
@@ -138,7 +138,7 @@ pub record AppendsBy (k after : SessionKnown) (b : BatchView) (n m : NodeReplica
 abbrev pub AppendsAny : SessionKnown → SessionKnown → History → (n m : NodeReplica) → RepliesView → Type 0
 AppendsAny k after records n m kept = (batch : BatchView) → batch.records ≡ records → AppendsBy k after batch n m kept
 
--- it has replayed what was copied, and completed it, while others may have had the log, which was g
+-- the session has replayed what was copied, and completed it, while others may have had the log, which was g
 pub record ReplaysBy (k after : SessionKnown) (g : LogView) (n m : NodeReplica) (old new : RepliesView) : Type 0 where
   pub log : LogView
   pub log_is : IsLogOf after.progress log
@@ -152,21 +152,17 @@ pub record ReplaysBy (k after : SessionKnown) (g : LogView) (n m : NodeReplica) 
 abbrev pub ReplaysAnywhere : (k after : SessionKnown) → (n m : NodeReplica) → (old new : RepliesView) → Type 0
 ReplaysAnywhere k after n m old new = (g : LogView) → IsLogOf k.progress g → ReplaysBy k after g n m old new
 
--- it has handed over the answers of the batch at the desk of this node, its own, where just its requests are claimed
-pub record HandsOver (node : ℕ) (k after : SessionKnown) (g : LogView) (n : NodeReplica) (b : BatchView) (kept : RepliesView) : Type 0 where
-  pub log : LogView
-  pub log_is : IsLogOf after.progress log
+-- It has handed over the answers of the batch at the desk of this node, its own, where only its requests are claimed. That is a step of the node,
+-- whatever log and replica agree with what the session knew.
+pub record HandsOver (node : ℕ) (k after : SessionKnown) (b : BatchView) (kept : RepliesView) : Type 0 where
   pub desk : DeskView
   pub there : desk.node ≡ node
   pub mine : IsSessionOf k.progress.config desk.node k.session
   pub claimed : IsBatchOf desk b
-  pub goes : Goes k.progress.catalogue (sees k.progress g n (InLog (record { batch = b; replies = kept })) desk) (Replies ∷ [])
+  pub goes : (g : LogView) (n : NodeReplica) → IsLogOf k.progress g → Agrees k.progress n → (log : LogView) × IsLogOf after.progress log
+      × Goes k.progress.catalogue (sees k.progress g n (InLog (record { batch = b; replies = kept })) desk) (Replies ∷ [])
       (sees after.progress log n Absent (replied (answered_batch kept b) desk))
   pub did : Did k after (takes_and_puts (desk_place k.progress.config node) (ADesk desk) (ADesk (replied (answered_batch kept b) desk)))
-
--- whatever log and replica agree with what the session knew
-abbrev pub HandsOverAnywhere : (node : ℕ) → (k after : SessionKnown) → BatchView → RepliesView → Type 0
-HandsOverAnywhere node k after b kept = (g : LogView) (n : NodeReplica) → IsLogOf k.progress g → Agrees k.progress n → HandsOver node k after g n b kept
 
 -- a replica that lacks something has been brought up to the log, and another has stayed
 pub record FollowsBy (lacks : Bool) (k after : SessionKnown) (n m : NodeReplica) : Type 0 where
@@ -180,7 +176,7 @@ pub record FollowsBy (lacks : Bool) (k after : SessionKnown) (n m : NodeReplica)
 
 -- ---- what the whole calls do
 
--- which of its steps a combine has taken, in their order: the replica was below the log's base; another base was due, and what the replica lacked
+-- the steps that a combine has taken, in their order: the replica was below the log's base; another base was due, and what the replica lacked
 -- then was applied, and completed; and so was what it lacked of the batch
 pub record Course : Type 0 where
   pub low : Bool

@@ -12,7 +12,7 @@ pub struct Room {
     pub batch: Batch,
     /// For what their programs answer.
     pub replies: Replies,
-    /// What it has combined.
+    /// What the session has combined.
     pub batches: Batches,
 }
 
@@ -55,7 +55,7 @@ impl Batches {
         }
     }
 
-    /// These and those.
+    /// The sum of these batches and `others`.
     pub fn and(self, others: Batches) -> Batches {
         Batches {
             count: self.count.wrapping_add(others.count),
@@ -64,7 +64,7 @@ impl Batches {
         }
     }
 
-    // These and one of so many requests.
+    // The sum of these batches and one batch of `requests` requests.
     pub(crate) fn and_one(self, requests: u64) -> Batches {
         self.and(Batches {
             count: 1,

@@ -7,7 +7,7 @@ ghost use Rattle.store_steps.specs.Combining.{HasClaimed, HasAnswered, HasCombin
 ghost use Rattle.store_steps.specs.Knowing.{IsOn, Knows, Learns, Relates};
 ghost use Rattle.store_steps.specs.Standing.{Stands, IsFree};
 ghost use Rattle.store_steps.specs.Trying.{IsStill};
-ghost use Rattle.store_steps.specs.Whole.{AnswersBy, CombinesBy, HandsOverAnywhere};
+ghost use Rattle.store_steps.specs.Whole.{AnswersBy, CombinesBy, HandsOver};
 
 use crate::desks;
 use crate::steps::{Here, Shared, replay_and_raise, try_append_and_copy};
@@ -54,9 +54,9 @@ pub(crate) fn try_combine(
     Ok(())
 }
 
-// The same, but waits for the place that another session holds.
+// `try_combine`, but waits for the place that another session holds.
 #[inline(always)]
-fn append_and_replay<R: Wait>(
+pub(crate) fn append_and_replay<R: Wait>(
     rt: &R,
     here: Here<'_>,
     seat: &mut Seat<Value>,
@@ -113,7 +113,7 @@ pub(crate) fn try_hand_over(
     ensures stays { IfNone result ((seat.new ≡ seat.old) × (batch.new ≡ batch.old)) }
     ensures combined { IfSome result (λ _. Learns seat.old seat.new HasCombined) }
     ensures answered { IfSome result (λ _. batch.new ≡ answered_batch replies.now batch.old) }
-    ensures handed { IfSome result (λ _. Relates seat.old seat.new (λ k after. HandsOverAnywhere here.entry.caller.node k after batch.old replies.now)) }
+    ensures handed { IfSome result (λ _. Relates seat.old seat.new (λ k after. HandsOver here.entry.caller.node k after batch.old replies.now)) }
 {
     let Some(mut held) = here
         .shared
@@ -127,7 +127,7 @@ pub(crate) fn try_hand_over(
     Some(())
 }
 
-// The same, but waits while another session holds the desk.
+// `try_hand_over`, but waits while another session holds the desk.
 #[inline(always)]
 fn hand_over<R: Wait>(
     rt: &R,
@@ -141,7 +141,7 @@ fn hand_over<R: Wait>(
     ensures same { seat.new.shelf ≡ seat.old.shelf }
     ensures combined { Learns seat.old seat.new HasCombined }
     ensures answered { batch.new ≡ answered_batch replies.now batch.old }
-    ensures handed { Relates seat.old seat.new (λ k after. HandsOverAnywhere here.entry.caller.node k after batch.old replies.now) }
+    ensures handed { Relates seat.old seat.new (λ k after. HandsOver here.entry.caller.node k after batch.old replies.now) }
 {
     if let Some(()) = try_hand_over(here, seat, batch, replies) {
         return;

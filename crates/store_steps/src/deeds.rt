@@ -20,13 +20,13 @@ use replica::Replies;
 /// How far an update of the session has come.
 #[derive(Clone, Copy, Drop)]
 pub enum Stage {
-    /// There is none.
+    /// The session has no update.
     Idle,
-    /// It is posted.
+    /// The update is posted.
     Asked,
     /// The session combines, and has claimed the requests of its node.
     Claimed,
-    /// These have run, and their answers are still to be handed over.
+    /// The requests have run, and their answers are still to be handed over.
     Ready,
 }
 
@@ -34,7 +34,7 @@ pub enum Stage {
 pub enum Deed {
     /// Another session holds a place that it takes, or combines for this one.
     Busy,
-    /// It is done, and the next one is due.
+    /// The deed is done, and the next one is due.
     Went,
     /// The answer to the update was collected.
     Collected(Reply),

@@ -18,11 +18,11 @@ use replica::Replies;
 /// What a session did that looked for the answer to its request.
 #[derive(Drop)]
 pub enum Turn {
-    /// It collected the answer.
+    /// The session collected the answer.
     Collects(Reply),
-    /// It combines the requests of its node, which are in the batch that was lent.
+    /// The session combines the requests of its node, which are in the batch that was lent.
     Combines,
-    /// It waits for another that does.
+    /// The session waits for another session that combines.
     Waits,
 }
 

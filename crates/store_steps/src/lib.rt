@@ -2,12 +2,14 @@
 //! back in a call. `store` makes these calls for its sessions.
 #![tactic(auto)]
 
+mod at_once;
 mod batches;
 mod combining;
 mod deeds;
 pub mod desks;
 mod getting;
 mod looks;
+mod polling;
 mod questions;
 mod requests;
 mod scanning;
@@ -15,10 +17,12 @@ mod snapshots;
 mod steps;
 mod values;
 
+pub use at_once::{ask_at_once, try_hand_over_and_turn, try_post_and_turn};
 pub use batches::{Batches, Room};
 pub use deeds::{Deed, Stage, go_on};
 pub use getting::{Get, GetRefused, Lookup, MapKey};
 pub use looks::{Look, look_waiting, try_look};
+pub use polling::{go_on_at_once, try_begin};
 pub use questions::{QuestionRefused, Reads};
 pub use requests::{complete, post, try_post};
 pub use scanning::{Beginning, Page, Scan, ScanRefused};

@@ -16,10 +16,10 @@ use readpath::{ReadAnswer, answer};
 use replica::{StoreRefused, check_call};
 use verifier::Mode;
 
-/// Which of several questions is refused, and why: the first that is.
+/// The first of several questions that is refused, and why.
 #[derive(Clone, Copy, Debug, PartialEq, Eq)]
 pub struct QuestionRefused {
-    /// Its number among them, from 0.
+    /// The number of the refused question, from 0.
     pub number: usize,
     /// Why it is.
     pub refused: StoreRefused,

@@ -43,7 +43,7 @@ pub fn try_post(here: Here<'_>, seat: &mut Seat<Value>, op: &Op) -> Option<()>
     Some(())
 }
 
-/// The same, but waits while another session holds the desk.
+/// `try_post`, but waits while another session holds the desk.
 #[inline(always)]
 pub fn post<R: Wait>(rt: &R, here: Here<'_>, seat: &mut Seat<Value>, op: &Op)
     requires own { seat.old.shelf ≡ here.shared.shelf.now.id }
@@ -90,9 +90,14 @@ pub(crate) fn try_turn(here: Here<'_>, seat: &mut Seat<Value>, batch: &mut Batch
     Some(turn)
 }
 
-// The same, but waits while another session holds the desk.
+// `try_turn`, but waits while another session holds the desk.
 #[inline(always)]
-fn turn<R: Wait>(rt: &R, here: Here<'_>, seat: &mut Seat<Value>, batch: &mut Batch) -> Turn
+pub(crate) fn turn<R: Wait>(
+    rt: &R,
+    here: Here<'_>,
+    seat: &mut Seat<Value>,
+    batch: &mut Batch,
+) -> Turn
     requires own { seat.old.shelf ≡ here.shared.shelf.now.id }
     requires asked { AwaitsAnswer seat.old here.caller here.shared }
     ensures same { seat.new.shelf ≡ seat.old.shelf }
@@ -120,7 +125,7 @@ const LOOKS: usize = 8;
 // Waits until a place was taken or put back, and no longer than so many looks: its word may move between two of them, or not again.
 // The look at the word leaves its cache line with the one that combines, where a turn at the desk would take that of the desk.
 #[inline(never)]
-fn watch(shelf: &Shelf<Value>, place: usize)
+pub(crate) fn watch(shelf: &Shelf<Value>, place: usize)
     requires { place < shelf.now.places }
 {
     let seen = shelf.glance(place);

@@ -86,7 +86,7 @@ fn scan_there(node: &NodeReplica, begin: Beginning, keys: &mut [u8], values: &mu
 /// A look for the entries of a map, from a place on.
 #[derive(Drop)]
 pub struct Page<'a> {
-    /// Where it begins.
+    /// Where the page begins.
     pub begin: Beginning,
     /// Room for their keys.
     pub keys: &'a mut [u8],

@@ -33,9 +33,9 @@ use std::marker::Brand;
 /// What all sessions of a store share.
 #[derive(Clone, Copy)]
 pub struct Shared<'a> {
-    /// Its shelf.
+    /// The store's shelf.
     pub shelf: &'a Shelf<Value>,
-    /// Its catalogue.
+    /// The store's catalogue.
     pub catalogue: &'a Catalogue,
     /// How many nodes it has.
     pub nodes: usize,
@@ -57,9 +57,9 @@ pub struct Caller {
 /// Where a session works: its store, and its slot there.
 #[derive(Clone, Copy)]
 pub struct Here<'a> {
-    /// What it shares with the other sessions of its store.
+    /// What the session shares with the other sessions of its store.
     pub shared: Shared<'a>,
-    /// Its slot.
+    /// The session's slot.
     pub caller: Caller,
 }
 
@@ -68,7 +68,7 @@ pub struct Here<'a> {
 pub struct Question<'a> {
     /// A program, by its number.
     pub program: u16,
-    /// Its argument.
+    /// The program's argument.
     pub argument: &'a [u8],
 }
 

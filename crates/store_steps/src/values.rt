@@ -17,9 +17,9 @@ use std::alloc::{AllocError, Global};
 /// What a store is opened with.
 #[derive(Drop)]
 pub struct Setup {
-    /// Its sizes.
+    /// The sizes of the store.
     pub config: Sizes,
-    /// Its maps and programs.
+    /// The maps and programs of the store.
     pub catalogue: Catalogue,
 }
 
@@ -47,7 +47,7 @@ impl Value {
         }
     }
 
-    // The same, to change it.
+    // The log that the value is, to be changed.
     pub(crate) fn log_mut(&mut self) -> &mut LogState
         requires log { IsSome (log_of self.old) }
         ensures* writes_back { sem 𝓛 (LendsLog self.entry result) }
@@ -70,7 +70,7 @@ impl Value {
         }
     }
 
-    // The same, to change it.
+    // The node's replica that the value is, with its hand, to be changed.
     pub(crate) fn replica_mut(&mut self) -> &mut NodeReplica
         requires replica { IsSome (replica_of self.old) }
         ensures* writes_back { sem 𝓛 (LendsReplica self.entry result) }
@@ -103,8 +103,7 @@ impl Shelved for Value {
     type Setup = Setup;
 
     ghost use Rattle.replica.specs.StoreMeaning.{store_meaning};
-    ghost use Rattle.accounts.proofs.StoreRules.{desk_store};
-    ghost use Rattle.accounts.proofs.StoreLaws.{laws_seen};
+    ghost use Rattle.accounts.proofs.Export.{desk_store, laws_seen};
     ghost use Rattle.store_steps.specs.Shelving.{view_of, IsSized, store_rules, opening_progress, opening_notes, places_of};
 
     ghost rules = { store_rules };

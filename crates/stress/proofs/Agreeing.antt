@@ -8,7 +8,7 @@ use Rattle.std.proofs.lemmas.List.{length-append}
 use Rattle.std.proofs.lemmas.List.Elements.{All-head, All-tail}
 use mathlib.Core.Option.{some-injective}
 use Rattle.ownlock.specs.Seats.{At}
-use Rattle.accounts.proofs.Lists.{at_below, at_none}
+use Rattle.accounts.proofs.Export.{at_below, at_none}
 use Rattle.loader.specs.CatalogueView.{CatalogueView, opening_state}
 use Rattle.loader.specs.StoreState.{StoreState}
 use Rattle.oplog.specs.declared.configuration.TheConstants.{MAX_LIMIT}
@@ -18,7 +18,7 @@ use Rattle.oplog.specs.History.{Effect, ReadEffect, History, left_by, after, sta
 use Rattle.replica.specs.StoreMeaning.{store_meaning}
 use Rattle.running.specs.RunAnswer.{with_operation}
 use Rattle.replaying.specs.ReplayAnswer.{Replayed, Agrees, Differs, next_count, nothing_replayed, read_agrees, update_agrees, with_update}
-use Rattle.running.proofs.Turns.{whole}
+use Rattle.running.proofs.Export.{whole}
 use Rattle.stress.specs.Lines.{Said, Updated, Seen, Ended, ToldCall}
 use Rattle.stress.specs.OneHistory.{Holds}
 use Rattle.stress.specs.Playing.{IsSo}

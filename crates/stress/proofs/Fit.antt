@@ -28,7 +28,7 @@ use Rattle.stress.proofs.Script.{before}
 abbrev if_length : List ℕ → ℕ → Checked → Option Asked
 if_length argument k p = if length argument == p.arg_len then Some (asks.Run p.mode k) else None
 
--- its digits spell bytes with which the call is not refused
+-- the call's digits spell bytes with which it is not refused
 pub record IsFit (c : CatalogueView) (call : Called) : Type 0 where
   pub bytes : List ℕ
   pub spelled : field_bytes call.digits ≡ Some bytes
@@ -48,7 +48,7 @@ offered_free c k argument p below named long =
     ∙ ap (λ b. if b then mode_refusal p.mode p.mode else Some ArgumentLength) long
     ∙ own_mode p.mode
 
--- its number is that of a program
+-- the number of a program is below the number of programs
 pub within : (c : CatalogueView) (k : ℕ) (p : Checked) → program_at c k ≡ Some p → k < length c.programs
 within c k p named = by (slice_get c.programs k) refl named
   where

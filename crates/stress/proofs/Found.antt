@@ -1,20 +1,19 @@
 -- What `stress` may answer is found good by `replay`, where it is good.
-use Rattle.std.proofs.Common.{◌≡◌, ◌∙◌, ℕ, Bool, true, false, List, length, Some, None, Result, Ok, Err, refl, sym, ap}
+use Rattle.std.proofs.Common.{◌≡◌, ◌∙◌, ℕ, Bool, true, false, List, length, Some, None, Result, Ok, Err, refl, sym, ap, arith}
 use Rattle.std.specs.Prelude.{◌==◌, if◌then◌else◌, MatchResult, Option}
 use Rattle.text.specs.Lines.{lines_of}
 use Rattle.loader.specs.CatalogueView.{CatalogueView, IsCatalogue, with_places}
-use Rattle.loader.specs.Loading.{Outcome, loaded}
+use Rattle.loader.specs.Loading.{Outcome, loaded_within}
 use Rattle.dumps.specs.Loading.{Outcome as StateOutcome, loaded_state}
 use Rattle.oplog.specs.declared.configuration.Config.{Config}
 use Rattle.engine.specs.Answer.{Answer}
-use Rattle.engine.specs.Reading.{Given, TextsRead, files_in, first_stranger}
-use Rattle.engine.proofs.Gatherings.{found, unless_strange}
-use Rattle.engine.proofs.Openings.{on_loaded}
+use Rattle.engine.specs.Reading.{Given, TextsRead, files_in, first_stranger, limits_of}
+use Rattle.engine.proofs.Export.{found, unless_strange, on_loaded, are_limits}
 use Rattle.engine.specs.Opening.{opening_of}
 use Rattle.engine.specs.Sizes.{are_sizes, places_in}
 use Rattle.engine.specs.StateAnswer.{on_text, opened_by}
 use Rattle.engine.specs.declared.replies.Verdict.TheVariants as verdicts
-use Rattle.running.proofs.RunsOfLines.{loaded_is_catalogue, opened_is_catalogue}
+use Rattle.running.proofs.Export.{loaded_is_catalogue, opened_is_catalogue}
 use Rattle.stress.specs.declared.stressed.Stressed.{Stressed}
 use Rattle.stress.specs.Calls.{Called, script_calls}
 use Rattle.stress.specs.Good.{IsFoundGood, TranscriptsAreGood}
@@ -57,7 +56,7 @@ module _ (config : Config) (timed : Bool) (g : Given) (s : Stressed) (good : s.r
       let off : verdicts.Refused ≡ verdicts.Good = sym (ap (λ (x : Answer). x.verdict) only.answer ∙ is) ∙ good in
       absurd (let never : ⊥ = cc in never)
 
-  module _ (texts : first_stranger g ≡ None) (base : CatalogueView) (is : loaded g.manifest (files_in g) ≡ Ok base) (sizes : are_sizes config ≡ true) where
+  module _ (texts : first_stranger g ≡ None) (base : CatalogueView) (is : loaded_within (limits_of g.sizes) g.manifest (files_in g) ≡ Ok base) (sizes : are_sizes config ≡ true) where
     abbrev offered : CatalogueView
     offered = with_places base config.spare
 
@@ -71,20 +70,20 @@ module _ (config : Config) (timed : Bool) (g : Given) (s : Stressed) (good : s.r
 
     of_sizes : IsOpenedRun config timed (found g) (opened_by offered g.state) s → Found
     of_sizes run =
-        let whole = loaded_is_catalogue g.manifest (files_in g) base config.spare is (sizes_from config sizes).spare in
+        let whole = loaded_is_catalogue (limits_of g.sizes) g.manifest (files_in g) base config.spare (are_limits g.sizes) is (omega (arith, (sizes_from config sizes).spare)) in
         of_opened (opened_by offered g.state) (is_opening offered g.state whole) refl run
 
-  of_catalogue : first_stranger g ≡ None → (base : CatalogueView) → loaded g.manifest (files_in g) ≡ Ok base → (b : Bool) → are_sizes config ≡ b
+  of_catalogue : first_stranger g ≡ None → (base : CatalogueView) → loaded_within (limits_of g.sizes) g.manifest (files_in g) ≡ Ok base → (b : Bool) → are_sizes config ≡ b
       → IsOpenedRun config timed (found g) (opening_of (if b then Some config.spare else None) (Ok base) g.state) s → Found
   of_catalogue texts base is true sizes run = of_sizes texts base is sizes run
   of_catalogue texts base is false sizes run = refused _ refl run
 
-  of_manifest : first_stranger g ≡ None → (o : Outcome) → loaded g.manifest (files_in g) ≡ o → IsOpenedRun config timed (found g) (opening_of (places_in config) o g.state) s → Found
+  of_manifest : first_stranger g ≡ None → (o : Outcome) → loaded_within (limits_of g.sizes) g.manifest (files_in g) ≡ o → IsOpenedRun config timed (found g) (opening_of (places_in config) o g.state) s → Found
   of_manifest texts (Ok base) is run = of_catalogue texts base is (are_sizes config) refl run
   of_manifest texts (Err refusal) is run = refused _ refl run
 
   of_read : (o : Option (List ℕ × List ℕ)) → first_stranger g ≡ o → IsStressRun config timed (unless_strange o (found g)) s → Found
-  of_read None texts run = of_manifest texts (loaded g.manifest (files_in g)) refl run
+  of_read None texts run = of_manifest texts (loaded_within (limits_of g.sizes) g.manifest (files_in g)) refl run
   of_read (Some stranger) texts run = refused _ refl run
 
 pub transcripts_are_good : TranscriptsAreGood

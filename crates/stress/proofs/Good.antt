@@ -8,18 +8,18 @@ use Rattle.std.proofs.lemmas.List.Elements.{All-nil, All-cons, All-head, All-tai
 use Rattle.std.proofs.lemmas.List.Sorted.{All-permutation}
 use Rattle.std.proofs.lemmas.Str.{is_utf8-from_IsUtf8}
 use Rattle.text.specs.Lines.{lines_of}
-use Rattle.loader.specs.declared.installed.TheConstants.{MAX_PLACES}
+use Rattle.loader.specs.declared.installed.TheConstants.{MAX_SPARE}
 use Rattle.loader.specs.CatalogueView.{CatalogueView, IsCatalogue, Entry, with_places}
-use Rattle.loader.specs.Loading.{Outcome, loaded}
+use Rattle.loader.specs.Loading.{Outcome, loaded_within}
 use Rattle.loader.specs.ProgramFiles.{Files}
 use Rattle.oplog.specs.declared.configuration.Config.{Config}
 use Rattle.replica.specs.StoreMeaning.{AreUpdates}
 use Rattle.oplog.specs.Limits.{IsConfig}
 use Rattle.engine.specs.Answer.{Answer}
 use Rattle.std.specs.Str.{is_utf8}
-use Rattle.engine.specs.Reading.{Given, files_in, first_stranger, read}
+use Rattle.engine.specs.Reading.{Given, files_in, first_stranger, read, limits_of}
 use Rattle.engine.specs.Unread.{first_strange}
-use Rattle.engine.proofs.Gatherings.{found, is_strange, unless_strange}
+use Rattle.engine.proofs.Export.{found, is_strange, unless_strange, are_limits}
 use Rattle.engine.specs.Opening.{opening, opening_of, places_within}
 use Rattle.engine.specs.Report.{answer_of}
 use Rattle.engine.specs.Sizes.{are_sizes, places_in}
@@ -99,15 +99,15 @@ module _ (c : CatalogueView) (whole : IsCatalogue c) (names : HaveNames c) (conf
 
 -- ---- what is answered to what is given
 
-module _ (config : Config) (timed : Bool) (g : Given) (s : Stressed) (texts : first_stranger g ≡ None) (sizes : are_sizes config ≡ true) (base : CatalogueView) (is : loaded g.manifest (files_in g) ≡ Ok base) where
+module _ (config : Config) (timed : Bool) (g : Given) (s : Stressed) (texts : first_stranger g ≡ None) (sizes : are_sizes config ≡ true) (base : CatalogueView) (is : loaded_within (limits_of g.sizes) g.manifest (files_in g) ≡ Ok base) where
   pub found_good : (opened : CatalogueView) → IsCatalogue opened → opened.programs ≡ base.programs → opened_by (with_places base config.spare) g.state ≡ Ok opened
       → (calls : List Called) → script_calls opened 1 (lines_of g.file) ≡ Ok calls → IsRun config timed opened calls s → IsFoundGood config timed g s
   found_good opened whole same opens calls asked run =
       let text = s.reply.text.items in
       let within = sizes_from config sizes in
-      let names : HaveNames opened = λ k e at. has_name g.manifest (files_in g) base k e is (subst (λ (es : List Entry). slice_get es k ≡ Some e) same at) in
+      let names : HaveNames opened = λ k e at. has_name (limits_of g.sizes) g.manifest (files_in g) base k e (are_limits g.sizes) is (subst (λ (es : List Entry). slice_get es k ≡ Some e) same at) in
       let good = is_good opened whole names config within calls (script_fit opened 1 (lines_of g.file) calls asked) (answer_of s.reply) run.transcript s.counts run.counts in
-      let placed : nat_le config.spare MAX_PLACES ≡ true = le-leb config.spare MAX_PLACES within.spare in
+      let placed : nat_le config.spare MAX_SPARE ≡ true = le-leb config.spare MAX_SPARE within.spare in
       record {
         opened = opened;
         opens =

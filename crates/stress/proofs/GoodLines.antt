@@ -14,14 +14,14 @@ use Rattle.verifier.specs.declared.refusal.Mode.{Mode}
 use Rattle.verifier.specs.declared.refusal.Mode.TheVariants.{Update, Read}
 use Rattle.text.specs.Digits.{field_bytes}
 use Rattle.text.specs.Lines.{lines_of, next_line}
-use Rattle.text.proofs.FirstLines.{lines_of-cut}
+use Rattle.text.proofs.Export.{lines_of-cut}
 use Rattle.loader.specs.CatalogueView.{CatalogueView, IsCatalogue}
 use Rattle.oplog.specs.declared.configuration.TheConstants.{MAX_LIMIT}
 use Rattle.oplog.specs.declared.records.Op.TheVariants as operations
 use Rattle.oplog.specs.Operations.{Operation}
 use Rattle.oplog.specs.History.{reply_at, read_reply_at}
 use Rattle.replica.specs.StoreMeaning.{AreUpdates, is_operation, store_meaning}
-use Rattle.running.proofs.RunsOfLines.{grown}
+use Rattle.running.proofs.Export.{grown}
 use Rattle.replaying.specs.ReplayAnswer.{Replayed, Agrees, Bad, Differs, by_outcome, compared, ended_outcome, good_answer, good_text, line_outcome, next_count, read_agrees, told, transcript_answer, unless_barred, update_agrees, with_update}
 use Rattle.engine.specs.Answer.{Answer}
 use Rattle.engine.specs.declared.replies.Verdict.TheVariants as verdicts

@@ -7,7 +7,7 @@ use Rattle.ownlock.specs.Seats.{At}
 use Rattle.oplog.specs.declared.records.Record.{Record}
 use Rattle.accounts.specs.declared.sessions.AnsweredUpdate.{AnsweredUpdate}
 use Rattle.accounts.specs.Told.{records_of, numbered}
-use Rattle.accounts.proofs.Lists.{at_none}
+use Rattle.accounts.proofs.Export.{at_none}
 
 module _ (a : ℕ) where
   its_own : (x : Record) (xs : List Record) → x.author ≡ a → records_of a (x ∷ xs) ≡ x ∷ records_of a xs

@@ -22,15 +22,12 @@ use Rattle.accounts.specs.declared.sessions.AnsweredUpdate.{AnsweredUpdate}
 use Rattle.accounts.specs.declared.sessions.SessionNote.{SessionNote}
 use Rattle.accounts.specs.Accounts.{Extends, IsWellFormed}
 use Rattle.accounts.specs.Told.{Tells, ReadTells, note_with}
-use Rattle.accounts.proofs.Lists.{at_below, at_front, at_joined, at_none}
-use Rattle.accounts.proofs.Finish.{grown_long}
-use Rattle.accounts.proofs.Puts.{at_there}
-use Rattle.accounts.proofs.Tellings.{reply_on, read_on}
+use Rattle.accounts.proofs.Export.{at_below, at_front, at_joined, at_none, grown_long, at_there, reply_on, read_on}
 use Rattle.combiner.specs.declared.slots.Reply.TheVariants.{Placed, Ended}
 use Rattle.readpath.specs.declared.reading.ReadAnswer.{ReadAnswer}
 use Rattle.store.specs.declared.answers.Answer.{Answer}
 use Rattle.store.specs.Opening.{AreOf, ClosedView, IsClosed, last_state}
-use Rattle.store.proofs.EachSession.{all_of_at}
+use Rattle.store.proofs.Export.{all_of_at}
 use Rattle.replica.specs.declared.refusals.StoreRefused.{StoreRefused}
 use Rattle.store_steps.specs.Views.{SessionView, request_of}
 use Rattle.store.specs.Sessions.{StoreView, TellsUpdate, fresh_session, fresh_sessions}

@@ -16,10 +16,10 @@ use Rattle.verifier.specs.declared.refusal.Mode.TheVariants.{Update, Read}
 use Rattle.text.specs.declared.words.TheConstants.{NAME_BYTES}
 use Rattle.text.specs.Digits.{good, field_bytes}
 use Rattle.text.specs.Words.{is_name_byte, is_name}
-use Rattle.text.proofs.FirstLines.{HasNoFeed}
+use Rattle.text.proofs.Export.{HasNoFeed}
 use Rattle.loader.specs.Spelling.{mode_word}
-use Rattle.loader.proofs.WordLemmas.{word_is}
-use Rattle.scripts.proofs.Fields.{digits_of_number}
+use Rattle.loader.proofs.Export.{word_is}
+use Rattle.scripts.proofs.Export.{digits_of_number}
 
 -- a byte of ASCII that is no line feed
 abbrev pub is_printed : ℕ → Bool

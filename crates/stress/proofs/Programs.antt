@@ -9,11 +9,12 @@ use Rattle.text.specs.Lines.{lines_of}
 use Rattle.text.specs.Words.{is_name}
 use Rattle.loader.specs.CatalogueView.{CatalogueView, Entry, names_of, number_named}
 use Rattle.loader.specs.Grammar.{ProgramLine, Meaning, Comment, Map, Program, line_meaning}
-use Rattle.loader.specs.Loading.{loaded}
+use Rattle.maps.specs.declared.shapes.MapLimits.{MapLimits}
+use Rattle.maps.specs.Shapes.{AreLimits}
+use Rattle.loader.specs.Loading.{loaded_within}
 use Rattle.loader.specs.Offers.{IsEntryFor, says_something}
 use Rattle.loader.specs.ProgramFiles.{Files}
-use Rattle.loader.proofs.Outcomes.{loaded_is_offered}
-use Rattle.loader.proofs.Spelled.{spelled}
+use Rattle.loader.proofs.Export.{loaded_is_offered, spelled}
 
 -- ---- names
 
@@ -23,18 +24,18 @@ IsNamed Comment = Unit {0}
 IsNamed (Map shape) = Unit {0}
 IsNamed (Program p) = is_name p.name ≡ true
 
-one_named : (line : List ℕ) (m : Meaning) → line_meaning line ≡ Some m → IsNamed m
-one_named line Comment e = tt
-one_named line (Map shape) e = tt
-one_named line (Program p) e = let s = spelled line (Program p) e in s.1.1
+one_named : (l : MapLimits) (line : List ℕ) (m : Meaning) → line_meaning l line ≡ Some m → IsNamed m
+one_named l line Comment e = tt
+one_named l line (Map shape) e = tt
+one_named l line (Program p) e = let s = spelled l line (Program p) e in s.1.1
 
-all_named : (ls : List (List ℕ)) (ms : List Meaning) → map line_meaning ls ≡ map Some ms → AllByRecursion IsNamed ms
-all_named ls [] e = tt
-all_named [] (m ∷ ms) e = absurd cc
-all_named (l ∷ ls) (m ∷ ms) e =
-    let first : line_meaning l ≡ Some m = cc in
-    let rest : map line_meaning ls ≡ map Some ms = cc in
-    (one_named l m first, all_named ls ms rest)
+all_named : (lim : MapLimits) (ls : List (List ℕ)) (ms : List Meaning) → map (line_meaning lim) ls ≡ map Some ms → AllByRecursion IsNamed ms
+all_named lim ls [] e = tt
+all_named lim [] (m ∷ ms) e = absurd cc
+all_named lim (l ∷ ls) (m ∷ ms) e =
+    let first : line_meaning lim l ≡ Some m = cc in
+    let rest : map (line_meaning lim) ls ≡ map Some ms = cc in
+    (one_named lim l m first, all_named lim ls ms rest)
 
 among : (ms : List Meaning) → AllByRecursion IsNamed ms → AllByRecursion IsNamed (filter says_something ms)
 among [] h = tt
@@ -56,10 +57,10 @@ of_entry files shapes (p ∷ ps) (x ∷ es) zero e named each is = subst (λ (y 
 of_entry files shapes (p ∷ ps) (x ∷ es) (suc k) e named each is = of_entry files shapes ps es k e named.1 each.1 is
 
 -- each program of a loaded manifest has a name
-pub has_name : (manifest : List ℕ) (files : Files) (c : CatalogueView) (k : ℕ) (e : Entry) → loaded manifest files ≡ Ok c → slice_get c.programs k ≡ Some e → is_name e.name ≡ true
-has_name manifest files c k e is at =
-    let o = ((loaded_is_offered manifest files c).0 is).0 in
-    let all = subst (AllByRecursion IsNamed) o.in_order (among o.meanings (all_named (lines_of manifest) o.meanings o.each)) in
+pub has_name : (l : MapLimits) (manifest : List ℕ) (files : Files) (c : CatalogueView) (k : ℕ) (e : Entry) → AreLimits l → loaded_within l manifest files ≡ Ok c → slice_get c.programs k ≡ Some e → is_name e.name ≡ true
+has_name l manifest files c k e ok is at =
+    let o = ((loaded_is_offered l manifest files c ok).0 is).0 in
+    let all = subst (AllByRecursion IsNamed) o.in_order (among o.meanings (all_named l (lines_of manifest) o.meanings o.each)) in
     of_entry files c.shapes o.programs c.programs k e (behind_maps c.shapes o.programs all) o.checked at
 
 -- ---- numbers

@@ -14,14 +14,13 @@ use Rattle.oplog.specs.Calls.{NewProgram}
 use Rattle.oplog.specs.declared.records.Op.TheVariants as operations
 use Rattle.replica.specs.StoreMeaning.{IsCall, is_operation}
 use Rattle.replica.specs.Refusals.{early_refusal}
-use Rattle.replica.proofs.Asked.{is_asked, may_install}
-use Rattle.replica.proofs.Tested.{are_tested}
-use Rattle.running.proofs.RunsOfLines.{field_are_bytes}
+use Rattle.replica.proofs.Export.{is_asked, may_install, are_tested}
+use Rattle.running.proofs.Export.{field_are_bytes}
 use Rattle.scripts.specs.Script.{ProgramKey, Named, Numbered, KeyedCall}
 use Rattle.scripts.specs.LineSpelling.{IsKey, IsNumber, SpellsTold, key_text}
 use Rattle.scripts.specs.Transcript as meanings
 use Rattle.scripts.specs.Transcript.{TranscriptMeaning, Answered, Installed, EndedInstall, transcript_line_meaning}
-use Rattle.scripts.proofs.SpelledTold.{respelled}
+use Rattle.scripts.proofs.Export.{respelled}
 use Rattle.replaying.specs.ReplayAnswer.{number_told, unless_barred, operation_of}
 use Rattle.stress.specs.declared.calls.Asked.{Asked}
 use Rattle.stress.specs.declared.calls.Asked.TheVariants as asks
@@ -122,7 +121,7 @@ module _ (c : CatalogueView) (whole : IsCatalogue c) (names : HaveNames c) where
   few_of_call mode k bytes (inr h) =
       let below = h.within in
       let few : length c.programs ≤ 256 = whole.few in
-      let places : c.places ≤ 16 = whole.few_places in
+      let places : c.places ≤ 4096 = whole.few_places in
       let short : length bytes ≤ 64 = h.short in
       (omega (arith, below, few, places), omega (arith, short))
 

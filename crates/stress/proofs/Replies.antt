@@ -9,7 +9,7 @@ use Rattle.verifier.specs.declared.refusal.Mode.{Mode}
 use Rattle.verifier.specs.declared.refusal.Mode.TheVariants.{Update, Read}
 use Rattle.verifier.specs.Accepted.{Checked, IsAccepted}
 use Rattle.machine.specs.Effects.{Effect as RunEffect}
-use Rattle.machine.proofs.Keeps.{run_kept}
+use Rattle.machine.proofs.Export.{run_kept}
 use Rattle.loader.specs.CatalogueView.{CatalogueView, IsCatalogue, Entry, sizes_for}
 use Rattle.loader.specs.StoreState.{StoreState, IsState}
 use Rattle.oplog.specs.Calls.{Call}
@@ -18,7 +18,7 @@ use Rattle.oplog.specs.declared.records.Op.TheVariants.{Run, Install}
 use Rattle.oplog.specs.History.{Effect, ReadEffect, History, state_after, reply_at, read_reply_at}
 use Rattle.replica.specs.HistoryLaws.{IsEffectOf}
 use Rattle.replica.specs.StoreMeaning.{AreUpdates, is_operation, no_place, placed, program_at, program_in, store_meaning}
-use Rattle.replica.proofs.Histories.{have_effects}
+use Rattle.replica.proofs.Export.{have_effects}
 
 -- what holds of all holds of each
 pub of_each : {X : Type 0} (P : X → Type 0) (xs : List X) (k : ℕ) (x : X) → All P xs → slice_get xs k ≡ Some x → P x
@@ -63,7 +63,7 @@ module _ (c : CatalogueView) (whole : IsCatalogue c) where
       by true free =
           let room = ltb-true (length s.programs) s.places free in
           let few : length c.programs ≤ 256 = whole.few in
-          let places : c.places ≤ 16 = whole.few_places in
+          let places : c.places ≤ 4096 = whole.few_places in
           let same = is.places in
           omega (arith, room, few, places, same)
       by false full = omega arith

@@ -5,13 +5,13 @@ use Rattle.std.proofs.lemmas.Bool.{and_parts, leb-true}
 use Rattle.oplog.specs.declared.configuration.Config.{Config}
 use Rattle.oplog.specs.Limits.{IsConfig}
 use Rattle.loader.specs.CatalogueView.{CatalogueView, opened_on, with_places}
-use Rattle.loader.specs.Loading.{Outcome, loaded}
+use Rattle.loader.specs.Loading.{Outcome}
 use Rattle.dumps.specs.Loading.{Outcome as StateOutcome, loaded_state}
 use Rattle.engine.specs.Opening.{opening, opening_of}
-use Rattle.engine.specs.Reading.{TextsRead}
+use Rattle.engine.specs.Reading.{TextsRead, loaded_by}
 use Rattle.engine.specs.Sizes.{are_sizes, places_in}
 use Rattle.engine.specs.StateAnswer.{on_text}
-use Rattle.engine.proofs.Openings.{on_loaded}
+use Rattle.engine.proofs.Export.{on_loaded}
 use Rattle.stress.specs.Transcripts.{session_count}
 
 pub some_session : (config : Config) → IsConfig config → 0 < session_count config
@@ -55,7 +55,7 @@ opened_so config (Ok base) state c is = by (are_sizes config) refl is
     by false sizes e = absurd cc
 
 pub config_opened : (config : Config) (t : TextsRead) (c : CatalogueView) → Ok c ≡ opening (places_in config) t → IsConfig config
-config_opened config t c is = (opened_so config (loaded t.manifest t.files) t.state c is).0
+config_opened config t c is = (opened_so config (loaded_by t) t.state c is).0
 
 pub places_opened : (config : Config) (t : TextsRead) (c : CatalogueView) → Ok c ≡ opening (places_in config) t → c.places ≡ config.spare
-places_opened config t c is = (opened_so config (loaded t.manifest t.files) t.state c is).1
+places_opened config t c is = (opened_so config (loaded_by t) t.state c is).1

@@ -1,4 +1,4 @@
--- Which calls a script makes on the programs of a catalogue.
+-- The calls that a script makes on the programs of a catalogue.
 use Rattle.std.specs.Prelude.{ℕ, List, [], ◌∷◌, ◌++◌, length, Option, Some, None, option_map, option_and_then, Result, Ok, Err, ◌==◌, if◌then◌else◌}
 use Rattle.std.specs.Option.{option_map_or}
 use Rattle.std.specs.Result.{result_map_both}
@@ -28,7 +28,7 @@ abbrev pub operation_on : Asked → List ℕ → Operation
 operation_on (asks.Run mode k) bytes = operations.Run (record { program = k; argument = bytes })
 operation_on (asks.Install mode arg_len) bytes = operations.Install (record { mode = mode; arg_len = arg_len; bytes = bytes })
 
--- its refusal before anything is done
+-- the operation's refusal before anything is done
 abbrev pub asked_refusal : CatalogueView → Asked → List ℕ → Option StoreRefused
 asked_refusal c (asks.Run mode k) bytes = early_refusal c mode k bytes
 asked_refusal c (asks.Install mode arg_len) bytes = install_refusal c.shapes (record { mode = mode; arg_len = arg_len; bytes = bytes })

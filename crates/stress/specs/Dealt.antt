@@ -1,4 +1,4 @@
--- Which calls of a script each session makes: they go to the sessions in turn.
+-- The calls of a script that each session makes: they go to the sessions in turn.
 use Rattle.std.specs.Prelude.{ℕ, zero, suc, ◌-◌, List, [], ◌∷◌, ◌++◌, length, take, drop}
 
 -- of calls that go to n sessions in turn, those of the session whose turn comes after `skip` others: from there on each n-th
@@ -7,12 +7,12 @@ dealt n skip [] = []
 dealt n zero (call ∷ calls) = call ∷ dealt n (n - 1) calls
 dealt n (suc skip) (call ∷ calls) = dealt n skip calls
 
--- those of so many sessions, one behind the other, from session k on
+-- the calls of so many sessions, one after the other, from session k on
 abbrev pub dealt_from : {X : Type 0} → ℕ → ℕ → ℕ → List X → List X
 dealt_from n k zero calls = []
 dealt_from n k (suc count) calls = dealt n k calls ++ dealt_from n (suc k) count calls
 
--- those of all n sessions
+-- the calls of all n sessions
 abbrev pub dealt_to : {X : Type 0} → ℕ → List X → List X
 dealt_to n calls = dealt_from n 0 n calls
 

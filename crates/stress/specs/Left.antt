@@ -33,7 +33,7 @@ left_by to s =
 abbrev pub answer_left : LeftTexts → Answer
 answer_left l = answer_of l.reply
 
--- these are the texts of what was made
+-- the texts are those of what was made
 abbrev pub IsLeft : Leaving → Stressed → LeftTexts → Type 0
 IsLeft to s l =
     (record { answer = answer_left l; times = option_map (λ v. v.items) l.times; state = option_map (λ v. v.items) l.state } ≡ left_by to s) × (l.counts ≡ s.counts)

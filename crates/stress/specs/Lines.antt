@@ -40,7 +40,7 @@ suits mode said = false
 abbrev pub AreOrdered : List ToldCall → Type 0
 AreOrdered told = IsNonDecreasingBy (λ t. rank t.said) told
 
--- those whose lines stand at this rank
+-- the calls that have their lines at this rank
 abbrev pub at_rank : ℕ → List ToldCall → List ToldCall
 at_rank r told = filter (λ t. rank t.said == r) told
 
@@ -60,7 +60,7 @@ abbrev pub asked_text : CatalogueView → Asked → List ℕ
 asked_text c (asks.Run mode k) = option_map_or (λ program. program.name) (slice_get c.programs k) (decimal k)
 asked_text c (asks.Install mode arg_len) = mode_word mode ++ (codes " " ++ decimal arg_len)
 
--- the same, and HEX
+-- the text of `asked_text`, and HEX
 abbrev pub call_text : CatalogueView → Called → List ℕ
 call_text c call = asked_text c call.asked ++ (codes " " ++ call.digits)
 

@@ -111,7 +111,7 @@ NamesTurns n calls told = IfOk told (λ v. All (λ t. IsInTurn n calls (timed_of
 abbrev pub AreSteadyTo : ℕ → ℕ → List (Option Called) → List Told → Type 0
 AreSteadyTo n m calls told = (k : ℕ) → k < m → AreSteady (map told_of (share_of n k calls told))
 
--- the same, unless memory ran out
+-- `AreSteadyTo`, unless memory ran out
 abbrev pub TellsSteady : {X E : Type 0} → ℕ → ℕ → List (Option Called) → Result (Vec Told X) E → Type 0
 TellsSteady n m calls told = IfOk told (λ v. AreSteadyTo n m calls v.items)
 
@@ -147,13 +147,13 @@ IsUpTo n (said.Updated index reply) = index < n
 IsUpTo n (said.Seen point reply) = point ≤ n
 IsUpTo n said.Ended = Unit {0}
 
--- it has its line behind what was completed: an update behind the whole history
+-- the answer has its line after what was completed: an update after the whole history
 abbrev pub IsBehind : Progress CatalogueView → said.Said → Type 0
 IsBehind l (said.Updated index reply) = length l.history ≤ index
 IsBehind l (said.Seen point reply) = l.completed ≤ point
 IsBehind l said.Ended = Unit {0}
 
--- it has its line before what the session knows now, completed and not
+-- the answer has its line before what the session knows now, completed and not
 abbrev pub IsBefore : Progress CatalogueView → said.Said → Type 0
 IsBefore l answer = IsUpTo l.completed answer × IsUpTo (length l.history) answer
 
@@ -200,7 +200,7 @@ pub record AreToldIn (l : Progress CatalogueView) (sessions : List SessionView) 
   pub shown : (k : ℕ) (s : SessionView) → At k s sessions → AreShown l s (map told_of told)
   pub only : (i : ℕ) → (lines_at i (map told_of told) ≡ 0) ⊎ ((k : ℕ) × (s : SessionView) × At k s sessions × HasAnswered i s)
 
--- the same in whatever has grown from what these sessions know, if each is numbered by its index
+-- `AreToldIn` in whatever has grown from what these sessions know, if each is numbered by its index
 abbrev pub AreTold : List SessionView → List Told → Type 0
 AreTold sessions told =
     (l : Progress CatalogueView) → ((k : ℕ) (s : SessionView) → At k s sessions → Extends s.progress l × (s.session ≡ k)) → AreToldIn l sessions told

@@ -42,7 +42,7 @@ said_of told.Ended = said.Ended
 abbrev pub told_of : Told → ToldCall
 told_of t = record { call = called t.call.now; said = said_of t.said }
 
--- the same, and when the call was made
+-- `told_of`, and when the call was made
 abbrev pub timed_of : Told → Timed
 timed_of t = record { told = told_of t; session = t.noted.session; begun = t.noted.begun; ended = t.noted.ended }
 

@@ -19,7 +19,7 @@ abbrev pub timed_text : Timed → List ℕ
 timed_text t =
     decimal t.session ++ (codes " " ++ (decimal t.told.call.line ++ (codes " " ++ (decimal t.begun ++ (codes " " ++ (decimal t.ended ++ codes "\n"))))))
 
--- it names one of n sessions, and its call is one of those that go to this session, where they go to all n in turn
+-- the line names one of n sessions, and its call is one of those that go to this session, where they go to all n in turn
 abbrev pub IsInTurn : ℕ → List Called → Timed → Type 0
 IsInTurn n calls t = (t.session < n) × Contains (dealt n t.session calls) t.told.call
 

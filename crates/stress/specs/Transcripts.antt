@@ -24,11 +24,11 @@ pub record IsTranscript (config : Config) (c : CatalogueView) (calls : List Call
   pub suited : All (λ t. suits (told_as t.call.asked) t.said ≡ true) asked
   -- a session's answers have their lines in the order of its calls
   pub steady : (k : ℕ) → k < session_count config → AreSteady (share_of (session_count config) k calls asked)
-  -- the same in the order of their lines, which are what is written
+  -- the answered calls in the order of their lines, which are what is written
   pub told : List ToldCall
   pub same : IsPermutation asked told
   pub ordered : AreOrdered told
-  -- those of one rank stand session by session, and those of one session in its order
+  -- the calls of one rank are session by session, and those of one session in its order
   pub by_session : (r : ℕ) → at_rank r told ≡ at_rank r asked
   pub is : a ≡ record { text = transcript_text c told; verdict = verdicts.Good }
   -- and one history is behind all lines

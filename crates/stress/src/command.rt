@@ -3,7 +3,7 @@
 ghost use Rattle.std.specs.Prelude.{◌≡◌, ◌≤◌, All, map, Option, Some, IfOk, IfSome};
 ghost use Rattle.text.specs.Lines.{lines_of};
 ghost use Rattle.loader.specs.CatalogueView.{MayOpenOn, OpensOn};
-ghost use Rattle.loader.specs.declared.installed.TheConstants.{MAX_PLACES};
+ghost use Rattle.loader.specs.declared.installed.TheConstants.{MAX_SPARE};
 ghost use Rattle.oplog.specs.Limits.{IsConfig};
 ghost use Rattle.engine.specs.ReadFaults.{IfCannotRead};
 ghost use Rattle.engine.specs.Reading.{FailedInTurn, IfGiven, TextsRead, read, texts_in, texts_read};
@@ -62,7 +62,7 @@ pub struct Stress<'a, R, G, C> {
 // How many places a store of these sizes has behind its programs; none where a size is out of its limits.
 fn places_in(config: Config) -> Option<usize>
     ensures places { result ≡ places_in config }
-    ensures few { IfSome result (λ n. n ≤ MAX_PLACES) }
+    ensures few { IfSome result (λ n. n ≤ MAX_SPARE) }
 {
     if config.is_within_limits() {
         Some(config.spare as usize)
@@ -159,7 +159,7 @@ impl<'a, R: Threads + Wait + Sync, G: Gate + Sync, C: Clock + Sync> Stress<'a, R
     ) -> Result<Stressed, ReadFault>
         // Where the readers and the folder tell their bytes, it is made of those.
         ensures known { IfGiven F.holds S.remaining inputs.old (λ g. IfOk result (MayMake self.now (read g))) }
-        // It says that a read failed only after one did, and all texts before that one are UTF-8.
+        // The result says that a read failed only after one did, and all texts before that one are UTF-8.
         ensures failed { IfCannotRead result (FailedInTurn F.holds F.can_fail S.remaining S.has_failed inputs.old inputs.new) }
         // Whatever they give.
         ensures some { IfOk result (λ s. (t : Option TextsRead) × MayMake self.now t s) }
@@ -182,7 +182,7 @@ impl<'a, R: Threads + Wait + Sync, G: Gate + Sync, C: Clock + Sync> Stress<'a, R
     ) -> Status
         // Where the readers and the folder tell their bytes, what is written is what it answers to those.
         ensures written { IfGiven F.holds S.remaining inputs.old (ReportsRead (λ s. answer_of s.reply) (MayMake self.now) W.contents writer.old writer.new result) }
-        // It says that a read or a write failed only after one did, and of a read that all texts before that one are UTF-8.
+        // The status says that a read or a write failed only after one did, and of a read that all texts before that one are UTF-8.
         ensures failed { Failed result (FailedInTurn F.holds F.can_fail S.remaining S.has_failed inputs.old inputs.new) (W.has_failed writer.new) }
         // Whatever they give, or where they fail.
         ensures ended { Reports (λ s. answer_of s.reply) (λ s. (t : Option TextsRead) × MayMake self.now t s) (W.contents writer.old) (W.contents writer.new) result }
@@ -191,7 +191,7 @@ impl<'a, R: Threads + Wait + Sync, G: Gate + Sync, C: Clock + Sync> Stress<'a, R
         report(writer, &made)
     }
 
-    // What it makes of the texts, and where that goes.
+    // Makes the texts that `stress` leaves, and says where each goes.
     fn prepare_left<F: Folder, S: Source + Drop>(
         &self,
         alloc: Global,
@@ -220,7 +220,7 @@ impl<'a, R: Threads + Wait + Sync, G: Gate + Sync, C: Clock + Sync> Stress<'a, R
     ) -> Performed<LeftTexts>
         // Where the readers and the folder tell their bytes, it is made of those, and its answer is what was written.
         ensures written { IfGiven F.holds S.remaining inputs.old (PerformsRead answer_left (MayLeave self.now to) W.contents writer.old writer.new result) }
-        // It says that a read or a write failed only after one did, and of a read that all texts before that one are UTF-8.
+        // The status says that a read or a write failed only after one did, and of a read that all texts before that one are UTF-8.
         ensures failed { Failed result.status (FailedInTurn F.holds F.can_fail S.remaining S.has_failed inputs.old inputs.new) (W.has_failed writer.new) }
         // Whatever they give, or where they fail.
         ensures ended { Performs answer_left (λ l. (t : Option TextsRead) × MayLeave self.now to t l) (W.contents writer.old) (W.contents writer.new) result }

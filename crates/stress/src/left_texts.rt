@@ -8,7 +8,7 @@ use crate::watching::Counts;
 use engine::{Answering, Destination, Parted, Reply, Verdict};
 use std::alloc::{AllocError, Global};
 
-/// Where it goes what a run leaves besides its transcript.
+/// Where to write what a run leaves besides its transcript.
 #[derive(Clone, Copy)]
 pub struct Leaving {
     /// The times of its calls.

@@ -86,7 +86,7 @@ fn put_asked(out: &mut Vec<u8>, catalogue: &Catalogue, asked: Asked) -> Result<(
     }
 }
 
-// The same, and HEX.
+// NAME or K, or of an install MODE ARGLEN, and then HEX.
 fn put_call(out: &mut Vec<u8>, catalogue: &Catalogue, call: &ScriptCall) -> Result<(), AllocError>
     ensures { OnOk result (out.new.items ≡ out.old.items ++ call_text catalogue.now (called call.now)) }
 {

@@ -104,7 +104,7 @@ fn enter<'a>(alloc: Global, sessions: &mut Vec<Session>, players: &mut Vec<Playe
     }
 }
 
-// Both lists, one behind the other.
+// Joins two lists, one after the other.
 fn joined<'a>(
     told: Result<Vec<Told<'a>>, AllocError>,
     more: Result<Vec<Told<'a>>, AllocError>,

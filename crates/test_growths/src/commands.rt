@@ -8,7 +8,7 @@ use crate::served::{
 };
 use crate::streams::{Narrow, Programs, Slow, Turns};
 use console::{Assemble, Check, Disassemble};
-use engine::{Answering, Inputs, Notes, Status};
+use engine::{Answering, Inputs, MapSizes, Notes, Status};
 use oplog::Config;
 use replaying::Replay;
 use running::Run;
@@ -43,6 +43,7 @@ fn stressed<R: Threads + Wait + Sync>(
         clock: None::<&NoClock>,
     };
     let mut inputs = Inputs {
+        sizes: MapSizes::Standard,
         folder: &Programs { turns: reads },
         manifest: Some(Slow::new(MANIFEST, reads)),
         file: Some(Slow::new(CALLS, reads)),
@@ -55,6 +56,7 @@ fn stressed<R: Threads + Wait + Sync>(
 // `serve` on the manifest and its script, on a new state.
 fn served(alloc: Global, reads: &Turns, out: &mut Narrow<'_>) -> Status {
     let mut inputs = Inputs {
+        sizes: MapSizes::Standard,
         folder: &Programs { turns: reads },
         manifest: Some(Slow::new(MANIFEST, reads)),
         file: None,
@@ -73,15 +75,15 @@ struct Given {
 }
 
 // The manifest, and this text beside it.
-fn beside(file: &'static str) -> Given {
+fn with_manifest(file: &'static str) -> Given {
     Given {
         manifest: Some(MANIFEST),
         file: Some(file),
     }
 }
 
-// This text alone.
-fn alone(file: &'static str) -> Given {
+// The text alone, without a manifest.
+fn only_file(file: &'static str) -> Given {
     Given {
         manifest: None,
         file: Some(file),
@@ -89,7 +91,7 @@ fn alone(file: &'static str) -> Given {
 }
 
 // A text that comes slowly, where there is one.
-fn slowly<'a>(text: Option<&'static str>, reads: &'a Turns) -> Option<Slow<'a>> {
+fn slow_text<'a>(text: Option<&'static str>, reads: &'a Turns) -> Option<Slow<'a>> {
     match text {
         Some(text) => Some(Slow::new(text, reads)),
         None => None,
@@ -108,9 +110,10 @@ where
     C::Made: Answering,
 {
     let mut inputs = Inputs {
+        sizes: MapSizes::Standard,
         folder: &Programs { turns: reads },
-        manifest: slowly(texts.manifest, reads),
-        file: slowly(texts.file, reads),
+        manifest: slow_text(texts.manifest, reads),
+        file: slow_text(texts.file, reads),
         state: None,
         history: None,
     };
@@ -135,29 +138,29 @@ pub fn ended<R: Threads + Wait + Sync>(
         }
         Command::Run => {
             let command = Run { is_signed: false };
-            answered(alloc, &command, beside(SCRIPT), reads, out)
+            answered(alloc, &command, with_manifest(SCRIPT), reads, out)
         }
         Command::Assemble => {
             let command = Assemble {
                 is_elsewhere: false,
             };
-            answered(alloc, &command, alone(BUMP_TEXT), reads, out)
+            answered(alloc, &command, only_file(BUMP_TEXT), reads, out)
         }
         Command::Disassemble => {
             let command = Disassemble { has_slots: false };
-            answered(alloc, &command, alone(BUMP_LINE), reads, out)
+            answered(alloc, &command, only_file(BUMP_LINE), reads, out)
         }
         Command::Slots => {
             let command = Disassemble { has_slots: true };
-            answered(alloc, &command, alone(BUMP_LINE), reads, out)
+            answered(alloc, &command, only_file(BUMP_LINE), reads, out)
         }
         Command::Schedule => {
             let command = Schedule { config: SIZES };
-            answered(alloc, &command, beside(STEPS), reads, out)
+            answered(alloc, &command, with_manifest(STEPS), reads, out)
         }
         Command::Replay => {
             let command = Replay { spare: 4 };
-            answered(alloc, &command, beside(TRANSCRIPT), reads, out)
+            answered(alloc, &command, with_manifest(TRANSCRIPT), reads, out)
         }
         Command::Stress => stressed(rt, alloc, reads, out),
         Command::Serve => served(alloc, reads, out),

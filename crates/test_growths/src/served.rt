@@ -4,11 +4,11 @@
 pub const BUMP_TEXT: &str =
     "mov64 r2, r1\nldmap r1, 0\ncall 1\njeq r0, 0, +5\nldxdw r6, [r0+0]\nadd64 r6, 1\nstxdw [r0+0], r6\nmov64 r0, r6\nexit\nmov64 r0, -1\nexit\n";
 
-/// The same in hexadecimal digits.
+/// `BUMP_TEXT` as a program, in hexadecimal digits.
 pub const BUMP_LINE: &str =
     "bf120000000000001851000000000000000000000000000085000000010000001500050000000000790600000000000007060000010000007b60000000000000bf600000000000009500000000000000b7000000ffffffff9500000000000000\n";
 
-/// Its text behind slots and bytes.
+/// `BUMP_TEXT` after the slots and bytes of its instructions.
 pub const BUMP_SLOTS: &str =
     "   0  bf12000000000000  mov64 r2, r1\n   1  18510000000000000000000000000000  ldmap r1, 0\n   3  8500000001000000  call 1\n   4  1500050000000000  jeq r0, 0, +5\n   5  7906000000000000  ldxdw r6, [r0+0]\n   6  0706000001000000  add64 r6, 1\n   7  7b60000000000000  stxdw [r0+0], r6\n   8  bf60000000000000  mov64 r0, r6\n   9  9500000000000000  exit\n  10  b7000000ffffffff  mov64 r0, -1\n  11  9500000000000000  exit\n";
 

@@ -77,7 +77,7 @@ pub fn opened<R: Wait>(rt: &R, alloc: Global) -> Ending {
     }
 }
 
-/// The same on a state, which is a new one.
+/// `opened`, but on a state, which is a new one.
 pub fn opened_on<R: Wait>(rt: &R, alloc: Global) -> Ending {
     let Some(catalogue) = catalogue(alloc) else {
         return Ending::NotReached;

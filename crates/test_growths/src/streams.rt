@@ -45,7 +45,7 @@ pub struct Slow<'a> {
 }
 
 impl<'a> Slow<'a> {
-    /// Its reads are counted with those of other texts.
+    /// Makes a slow text: its reads are counted with those of other texts.
     pub fn new(text: &'a str, turns: &'a Turns) -> Slow<'a> {
         Slow {
             left: text.as_bytes(),

@@ -3,7 +3,7 @@
 use crate::commands::ended;
 use crate::served::{COUNTER, Command, FIVE_CALLS, may_have_written, written};
 use crate::streams::{Narrow, Programs, Slow, Turns};
-use engine::{Inputs, Notes, Status, perform};
+use engine::{Inputs, MapSizes, Notes, Status, perform};
 use running::Run;
 use std::alloc::Global;
 use std::sync::Wait;
@@ -89,6 +89,7 @@ pub fn failed_in_turn<R: Threads + Wait + Sync>(
 pub fn counted(alloc: Global, out: &mut Narrow<'_>) -> Status {
     let reads = Turns::new(0);
     let mut inputs = Inputs {
+        sizes: MapSizes::Standard,
         folder: &Programs { turns: &reads },
         manifest: Some(Slow::new(COUNTER, &reads)),
         file: Some(Slow::new(FIVE_CALLS, &reads)),

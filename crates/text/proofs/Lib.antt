@@ -6,3 +6,4 @@ pub mod LineReadings
 pub mod Numbers
 pub mod Numerals
 pub mod SpacedBytes
+pub mod Export

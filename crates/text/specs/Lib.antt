@@ -1,4 +1,4 @@
--- Which lines, fields, names, numbers and digits a text has.
+-- The lines, fields, names, numbers and digits of a text.
 pub mod Lines
 pub mod Fields
 pub mod Words

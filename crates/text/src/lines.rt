@@ -71,11 +71,11 @@ fn first_line(text: &str) -> (&str, &str)
 /// What a line is before its words are read.
 #[derive(Clone, Copy)]
 pub enum LineKind {
-    /// It has more than 512 bytes, and is bad whatever it holds.
+    /// The line has more than 512 bytes, and is bad whatever it holds.
     TooLong,
-    /// It is empty, or begins with `#`: it says nothing.
+    /// The line is empty, or begins with `#`: it says nothing.
     Comment,
-    /// Its words say something.
+    /// The words of the line say something.
     Words,
 }
 

@@ -7,7 +7,7 @@ use Rattle.std.proofs.lemmas.Bool.Decides.{Decides-int_eq, Decides-eqb}
 use Rattle.regkind.specs.declared.frames.Kind.{Kind}
 use Rattle.regkind.specs.declared.frames.Kind.TheVariants.{Unreadable, Scalar, Stack, Arg, Map, Value, ValueOrNull}
 use Rattle.regkind.specs.Frames.{Frame, IsFrame, Covers, CoversKind, kind}
-use Rattle.regkind.proofs.Laws.{kind-with_kind_same, kind-with_kind_other, IsFrame-with_kind, IsFrame-blank}
+use Rattle.regkind.proofs.Export.{kind-with_kind_same, kind-with_kind_other, IsFrame-with_kind, IsFrame-blank, blank_cell, cell-with_cell_same, cell-with_cell_other, IsFrame-with_cell, cells_from_marks, marks_from_cells}
 use Rattle.verifier.specs.Joined.{is_same, common_kind, with_common_kinds, common}
 use Rattle.std.proofs.Common.{◌/◌}
 use Rattle.std.specs.Int.RustNames.{bit_and}
@@ -16,7 +16,6 @@ use Rattle.std.proofs.lemmas.Nat.Bits.{bit_at_and, bit_at-lt, bit_at-zero}
 use Rattle.regkind.specs.declared.frames.Cell.{Cell}
 use Rattle.regkind.specs.declared.frames.Cell.TheVariants.{Marks, Spilled}
 use Rattle.regkind.specs.Frames.{IsCell, CoversCell, CoversMarks, cell}
-use Rattle.regkind.proofs.Laws.{blank_cell, cell-with_cell_same, cell-with_cell_other, IsFrame-with_cell, cells_from_marks, marks_from_cells}
 use Rattle.verifier.specs.Joined.{common_cell, with_common_cells}
 
 -- ---- kinds
@@ -158,7 +157,7 @@ common_frame a b fa fb = cells_frame a b 64 fa fb
 common_kinds : (a b : Frame) (r : ℕ) → r < 11 → kind (common a b) r ≡ common_kind (kind a r) (kind b r)
 common_kinds a b r lt = cells_kind a b 64 r ∙ kinds_kind a b 11 r (omega arith) lt
 
--- it says what both say, and nothing else
+-- `common` says what both frames say, and nothing else
 pub common_covers : (a b c : Frame) → IsFrame a → IsFrame b → Covers c (common a b) ↔ (Covers c a × Covers c b)
 common_covers a b c fa fb = (
   λ h. (

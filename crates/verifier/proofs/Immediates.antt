@@ -1,4 +1,4 @@
--- Which rules arithmetic with an immediate may break: those of a move of a pointer, of a number that is made, or of one that is computed.
+-- The rules that arithmetic with an immediate may break: those of a move of a pointer, of a number that is made, or of one that is computed.
 use Rattle.std.proofs.Common.{◌≡◌, ℕ, Bool, true, false, Some, None, refl, sym, ap}
 use Rattle.std.specs.Prelude.{ℤ}
 use Rattle.std.proofs.lemmas.Bool.{false≢true}

@@ -13,12 +13,12 @@ use Rattle.insn.specs.Layout.{LeadsTo, slot_count, instruction_at, falls_through
 use Rattle.insn.specs.declared.instruction.Edge.{Edge}
 use Rattle.insn.specs.declared.instruction.Edge.TheVariants.{Fall, Jump}
 use Rattle.regkind.specs.Frames.{Frame, Covers, IsFrame, entry_frame}
-use Rattle.regkind.proofs.Laws.{covers_refl, covers_trans, IsFrame-entry}
+use Rattle.regkind.proofs.Export.{covers_refl, covers_trans, IsFrame-entry}
 use Rattle.flow.specs.Structure.{IsStructured, StandsAt, Reached}
 use Rattle.flow.specs.Structure as flow
 use Rattle.flow.specs.Faults.{is_slot}
 use Rattle.flow.specs.declared.rules.StructureRule.TheVariants.{Unreachable}
-use Rattle.flow.proofs.Jumps.{jump_found, jump_tested, slot_is}
+use Rattle.flow.proofs.Export.{jump_found, jump_tested, slot_is}
 use Rattle.verifier.specs.FrameAfter.{frame_after}
 use Rattle.verifier.specs.Typing.{Frames, Leads, ComesTo, IsKnownAt}
 use Rattle.verifier.specs.Joined.{common, in_common, Leaving, leaving, edges_of, leads, leads_to, frame_in, frame_along, entry_at, joined_frames, joined_frame}
@@ -101,7 +101,7 @@ out_of_neither G s t (Some i) o e = out_of_is G s t i o ∙ ap (along_both i s t
     by false true = none o
     by false false = refl
 
--- it takes the frame of its slot alone
+-- `out_of` takes the frame of its slot alone
 pub out_of_same : (G H : ℕ → Option Frame) (s t : ℕ) (x : Option Form) (o : Option Frame) → G s ≡ H s → out_of G s x t o ≡ out_of H s x t o
 out_of_same G H s t None o e = refl
 out_of_same G H s t (Some i) o e = out_of_is G s t i o ∙ ap (along_both i s t o) e ∙ sym (out_of_is H s t i o)
@@ -159,7 +159,7 @@ module _ (p : List Form) (J : Frames) (Seen : ℕ → Edge → Type 0) (t : ℕ)
       subst (λ e'. Covers a (frame_after x (J u) e')) (sym new.1)
       (subst (λ u'. Covers a (frame_after x (J u') d)) (sym new.0) (subst (λ y. Covers a (frame_after y (J s) d)) form c))
 
-  -- it leads there
+  -- the edge leads to slot t
   goes_in : (o : Option Frame) → LeadsTo i s d (pos t) → ComesIn p J Seen t o → ComesIn p J (With Seen s d) t (in_common o (Some (frame_after i (J s) d)))
   goes_in None leads c = record {
     frame = after_frame i (J s) d frame;

@@ -7,17 +7,17 @@ use Rattle.std.proofs.lemmas.Bool.{cases_lt}
 use Rattle.insn.specs.declared.instruction.Form.{Form}
 use Rattle.insn.specs.Encoding.{HasEncoding}
 use Rattle.insn.specs.Layout.{size, instruction_at}
-use Rattle.insn.proofs.Places.{first_of}
+use Rattle.insn.proofs.Export.{first_of}
 use Rattle.insn.specs.declared.instruction.Edge.{Edge}
 use Rattle.insn.specs.declared.instruction.Edge.TheVariants.{Fall, Jump}
 use Rattle.regkind.specs.declared.frames.Kind.{Kind}
 use Rattle.regkind.specs.declared.frames.Kind.TheVariants.{Scalar, Stack}
 use Rattle.regkind.specs.declared.frames.Cell.TheVariants.{Marks}
 use Rattle.regkind.specs.Frames.{Frame, Covers, IsFrame, entry_frame, blank_frame}
-use Rattle.regkind.proofs.Laws.{covers_refl, covers_antisymmetric, IsFrame-entry, IsFrame-blank}
+use Rattle.regkind.proofs.Export.{covers_refl, covers_antisymmetric, IsFrame-entry, IsFrame-blank}
 use Rattle.flow.specs.Structure.{IsStructured, StandsAt, Reached}
 use Rattle.flow.specs.Structure as flow
-use Rattle.flow.proofs.Forward.{target_stands}
+use Rattle.flow.proofs.Export.{target_stands}
 use Rattle.verifier.specs.Signature.{Signature}
 use Rattle.verifier.specs.Rules.{first_broken}
 use Rattle.verifier.specs.FrameAfter.{frame_after}

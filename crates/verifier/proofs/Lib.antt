@@ -17,3 +17,4 @@ pub mod Typed
 pub mod Known
 pub mod MapsOfKinds
 pub mod MoreMaps
+pub mod Export

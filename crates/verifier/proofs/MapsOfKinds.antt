@@ -15,7 +15,7 @@ use Rattle.regkind.specs.declared.frames.Kind.TheVariants.{Unreadable, Scalar, S
 use Rattle.regkind.specs.declared.frames.Cell.{Cell}
 use Rattle.regkind.specs.declared.frames.Cell.TheVariants.{Marks, Spilled}
 use Rattle.regkind.specs.Frames.{Frame, Covers, CoversKind, CoversPointer, IsCell, IsFrame, is_pointer, kind, cell, with_kind, with_cell, with_mark, with_marks, blank_frame, entry_frame}
-use Rattle.regkind.proofs.Laws as frames
+use Rattle.regkind.proofs.Export as frames
 use Rattle.helpers.specs.declared.numbers.Helper.{Helper}
 use Rattle.helpers.specs.declared.numbers.Helper.TheVariants.{Lookup, Update, Delete}
 use Rattle.helpers.specs.Numbers.{helper_of}

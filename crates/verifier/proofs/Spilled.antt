@@ -10,7 +10,7 @@ use Rattle.regkind.specs.declared.frames.Kind.TheVariants.{Stack, Value, ValueOr
 use Rattle.regkind.specs.declared.frames.Cell.{Cell}
 use Rattle.regkind.specs.declared.frames.Cell.TheVariants.{Marks, Spilled}
 use Rattle.regkind.specs.Frames.{Frame, Covers, CoversCell, CoversPointer, IsCell, cell, marks_of, mark, all_marked}
-use Rattle.regkind.proofs.Laws as frames
+use Rattle.regkind.proofs.Export as frames
 use Rattle.verifier.specs.Signature.{Signature}
 use Rattle.verifier.specs.Regions.{lies_in, stack_index, whole_cell, spilled_kind, pointer_in, has_unmarked}
 use Rattle.verifier.specs.FrameAfter.{forgotten_cell}

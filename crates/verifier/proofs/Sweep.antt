@@ -11,7 +11,7 @@ use Rattle.insn.specs.Layout.{LeadsTo, size, slot_count, instruction_at}
 use Rattle.insn.specs.declared.instruction.Edge.{Edge}
 use Rattle.insn.specs.declared.instruction.Edge.TheVariants.{Fall, Jump}
 use Rattle.regkind.specs.Frames.{Frame, Covers, IsFrame, entry_frame}
-use Rattle.regkind.proofs.Laws.{covers_refl, covers_antisymmetric, IsFrame-entry}
+use Rattle.regkind.proofs.Export.{covers_refl, covers_antisymmetric, IsFrame-entry}
 use Rattle.flow.specs.Structure.{StandsAt}
 use Rattle.verifier.specs.declared.refusal.VerifyFault.{VerifyFault}
 use Rattle.verifier.specs.declared.refusal.Refused.{Refused}

@@ -6,9 +6,9 @@ use Rattle.std.proofs.lemmas.Option.{slice_get_past}
 use Rattle.insn.specs.declared.instruction.Form.{Form}
 use Rattle.insn.specs.Layout.{size}
 use Rattle.regkind.specs.Frames.{Frame, Covers, IsFrame, entry_frame}
-use Rattle.regkind.proofs.Laws.{IsFrame-entry}
+use Rattle.regkind.proofs.Export.{IsFrame-entry}
 use Rattle.flow.specs.Structure.{IsStructured}
-use Rattle.flow.proofs.Forward.{target_stands}
+use Rattle.flow.proofs.Export.{target_stands}
 use Rattle.verifier.specs.Signature.{Signature}
 use Rattle.verifier.specs.Rules.{first_broken}
 use Rattle.verifier.specs.FrameAfter.{frame_after}

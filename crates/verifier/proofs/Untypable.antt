@@ -5,7 +5,7 @@ use Rattle.std.proofs.lemmas.Option.{same_Some}
 use Rattle.insn.specs.declared.instruction.Form.{Form}
 use Rattle.insn.specs.Encoding.{HasEncoding}
 use Rattle.regkind.specs.Frames.{Frame, Covers, entry_frame}
-use Rattle.regkind.proofs.Laws.{covers_trans}
+use Rattle.regkind.proofs.Export.{covers_trans}
 use Rattle.flow.specs.Structure.{StandsAt}
 use Rattle.verifier.specs.declared.refusal.VerifyFault.{VerifyFault}
 use Rattle.verifier.specs.Signature.{Signature}

@@ -7,14 +7,13 @@ use Rattle.std.proofs.lemmas.Bool.{cases_lt, cases_eq}
 use Rattle.insn.specs.declared.instruction.Form.{Form}
 use Rattle.insn.specs.Encoding.{HasEncoding}
 use Rattle.insn.specs.Layout.{size, instruction_at}
-use Rattle.insn.proofs.Places.{first_of}
+use Rattle.insn.proofs.Export.{first_of}
 use Rattle.regkind.specs.Frames.{Frame, Covers, IsFrame, entry_frame}
-use Rattle.regkind.proofs.Laws.{covers_antisymmetric, IsFrame-entry}
+use Rattle.regkind.proofs.Export.{covers_antisymmetric, IsFrame-entry}
 use Rattle.flow.specs.Structure.{IsStructured, StandsAt}
 use Rattle.flow.specs.declared.rules.Broken.{Broken}
 use Rattle.flow.specs.Faults.{structure_fault}
-use Rattle.flow.proofs.Forward.{leads_on, target_stands}
-use Rattle.flow.proofs.Lowest.{structured_from_fault, broken_from_fault, broken_is_not_structured, only_one_broken, no_fault_iff, fault_iff}
+use Rattle.flow.proofs.Export.{leads_on, target_stands, structured_from_fault, broken_from_fault, broken_is_not_structured, only_one_broken, no_fault_iff, fault_iff}
 use Rattle.verifier.specs.declared.refusal.VerifyFault.{VerifyFault}
 use Rattle.verifier.specs.declared.refusal.Refused.{Refused}
 use Rattle.verifier.specs.Signature.{Signature}

@@ -31,7 +31,7 @@ abbrev pub error_number : VerifyError → ℕ
 error_number answers.NoMemory = 0
 error_number (answers.Refused e) = fault_number e.why
 
--- its slot: 0 where there is no memory left
+-- the slot of what verify answers: 0 if there is no memory left
 abbrev pub error_slot : VerifyError → ℕ
 error_slot answers.NoMemory = 0
 error_slot (answers.Refused e) = e.slot

@@ -1,21 +1,21 @@
 -- What a program is checked for.
 use Rattle.std.specs.Prelude.{ℕ, ◌≤◌, List}
 use Rattle.maps.specs.declared.shapes.Shape.{Shape}
-use Rattle.maps.specs.Shapes.{AreShapesOk}
+use Rattle.maps.specs.Shapes.{AreShapesSupported}
 use Rattle.verifier.specs.declared.refusal.Mode.{Mode}
 use Rattle.maps.specs.declared.shapes.TheConstants.{MAX_ARG_LEN}
 
--- its maps, the length of its argument, and its mode
+-- the program's maps, the length of its argument, and its mode
 pub record Signature : Type 0 where
   pub shapes : List Shape
   pub arg_len : ℕ
   pub mode : Mode
 
--- these three
+-- the signature of shapes, an argument length and a mode
 abbrev pub signature : List Shape → ℕ → Mode → Signature
 signature shapes arg_len mode = record { shapes = shapes; arg_len = arg_len; mode = mode }
 
--- its maps have allowed shapes, and its argument is in its limit
+-- the maps of a signature have allowed shapes, and its argument is within the limit
 pub record IsSignatureOk (l : Signature) : Type 0 where
-  pub shapes : AreShapesOk l.shapes
+  pub shapes : AreShapesSupported l.shapes
   pub argument : l.arg_len ≤ MAX_ARG_LEN

@@ -1,4 +1,4 @@
--- Which programs are typable, and how one that isn't is refused.
+-- The programs that are typable, and the refusal of one that isn't.
 use Rattle.std.specs.Prelude.{◌≡◌, ℕ, ◌<◌, ◌≤◌, ◌⊎◌, pos, List, Option, Some, None}
 use Rattle.insn.specs.declared.instruction.Form.{Form}
 use Rattle.insn.specs.Layout.{LeadsTo}
@@ -37,7 +37,7 @@ IsTypable p l = IsStructured p × ((F : Frames) × IsTyping p l F)
 
 -- ---- joined frames
 
--- this comes in at slot t: the entry's frame at the first slot, and what goes along an edge from a lower slot, of what is known there
+-- a frame comes in at slot t: the entry's frame at the first slot, and what goes along an edge from a lower slot, of what is known there
 pub data ComesTo (p : List Form) (known : ℕ → Option Frame) (t : ℕ) : Frame → Type 0 where
   entry : t ≡ 0 → ComesTo p known t entry_frame
   along : (i : Form) (s : ℕ) (e : Edge) (f : Frame) → Leads p i s e t → s < t → known s ≡ Some f → ComesTo p known t (frame_after i f e)
@@ -76,7 +76,7 @@ structure_reason structure.TargetInsideWide = TargetInsideWide
 structure_reason structure.RunsOffTheEnd = RunsOffTheEnd
 structure_reason structure.Unreachable = Unreachable
 
--- this is the first rule of structure that is broken: structure is decided for the whole program first, then kinds
+-- the refusal is the first rule of structure that is broken: structure is decided for the whole program first, then kinds
 abbrev pub RefusedByStructure : List Form → Refused → Type 0
 RefusedByStructure p e = (rule : StructureRule) × FirstBroken p e.slot rule × (e.why ≡ structure_reason rule)
 

@@ -3,7 +3,7 @@
 ghost use Rattle.std.specs.Prelude.{◌≡◌, ◌≤◌, ◌↔◌, [], length, None, IfOk, IfSome, IsSome};
 ghost use Rattle.insn.specs.Layout.{size};
 ghost use Rattle.flow.specs.Structure.{HasBadSize, HasGoodSize};
-ghost use Rattle.maps.specs.Shapes.{AreShapesOk};
+ghost use Rattle.maps.specs.Shapes.{AreShapesSupported};
 ghost use Rattle.verifier.specs.Signature.{signature, IsSignatureOk};
 ghost use Rattle.verifier.specs.Known.{AreKnown};
 ghost use Rattle.verifier.specs.Rules.{first_broken};
@@ -47,11 +47,11 @@ pub fn explain(
     arg_len: usize,
     mode: Mode,
 ) -> Result<Explained, AllocError>
-    requires shapes { AreShapesOk shapes.now }
+    requires shapes { AreShapesSupported shapes.now }
     requires argument { arg_len ≤ MAX_ARG_LEN }
-    // It is the refusal of `verify`, and none where that accepts.
+    // `refused` is the refusal of `verify`, or none if `verify` accepts.
     ensures refused { IfOk result (λ k. k.refused ≡ verdict program.now (signature shapes.now arg_len mode)) }
-    // It is the first rule of kinds that a reached instruction breaks.
+    // `kinds` is the first rule of kinds that a reached instruction breaks.
     ensures kinds { HasGoodSize program.now
         → IfOk result (λ k. k.kinds ≡ lowest_refusal program.now (signature shapes.now arg_len mode) (size program.now)) }
     // The frames are the joined ones, one for each slot.
@@ -69,7 +69,7 @@ pub fn explain(
     Ok(known)
 }
 
-// The same by kinds alone.
+// `explain`, but by kinds alone: without the rules of structure.
 fn explain_kinds(alloc: Global, program: &[Insn], l: &Signature) -> Result<Explained, AllocError>
     requires limits { IsSignatureOk l.now }
     ensures refused { HasGoodSize program.now → IfOk result (λ k. k.refused ≡ lowest_refusal program.now l.now (size program.now)) }

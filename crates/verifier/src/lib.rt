@@ -1,4 +1,4 @@
-//! Which programs are accepted.
+//! Decides which programs are accepted.
 #![tactic(auto)]
 
 mod accepted;

@@ -130,7 +130,7 @@ pub(crate) fn pointer_in(f: &Frame, kind: Kind, distance: i64, bytes: usize) -> 
     }
 }
 
-// So many bytes from an offset on lie in a block of this size.
+// Whether `bytes` bytes from the offset `at` on are all in a block of `size` bytes.
 pub(crate) fn is_in_block(size: usize, at: i64, bytes: usize) -> bool
     requires small { IsSmall at }
     ensures { result ≡ lies_in (pos 0) (pos size) at bytes }
@@ -138,7 +138,7 @@ pub(crate) fn is_in_block(size: usize, at: i64, bytes: usize) -> bool
     at >= 0 && at as usize <= size && bytes <= size - at as usize
 }
 
-// So many bytes at a distance from a pointer of this kind lie in the stack, and one is not initialised.
+// Whether `bytes` bytes at a distance from a pointer of this kind are all in the stack, and one of them is not initialised.
 pub(crate) fn has_unmarked(f: &Frame, kind: Kind, distance: i64, bytes: usize) -> bool
     requires short { IsShort distance }
     ensures { (l : Signature) → result ≡ has_unmarked l f.now kind distance bytes }

@@ -2,7 +2,7 @@
 
 ghost use Rattle.std.specs.Prelude.{◌≡◌, IfOk};
 ghost use Rattle.insn.specs.Encoding.{HasEncoding};
-ghost use Rattle.maps.specs.Shapes.{AreShapesOk};
+ghost use Rattle.maps.specs.Shapes.{AreShapesSupported};
 ghost use Rattle.verifier.specs.Accepted.{zero_reply, empty_room};
 
 use crate::accepted::Accepted;
@@ -57,7 +57,7 @@ impl Accepted {
     ///
     /// The system has no memory left.
     pub fn room(alloc: Global, shapes: &[Shape]) -> Result<Accepted, AllocError>
-        requires shapes { AreShapesOk shapes.now }
+        requires shapes { AreShapesSupported shapes.now }
         ensures empty { IfOk result (λ a. a ≡ empty_room shapes.now) }
     {
         match verify(alloc, zero_reply(alloc)?, shapes, 0, Mode::Read) {

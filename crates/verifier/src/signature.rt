@@ -28,7 +28,7 @@ impl<'a> Model for Signature<'a> {
 }
 
 impl<'a> Signature<'a> {
-    /// These shapes, a length and a mode, as a caller gives them.
+    /// Makes a signature of shapes, an argument length and a mode, as a caller gives them.
     pub fn new(shapes: &'a [Shape], arg_len: usize, mode: Mode) -> Self
         ensures { result ≡ signature shapes.now arg_len mode }
     {
@@ -89,7 +89,7 @@ impl<'a> Signature<'a> {
         }
     }
 
-    // So many bytes at a distance from a pointer of this kind lie in its region.
+    // Whether `bytes` bytes at a distance from a pointer of this kind are all in the pointer's region.
     pub(crate) fn is_within(&self, kind: Kind, distance: i64, bytes: usize) -> bool
         requires short { IsShort distance }
         ensures { result ≡ is_within self.now kind distance bytes }

@@ -7,7 +7,7 @@ ghost use Rattle.insn.specs.Encoding.{HasEncoding};
 ghost use Rattle.insn.specs.Layout.{size};
 ghost use Rattle.regkind.specs.Frames.{entry_frame};
 ghost use Rattle.flow.specs.Structure.{IsStructured, HasGoodSize};
-ghost use Rattle.maps.specs.Shapes.{AreShapesOk};
+ghost use Rattle.maps.specs.Shapes.{AreShapesSupported};
 ghost use Rattle.verifier.specs.Accepted.{checked};
 ghost use Rattle.verifier.specs.Signature.{Signature, signature, IsSignatureOk};
 ghost use Rattle.verifier.specs.Typing.{IsTypable, Refuses, RefusedByStructure, RefusedByKinds, structure_reason, IsNoMemory, IfRefused};
@@ -31,6 +31,24 @@ use std::alloc::{AllocError, Global};
 /// Structure is decided first, for the whole program (V1 to V5), then what the instructions ask of the kinds of their
 /// operands (V6 to V18). In each of the two the lowest slot is named, and there the lowest number. `NoMemory` says that
 /// there is no memory left. A program that is refused isn't handed back.
+///
+/// # Examples
+///
+/// ```
+/// use insn::decode;
+/// use maps::Shape;
+/// use verifier::{Mode, verify};
+///
+/// let shapes = [Shape::Array { value: 8, entries: 16 }];
+/// let five = decode(rt.alloc(), &[0xb7, 0, 0, 0, 5, 0, 0, 0, 0x95, 0, 0, 0, 0, 0, 0, 0])?; // mov64 r0, 5; exit
+/// let accepted = verify(rt.alloc(), five, &shapes, 0, Mode::Read)?;
+/// assert_eq!(rt; (accepted.slots(), accepted.instructions()), (2, 2));
+///
+/// // `exit` alone replies a register that nothing wrote: V6 at slot 0.
+/// let exit = decode(rt.alloc(), &[0x95, 0, 0, 0, 0, 0, 0, 0])?;
+/// let refused = verify(rt.alloc(), exit, &shapes, 0, Mode::Read).err();
+/// assert_eq!(rt; refused.map(|e| (e.slot(), e.number())), Some((0, 6)));
+/// ```
 pub fn verify(
     alloc: Global,
     program: Vec<Insn>,
@@ -38,7 +56,7 @@ pub fn verify(
     arg_len: usize,
     mode: Mode,
 ) -> Result<Accepted, VerifyError>
-    requires shapes { AreShapesOk shapes.now }
+    requires shapes { AreShapesSupported shapes.now }
     requires argument { arg_len ≤ MAX_ARG_LEN }
     // What is handed back is the program, with what it was checked for.
     ensures accepted { IfOk result (λ a. a ≡ checked program.items shapes.now arg_len mode) }

@@ -138,7 +138,7 @@ fn token(code: &str, from: usize) -> Span {
 }
 
 impl<'a> Parts<'a> {
-    // Those of a line, with at most as many operands as its word has.
+    // Splits a line into its parts, with at most as many operands as its word has.
     fn of(alloc: Global, line: &'a str) -> Result<Parts<'a>, AllocError> {
         let code = line.split_once(';').map_or(line, |(code, _)| code);
         let word = token(code, 0);

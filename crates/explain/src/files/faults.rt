@@ -289,7 +289,7 @@ fn of_fault(why: DecodeFault, opcode: u8, registers: u8) -> &'static str {
     }
 }
 
-// The same in words.
+// Says why bytes are no program: the text of `of_fault`, with the words for its gaps.
 fn why_no_program(bytes: &[u8], refusal: DecodeRefusal) -> Told<'static> {
     let [opcode, registers, low, high, a, b, c, d] = bytes_at(bytes, refusal.slot);
     let count = bytes.len();

@@ -8,6 +8,7 @@ use crate::sentences::{Written, put};
 use asm::disassemble;
 use insn::{Edge, Form, Insn};
 use loader::{Line, ProgramLine, read_line};
+use maps::MapLimits;
 use std::alloc::{AllocError, Global};
 use std::fmt::Write;
 use text::{NumberedLines, spaced_hex};
@@ -159,7 +160,7 @@ pub fn graph_manifest(
     out.push_str("digraph programs {\n  node [shape=box, fontname=\"monospace\"];\n")?;
     let mut lines = NumberedLines::new(manifest);
     while let Some((number, line)) = lines.take_line() {
-        if let Some(Line::Program(line)) = read_line(line) {
+        if let Some(Line::Program(line)) = read_line(&MapLimits::standard(), line) {
             if name.is_none() || name == Some(line.name) {
                 put_line(&mut out, number, line, files)?;
             }

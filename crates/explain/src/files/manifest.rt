@@ -6,7 +6,7 @@ ghost use Rattle.std.specs.Option.{option_or};
 ghost use Rattle.std.specs.String.{string_bytes};
 ghost use Rattle.insn.specs.declared.instruction.TheConstants.{MAX_SLOTS};
 ghost use Rattle.insn.specs.Layout.{size};
-ghost use Rattle.maps.specs.Shapes.{IsShapeOk};
+ghost use Rattle.maps.specs.Shapes.{IsShapeOk, standard};
 ghost use Rattle.maps.specs.declared.shapes.TheConstants.{MAX_ARG_LEN};
 ghost use Rattle.loader.specs.declared.refusals.LoadFault.TheVariants.{BadLine, TooMany};
 ghost use Rattle.loader.specs.Grammar.{Map, Program, line_meaning};
@@ -24,7 +24,7 @@ use crate::sentences::{Told, Word, Written, put_all, put_numbers, say};
 use insn::{DecodeError, Insn, decode};
 use itoa::Buffer;
 use loader::{Line, ProgramLine, read_line};
-use maps::{Shape, shapes_ok};
+use maps::{MapLimits, Shape, shapes_ok};
 use std::alloc::{AllocError, Global};
 use text::{NumberedLines, spaced_hex};
 
@@ -274,7 +274,7 @@ impl<'a> Explanation<'a> {
         self.put_program(out, line)
     }
 
-    // The same, and its name is taken from then on.
+    // `put_asked`, but the program's name is taken from then on.
     fn put_named(&mut self, out: &mut String, program: ProgramLine<'a>) -> Written
         requires within { IsWithin (above_of self.old) }
         requires argument { program.arg_len ≤ MAX_ARG_LEN }
@@ -288,10 +288,10 @@ impl<'a> Explanation<'a> {
     // Adds what is to be said of the next line, of this number: nothing of most.
     fn put_line(&mut self, out: &mut String, number: u32, line: &'a str) -> Written
         requires { IsWithin (above_of self.old) }
-        ensures { OnOk result (TakesLine number line.now (line_meaning line.now) self.old self.new (string_bytes out.old) (string_bytes out.new)) }
+        ensures { OnOk result (TakesLine number line.now (line_meaning standard line.now) self.old self.new (string_bytes out.old) (string_bytes out.new)) }
     {
         self.line = number;
-        match read_line(line) {
+        match standard_line(line) {
             None => self.put_bad_line(out, line),
             Some(Line::Comment) => Ok(()),
             Some(Line::Map(shape)) => self.put_map(out, shape),
@@ -308,6 +308,14 @@ impl<'a> Explanation<'a> {
         }
         put_fault(out, number, 1, say(NO_MAP, &[]))
     }
+}
+
+// What a line of a manifest means, by the standard limits of maps.
+fn standard_line(line: &str) -> Option<Line<'_>>
+    ensures meaning { option_map meaning_of result ≡ line_meaning standard line.now }
+    ensures fits { IfSome result (LineFits standard) }
+{
+    read_line(&MapLimits::standard(), line)
 }
 
 // Whether a line begins as that of a map.
@@ -333,9 +341,9 @@ fn has_program(manifest: &str, name: &str) -> bool
 
 // Whether a line is that of a program of this name.
 fn is_of(line: &str, name: &str) -> bool
-    ensures { result ≡ is_asked (Some name.now) (line_meaning line.now) }
+    ensures { result ≡ is_asked (Some name.now) (line_meaning standard line.now) }
 {
-    match read_line(line) {
+    match standard_line(line) {
         Some(Line::Program(program)) => program.name == name,
         _ => false,
     }

@@ -1,12 +1,12 @@
 // The listing of a program.
 
-ghost use Rattle.std.specs.Prelude.{◌≡◌, ◌⊎◌, ◌<◌, ◌≤◌, ◌^◌, ◌-◌, ◌++◌, ◌==◌, if◌then◌else◌, ℕ, List, length, take, replicate, codes, IfOk, OnOk, MatchOption};
+ghost use Rattle.std.specs.Prelude.{◌≡◌, ◌≤◌, ◌^◌, ◌-◌, ◌++◌, ◌==◌, if◌then◌else◌, ℕ, List, length, replicate, codes, unwrap_or, IfOk, OnOk};
 ghost use Rattle.std.specs.String.{string_bytes};
 ghost use Rattle.insn.specs.declared.instruction.TheConstants.{MAX_SLOTS};
 ghost use Rattle.insn.specs.Layout.{size};
 ghost use Rattle.asm.specs.Text.{line_text};
 ghost use Rattle.loader.specs.Spelling.{mode_word};
-ghost use Rattle.explain.specs.Listing.{line_of, head_text, left_text, margin, aside, AddsListing, CanBeJudged, Explains, IsLine};
+ghost use Rattle.explain.specs.Listing.{line_of, head_text, left_text, margin, aside, last_listed, AddsListing, BeginUpto, CanBeJudged, Explains, IsLine};
 ghost use Rattle.explain.specs.Slots.{told_upto};
 ghost use Rattle.explain.specs.Study.{AddsLines, HasSlot, IsStudy};
 
@@ -127,20 +127,20 @@ fn put_line(out: &mut String, slot: usize, insn: &Insn, told: &str) -> Written
     put_all(out, &pieces)
 }
 
-// The last slot that is listed, of those up to which something is known: without an end where the program is accepted.
-fn last_listed(study: &Study<'_>, known: usize) -> usize
-    ensures { MatchOption study.now.known.refused (result ≡ 2 ^ 64 - 1) (λ e. e.slot ≤ result) }
+// The last slot that is listed: without an end where the program is accepted, or by kinds.
+fn last_listed(study: &Study<'_>) -> usize
+    ensures { result ≡ unwrap_or (last_listed study.now.known.kinds study.now.known.refused) (2 ^ 64 - 1) }
 {
-    match study.known.refused {
-        Some(refused) => known.max(refused.slot as usize),
-        None => usize::MAX,
+    match (study.known.kinds, study.known.refused) {
+        (Some(kinds), Some(refused)) => kinds.slot.max(refused.slot) as usize,
+        _ => usize::MAX,
     }
 }
 
 // How many instructions begin at a slot or above it.
 fn count_upto(program: &[Insn], last: usize) -> usize
     ensures few { result ≤ length program.now }
-    ensures enough { (length program.now ≤ result) ⊎ (last < size (take result program.now)) }
+    ensures upto { size program.now ≤ MAX_SLOTS → BeginUpto program.now last result }
 {
     let mut slot = 0usize;
     let mut count = 0usize;
@@ -198,10 +198,8 @@ fn put_lines(out: &mut String, study: &Study<'_>) -> Written
     requires { IsStudy study.now }
     ensures { OnOk result (AddsListing study.now.subject.program.now study.now.known.kinds study.now.known.refused (string_bytes out.old) (string_bytes out.new)) }
 {
-    let (program, kinds) = (study.subject.program, study.known.kinds);
-    let known = kinds.map_or(usize::MAX, |kinds| kinds.slot as usize);
-    let last = last_listed(study, known);
-    let (listed, left) = program.split_at(count_upto(program, last));
+    let program = study.subject.program;
+    let (listed, left) = program.split_at(count_upto(program, last_listed(study)));
     put_instructions(out, study, listed)?;
     put_left(out, left.len())
 }
@@ -212,7 +210,7 @@ fn put_lines(out: &mut String, study: &Study<'_>) -> Written
 ///
 /// The system has no memory left.
 pub fn explain_program(alloc: Global, subject: Subject<'_>) -> Result<String, AllocError>
-    // Which program it is, the lines of its instructions, and where it is refused the rule and the slot before all else that is said of that.
+    // The text names the program and lists its instructions. If it is refused, the text says the rule and the slot before all else of the refusal.
     ensures told { CanBeJudged subject.entry → IfOk result (λ s. Explains subject.entry (string_bytes s)) }
 {
     let Some(study) = Study::of(alloc, subject)? else {

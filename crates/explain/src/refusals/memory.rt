@@ -8,7 +8,7 @@ use helpers::Helper;
 use insn::{Form, Size};
 use regkind::{Frame, Kind};
 
-// Of which map a call wants bytes, if one does, and whether as its key or its value.
+// The map of which a call wants bytes, if one does, and whether as its key or its value.
 type Part = Option<(u8, &'static str)>;
 
 // Bytes that an instruction wants.
@@ -70,7 +70,7 @@ impl Study<'_> {
         Some(Region { name, low, high })
     }
 
-    // So many bytes at a distance from what a register has, which the instruction at a slot wants.
+    // The access of an instruction that wants `bytes` bytes at a distance from what a register has.
     fn wanted(&self, slot: usize, of: Part, register: u8, by: i16, bytes: usize) -> Option<Access> {
         let kind = self.kind_at(slot, register);
         Some(Access {
@@ -82,7 +82,7 @@ impl Study<'_> {
         })
     }
 
-    // What it wants where it loads or stores.
+    // The bytes that a load or a store wants.
     fn own(&self, slot: usize, register: u8, by: i16, size: Size) -> [Option<Access>; 2] {
         [self.wanted(slot, None, register, by, size.bytes()), None]
     }
@@ -191,7 +191,7 @@ impl Gap {
 
 impl Way<'_> {
     // What is told of the first access at its end that goes outside its region.
-    pub(crate) fn outside(&self) -> Option<Told<'static>> {
+    pub(crate) fn access_outside(&self) -> Option<Told<'static>> {
         let mut wanted = self.study.accesses(self.end).into_iter().flatten();
         let access = wanted.find(|access| access.left(self.study).is_some())?;
         let region = access.left(self.study)?;
@@ -220,7 +220,7 @@ impl Way<'_> {
         Some(say_both([what, access.way_back(needed)], &words))
     }
 
-    // Its last instruction that ended a pointer at a byte of the stack.
+    // The last instruction on the way that ended a pointer at a byte of the stack.
     fn ended_pointer(&self, byte: usize) -> Option<usize> {
         let study = self.study;
         let ends = self.steps.iter().rev().find(|step| {
@@ -232,7 +232,7 @@ impl Way<'_> {
     }
 
     // What is told of the bytes of the stack that can't be read at its end.
-    pub(crate) fn unwritten(&self) -> Option<Told<'static>> {
+    pub(crate) fn unwritten_stack(&self) -> Option<Told<'static>> {
         let gap = self.study.gap_at(self.end)?;
         let ended = self.ended_pointer(gap.first);
         let (part, head) = match gap.access.of {
@@ -254,7 +254,7 @@ impl Way<'_> {
         Some(say_both([head, gap.text(ended, self.parted)], &words))
     }
 
-    // Another register with the answer of a lookup that it tests, and where.
+    // The other register with the answer of a lookup that the way tests, and where.
     fn tested_copy(&self, register: u8, lookup: usize) -> Option<(u8, usize)> {
         let mut copy = None;
         for (k, step) in self.steps.iter().enumerate() {

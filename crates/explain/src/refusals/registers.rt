@@ -29,17 +29,17 @@ impl Study<'_> {
     }
 
     // What an edge brings in a register.
-    fn brought(&self, step: Step, register: u8) -> Kind {
+    fn kind_along(&self, step: Step, register: u8) -> Kind {
         kind_in(self.along(step).as_ref(), register)
     }
 
     // What is told where two edges bring different things to a slot; nothing where all bring the same.
-    fn differing(&self, at: usize, register: u8) -> Option<Told<'static>> {
+    fn differing_edges(&self, at: usize, register: u8) -> Option<Told<'static>> {
         let (first, rest) = self.steps_into(at).split_first()?;
-        let one = self.brought(*first, register);
+        let one = self.kind_along(*first, register);
         let mut rest = rest.iter();
-        let step = rest.find(|step| self.brought(**step, register) != one)?;
-        let other = self.brought(*step, register);
+        let step = rest.find(|step| self.kind_along(**step, register) != one)?;
+        let other = self.kind_along(*step, register);
         let fix = match (one, other) {
             (Kind::ValueOrNull(_), _) | (_, Kind::ValueOrNull(_)) =>
                 "|Test {2} for null before the ways part.",
@@ -60,7 +60,7 @@ impl Study<'_> {
 }
 
 // Why nothing is loaded or stored through what a register has, which this instruction gave it, if one did.
-fn through(kind: Kind, origin: Option<Form>) -> &'static str {
+fn access_refusal(kind: Kind, origin: Option<Form>) -> &'static str {
     match (kind, origin) {
         (Kind::Map(_), _) =>
             "{0} is map {2} itself, and not a value of it.|Call lookup (`call 1`) with the map in r1 and a key's address in r2, and test what it answers.",
@@ -80,7 +80,7 @@ const POINTER_BITS: &str =
     "{0} is {1}, and a pointer's bits can't be had.|Compute with the number to which it points: load that first.";
 
 // Why arithmetic with what a register has is refused.
-fn arithmetic(op: Operation, src: Source, kind: Kind) -> &'static str {
+fn arithmetic_refusal(op: Operation, src: Source, kind: Kind) -> &'static str {
     match (op, src, kind) {
         (Operation::Mov, _, _) =>
             "{0} is {1}, and 32 bits of a pointer are no pointer.|Copy it by `mov64`.",
@@ -95,7 +95,7 @@ fn arithmetic(op: Operation, src: Source, kind: Kind) -> &'static str {
 }
 
 // Why a comparison of what a register has is refused, which is a test for null or not.
-fn comparison(w64: bool, is_test: bool, kind: Kind) -> &'static str {
+fn comparison_refusal(w64: bool, is_test: bool, kind: Kind) -> &'static str {
     match kind {
         Kind::ValueOrNull(_) if is_test && !w64 =>
             "{0} is tested by 32 of its 64 bits.|Write `jeq` or `jne`, without 32.",
@@ -109,9 +109,13 @@ fn comparison(w64: bool, is_test: bool, kind: Kind) -> &'static str {
 // Why an instruction is refused, by what its register has, and the instruction that gave it that, if one did.
 fn undefined_text(form: Form, kind: Kind, origin: Option<Form>) -> &'static str {
     match form {
-        Form::Load { .. } | Form::Store { .. } => through(kind, origin),
-        Form::Alu { op, src, .. } => arithmetic(op, src, kind),
-        Form::Branch { w64, cond, src, .. } => comparison(w64, is_null_test(cond, src), kind),
+        Form::Load { .. } | Form::Store { .. } => access_refusal(kind, origin),
+        Form::Alu { op, src, .. } => arithmetic_refusal(op, src, kind),
+        Form::Branch { w64, cond, src, .. } => comparison_refusal(
+            w64,
+            is_null_test(cond, src),
+            kind,
+        ),
         _ => POINTER_BITS,
     }
 }
@@ -125,7 +129,7 @@ const OTHER_MAP: &str =
 
 impl Way<'_> {
     // The last slot at which what a register has is lost.
-    fn lost(&self, register: u8) -> Option<usize> {
+    fn last_loss(&self, register: u8) -> Option<usize> {
         let study = self.study;
         let lost = self.steps.iter().rev().find(|step| {
             let after = study.along(**step);
@@ -162,14 +166,16 @@ impl Way<'_> {
     }
 
     // Why nothing is known of a register at its end.
-    pub(crate) fn unreadable(&self) -> Option<Told<'static>> {
+    pub(crate) fn unreadable_register(&self) -> Option<Told<'static>> {
         let study = self.study;
         let register = study.unreadable_at(self.end)?;
-        let differing = self.meeting.and_then(|at| study.differing(at, register));
+        let differing = self
+            .meeting
+            .and_then(|at| study.differing_edges(at, register));
         if differing.is_some() {
             return differing;
         }
-        let lost = self.lost(register);
+        let lost = self.last_loss(register);
         let kind = lost.map(|at| study.kind_at(at, register));
         let at = lost.or(self.parted).unwrap_or(0);
         let map = map_in(kind.unwrap_or(Kind::Unreadable));
@@ -178,7 +184,7 @@ impl Way<'_> {
     }
 
     // Why the operation at its end isn't defined.
-    pub(crate) fn undefined(&self) -> Option<Told<'static>> {
+    pub(crate) fn undefined_operation(&self) -> Option<Told<'static>> {
         let form = self.form()?;
         let none = Source::Imm(0);
         let (dst, src) = match form {
@@ -227,14 +233,14 @@ impl Way<'_> {
     }
 
     // The slot of the wide number that a register has, if it has one.
-    fn constant(&self, register: u8) -> Option<usize> {
+    fn wide_number_slot(&self, register: u8) -> Option<usize> {
         let at = self.origin(register, self.steps.len())?;
         matches!(self.study.form_at(at)?, Form::Imm64 { .. }).then_some(at)
     }
 
     // Why R2 or R3 is no address of so many bytes; nothing where it is one.
     fn wrong_address(&self, register: u8, bytes: usize) -> Option<Told<'static>> {
-        let (kind, constant) = (self.kind(register), self.constant(register));
+        let (kind, constant) = (self.kind(register), self.wide_number_slot(register));
         let text = match (kind, constant) {
             (Kind::Scalar, Some(_)) =>
                 "{0} is the number of slot {3}, and no address: a constant that the compiler put elsewhere isn't there.|Store it in the stack, and give its address; in C put it into a local variable.",
@@ -251,11 +257,11 @@ impl Way<'_> {
         Some(say(text, &[Register(register), Known(kind), Count(bytes), slot]))
     }
 
-    // Which argument of the call at its end is wrong, and why.
+    // Says which argument of the call at the end of the way is wrong, and why.
     pub(crate) fn wrong_argument(&self) -> Told<'static> {
         let kind = self.kind(1);
         let Kind::Map(map) = kind else {
-            let constant = self.constant(1);
+            let constant = self.wide_number_slot(1);
             let text = match constant {
                 Some(_) =>
                     "r1 is the number of slot {0}, and no map: a reference that the compiler left there was not resolved.|In C write `NRBPF_MAP(n)`: there is no loader for libbpf's map structs. In assembler text: `ldmap r1, n`.",
@@ -272,8 +278,8 @@ impl Way<'_> {
         of_key.or(self.wrong_address(3, value)).unwrap_or(of_flags)
     }
 
-    // Which helper or map isn't there.
-    pub(crate) fn unknown(&self) -> Option<Told<'static>> {
+    // Names the helper or the map that isn't there.
+    pub(crate) fn unknown_name(&self) -> Option<Told<'static>> {
         let (form, study) = (self.form()?, self.study);
         let shapes = study.subject.shapes;
         let what = match (form, shapes) {

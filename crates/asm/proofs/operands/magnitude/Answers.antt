@@ -1,6 +1,6 @@
 use Rattle.std.proofs.Common.{◌≡◌, true, ap, ◌∙◌, rules, Ok, length, ◌<◌}
 use Rattle.asm.specs.Operands.{magnitude_of, are_digits}
-use Rattle.text.proofs.DigitTexts.{digits_are_text}
+use Rattle.text.proofs.Export.{digits_are_text}
 use Rattle.asm.proofs.Numbers.{magnitude_from_parse}
 use Rattle.asm.proofs.operands.magnitude.Goals as goal
 

@@ -1,6 +1,6 @@
 use Rattle.std.proofs.Common.{◌≡◌, true, false, length, sym, ◌∙◌, ap}
 use Rattle.maps.specs.Shapes.{value_size}
-use Rattle.maps.proofs.Stored.{map_there}
+use Rattle.maps.proofs.Export.{map_there}
 use Rattle.dumps.specs.Loading.{is_key_for}
 use Rattle.dumps.specs.Shown.{view_of, entry_of}
 use Rattle.dumps.proofs.Faults.{bad_key, bad_value, out_of_order, zero_value, full, none}

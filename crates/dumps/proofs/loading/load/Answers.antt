@@ -1,6 +1,6 @@
 use Rattle.std.proofs.Common.{sym, ◌∙◌, refl}
 use Rattle.dumps.specs.Loading.{loaded_state}
-use Rattle.maps.proofs.StoredShapes.{stored_are}
+use Rattle.maps.proofs.Export.{stored_are}
 use Rattle.dumps.proofs.Loop.{one_on, fails_here, at_end}
 use Rattle.dumps.proofs.loading.load.Goals as goal
 

@@ -1,5 +1,5 @@
 use Rattle.std.proofs.Common.{◌∙◌, ap}
-use Rattle.maps.proofs.StoredShapes.{stored_are}
+use Rattle.maps.proofs.Export.{stored_are}
 use Rattle.loader.specs.Installed.{InstalledView}
 use Rattle.dumps.proofs.loading.opened.Goals as goal
 

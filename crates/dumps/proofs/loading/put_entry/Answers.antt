@@ -1,5 +1,5 @@
 use Rattle.std.proofs.Common.{arith}
-use Rattle.insn.proofs.Slots.{are_bytes}
+use Rattle.insn.proofs.Export.{are_bytes}
 use Rattle.dumps.proofs.Kept.{put_keeps}
 use Rattle.dumps.proofs.loading.put_entry.Goals as goal
 

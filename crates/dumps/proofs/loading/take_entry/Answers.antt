@@ -1,6 +1,6 @@
 use Rattle.std.proofs.Common.{◌<◌, length, arith}
 use Rattle.maps.specs.MapSets.{stored_shapes}
-use Rattle.maps.proofs.Stored.{map_there}
+use Rattle.maps.proofs.Export.{map_there}
 use Rattle.dumps.specs.Shown.{view_of, entry_of}
 use Rattle.dumps.proofs.Entries.{passes, key_fits, room_for, put_in, kept_out}
 use Rattle.dumps.proofs.loading.take_entry.Goals as goal

@@ -1,6 +1,6 @@
 use Rattle.std.proofs.Common.{◌≡◌, true, ◌∙◌, rules, length, ◌<◌}
 use Rattle.encoding.specs.Values.{magnitude_of, are_digits}
-use Rattle.text.proofs.DigitTexts.{digits_are_text}
+use Rattle.text.proofs.Export.{digits_are_text}
 use Rattle.encoding.proofs.Digits.{magnitude_from_parse}
 use Rattle.encoding.proofs.numbers.magnitude.Goals as goal
 

@@ -1,6 +1,6 @@
 use Rattle.std.proofs.Common.{◌≡◌, ◌+◌, ◌-◌, ◌∙◌, length, take, drop, Some, ap, arith}
 use Rattle.std.proofs.lemmas.List.{length-drop, take_all}
-use Rattle.text.proofs.ByteCuts.{first_is, cut_some, cut_none}
+use Rattle.text.proofs.Export.{first_is, cut_some, cut_none}
 use Rattle.encoding.proofs.words.cut_at_colon.Goals as goal
 
 pub returns-in-Some-clause-parts : goal.returns-in-Some-clause-parts

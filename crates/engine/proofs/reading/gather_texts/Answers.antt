@@ -1,3 +1,4 @@
+use Rattle.std.proofs.Common.{refl}
 use Rattle.std.proofs.lemmas.Result.{err_from_is_err_and}
 use Rattle.engine.specs.Reading.{named_texts}
 use Rattle.engine.proofs.Gatherings.{files_failed, file_failed, state_failed, history_failed, all_read}
@@ -32,7 +33,7 @@ returns-in_err-history-clause-read g c =
 pub returns-clause-read : goal.returns-clause-read
 returns-clause-read g c =
     all_read g.F.Folder.holds g.R.Source.remaining c.args.inputs.now
-    (record { manifest = c.in_ok-manifest.manifest; files = c.in_ok-files.files; file = c.in_ok-file.file; state = c.in_ok-state.state; history = c.in_ok-history.history })
+    (record { sizes = c.args.inputs.now.sizes; manifest = c.in_ok-manifest.manifest; files = c.in_ok-files.files; file = c.in_ok-file.file; state = c.in_ok-state.state; history = c.in_ok-history.history }) refl
     c.in_ok-manifest.ensures.text (rw c.as_str.ensures.value at c.in_ok-files.ensures.gathered) c.in_ok-file.ensures.text c.in_ok-state.ensures.text c.in_ok-history.ensures.text
 
 pub returns-in_err-files-clause-failed : goal.returns-in_err-files-clause-failed

@@ -1,5 +1,5 @@
 use Rattle.store.specs.Sessions.{IsOf}
-use Rattle.store.proofs.EachSession.{at_of_all}
+use Rattle.store.proofs.Export.{at_of_all}
 use Rattle.example_store.proofs.threads.close.Goals as goal
 
 pub close-requires : goal.close-requires

@@ -1,7 +1,7 @@
 use Rattle.std.proofs.Common.{◌+◌, ◌≤◌, length, sym, ap, subst, arith, ◌∙◌}
 use Rattle.example_sums.specs.Sums.{StartsWith, moved_progress}
 use Rattle.example_sums.specs.Laws.{starts_on}
-use Rattle.ownlock.proofs.Seats.{one_known}
+use Rattle.ownlock.proofs.Export.{one_known}
 use Rattle.example_sums.proofs.Puts.{outcome, puts_list, puts_sum, reaches, sum_of_raised, one_more, none_more, counts, counts_none, sum_moves_nothing, stands_behind, raised_low}
 use Rattle.example_sums.proofs.Taken.{both, list_at, sum_left, is_list, may_follow, nothing_left}
 use Rattle.example_sums.proofs.appending.append.Goals as goal

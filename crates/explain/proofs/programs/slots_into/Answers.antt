@@ -1,7 +1,7 @@
 use Rattle.std.proofs.Common.{◌≡◌, ◌+◌, cond, [], ◌∷◌, ◌++◌, length, take, refl, sym, ap, ◌∙◌, arith}
 use Rattle.std.specs.Prelude.{min}
 use Rattle.insn.specs.Layout.{size, slot_count}
-use Rattle.flow.proofs.Positions.{begins_within, placed, size_next}
+use Rattle.flow.proofs.Export.{begins_within, placed, size_next}
 use Rattle.verifier.specs.Joined.{leads}
 use Rattle.explain.proofs.Slots.{into, into_more, take_all}
 use Rattle.explain.proofs.programs.slots_into.Goals as goal

@@ -7,6 +7,10 @@ use Rattle.host_calls.specs.Openings.{IsReason}
 use Rattle.host_calls.proofs.Reasons.{of_manifest}
 use Rattle.host_calls.proofs.loading.state_of.Goals as goal
 
+pub returns-in-Err-BadLimits : goal.returns-in-Err-BadLimits
+returns-in-Err-BadLimits c =
+    record { loaded = subst (λ (why : NotOpened). IsReason c.args.opening.now None why) c.in-Err-BadLimits.field-0-is (c.in-Err-BadLimits.ensures.loaded None) }
+
 pub returns-in-Err-NoText : goal.returns-in-Err-NoText
 returns-in-Err-NoText c =
     let unclear = subst (λ (why : NotOpened). IsReason c.args.opening.now None why) c.in-Err-NoText.field-0-is (c.in-Err-NoText.ensures.loaded None) in

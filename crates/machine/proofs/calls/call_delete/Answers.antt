@@ -1,7 +1,7 @@
 use Rattle.std.proofs.Common.{◌≡◌, ℕ, ◌<◌, List, length, ap, sym, subst, ◌∙◌}
 use Rattle.std.specs.Prelude.{slice_index_or, IfSome}
 use Rattle.std.proofs.lemmas.Option.{slice_get_within}
-use Rattle.maps.specs.Shapes.{AreShapesOk, key_size}
+use Rattle.maps.specs.Shapes.{AreShapesSupported, key_size}
 use Rattle.regkind.specs.declared.frames.Kind.TheVariants.{Unreadable}
 use Rattle.machine.specs.Accesses.{IsRead}
 use Rattle.machine.proofs.Looking.{same_map}
@@ -42,7 +42,7 @@ fetch-requires-clause-told c =
 
 pub fetch-requires-clause-limits : goal.fetch-requires-clause-limits
 fetch-requires-clause-limits c =
-    subst AreShapesOk c.requires.told.shapes c.requires.told.limits
+    subst AreShapesSupported c.requires.told.shapes c.requires.told.limits
 
 pub delete-requires-clause-key : goal.delete-requires-clause-key
 delete-requires-clause-key c =

@@ -3,7 +3,7 @@ use Rattle.std.proofs.lemmas.Int.{to_z-of_z}
 use Rattle.insn.specs.declared.instruction.Form.TheVariants as form
 use Rattle.helpers.specs.declared.numbers.Helper.TheVariants.{Lookup, Update, Delete}
 use Rattle.helpers.specs.Numbers.{helper_of}
-use Rattle.helpers.proofs.Numbered.{only_number}
+use Rattle.helpers.proofs.Export.{only_number}
 use Rattle.machine.specs.Executing.{Executes}
 use Rattle.machine.proofs.calls.call_helper.Goals as goal
 

@@ -1,11 +1,12 @@
-use Rattle.std.proofs.Common.{◌≡◌, ℕ, ◌<◌, List, length, ap, sym, subst, ◌∙◌}
-use Rattle.std.specs.Prelude.{slice_index_or, IfSome}
+use Rattle.std.proofs.Common.{◌≡◌, ℕ, ◌<◌, arith, List, length, take, ap, sym, subst, ◌∙◌}
+use Rattle.std.specs.Prelude.{slice_index_or, slice_set, IfSome}
 use Rattle.std.proofs.lemmas.Option.{slice_get_within}
-use Rattle.maps.specs.Shapes.{AreShapesOk, key_size, value_size}
+use Rattle.maps.specs.Shapes.{AreShapesSupported, key_size}
 use Rattle.regkind.specs.declared.frames.Kind.TheVariants.{Unreadable}
 use Rattle.machine.specs.Accesses.{IsRead}
 use Rattle.machine.proofs.Looking.{same_map}
-use Rattle.machine.proofs.Altering.{key_room, value_room, updates, update_key_told, update_value_told, updated_leads}
+use Rattle.machine.proofs.Leading.{with_word, same_leads}
+use Rattle.machine.proofs.Altering.{key_room, shape_ok, updates, update_key_told, update_value_told, updated_leads}
 use Rattle.machine.proofs.calls.call_update.Goals as goal
 
 pub map_named-m-requires : goal.map_named-m-requires
@@ -34,7 +35,7 @@ fetch-requires-clause-some c =
 
 pub fetch-requires-clause-limits : goal.fetch-requires-clause-limits
 fetch-requires-clause-limits c =
-    subst AreShapesOk c.requires.told.shapes c.requires.told.limits
+    subst AreShapesSupported c.requires.told.shapes c.requires.told.limits
 
 pub fetch-requires-clause-told : goal.fetch-requires-clause-told
 fetch-requires-clause-told c =
@@ -50,41 +51,36 @@ update-requires-clause-key c =
     let room = key_room c.args.maps.now s.signature c.map_named-m.result c.shape-shape.result s.limits s.shapes c.shape-shape.ensures.shape c.key_bytes-key_bytes.result c.key_bytes-key_bytes.ensures.key in
     subst (λ o. IfSome o (λ shape. length c.fetch.new.room ≡ key_size shape)) (sym c.shape-shape.ensures.shape) (c.fetch.ensures.count ∙ room.count ∙ c.key_bytes-key_bytes.ensures.key)
 
-pub slice_bounds-value_room-end : goal.slice_bounds-value_room-end
-slice_bounds-value_room-end c =
+pub fetch_value-requires-clause-some : goal.fetch_value-requires-clause-some
+fetch_value-requires-clause-some c =
     let s = c.requires.told in
-    let room = value_room c.args.maps.now s.signature c.map_named-m.result c.shape-shape.result s.limits s.shapes c.shape-shape.ensures.shape c.value_bytes-value_bytes.result c.value_bytes-value_bytes.ensures.value in
-    room.few
+    let ok = shape_ok c.args.maps.now s.signature c.map_named-m.result c.shape-shape.result s.limits s.shapes c.shape-shape.ensures.shape in
+    let is = c.value_bytes-value_bytes.ensures.value in
+    omega (arith, ok.value.0, is)
 
-pub slice_bounds-value-end : goal.slice_bounds-value-end
-slice_bounds-value-end c =
+pub fetch_value-requires-clause-few : goal.fetch_value-requires-clause-few
+fetch_value-requires-clause-few c =
     let s = c.requires.told in
-    let room = value_room c.args.maps.now s.signature c.map_named-m.result c.shape-shape.result s.limits s.shapes c.shape-shape.ensures.shape c.value_bytes-value_bytes.result c.value_bytes-value_bytes.ensures.value in
-    sym room.count
+    let ok = shape_ok c.args.maps.now s.signature c.map_named-m.result c.shape-shape.result s.limits s.shapes c.shape-shape.ensures.shape in
+    let is = c.value_bytes-value_bytes.ensures.value in
+    omega (arith, ok.value.1, is)
 
-pub fetch-requires-2-clause-some : goal.fetch-requires-2-clause-some
-fetch-requires-2-clause-some c =
+pub shared_ref_as_front-update : goal.shared_ref_as_front-update
+shared_ref_as_front-update c =
     let s = c.requires.told in
-    let room = value_room c.args.maps.now s.signature c.map_named-m.result c.shape-shape.result s.limits s.shapes c.shape-shape.ensures.shape c.value_bytes-value_bytes.result c.value_bytes-value_bytes.ensures.value in
-    subst (λ k. 0 < k) (sym room.count) room.some
+    let ok = shape_ok c.args.maps.now s.signature c.map_named-m.result c.shape-shape.result s.limits s.shapes c.shape-shape.ensures.shape in
+    let is = c.value_bytes-value_bytes.ensures.value in
+    omega (arith, ok.value.1, is)
 
-pub fetch-requires-2-clause-limits : goal.fetch-requires-2-clause-limits
-fetch-requires-2-clause-limits c =
-    subst AreShapesOk c.requires.told.shapes c.requires.told.limits
+pub fetch_value-requires-clause-limits : goal.fetch_value-requires-clause-limits
+fetch_value-requires-clause-limits c =
+    subst AreShapesSupported c.requires.told.shapes c.requires.told.limits
 
-pub fetch-requires-2-clause-told : goal.fetch-requires-2-clause-told
-fetch-requires-2-clause-told c =
+pub fetch_value-requires-clause-told : goal.fetch_value-requires-clause-told
+fetch_value-requires-clause-told c =
     let s = c.requires.told in
-    let room = value_room c.args.maps.now s.signature c.map_named-m.result c.shape-shape.result s.limits s.shapes c.shape-shape.ensures.shape c.value_bytes-value_bytes.result c.value_bytes-value_bytes.ensures.value in
-    subst (λ k. (bs : List ℕ) × IsRead c.args.machine.now.stack c.args.maps.now c.args.argument.now c.at-value_base.result k bs) (sym room.count)
     (subst (λ b. (bs : List ℕ) × IsRead c.args.machine.now.stack c.args.maps.now c.args.argument.now b c.value_bytes-value_bytes.result bs) (sym c.at-value_base.ensures.base)
     (update_value_told c.args.kinds c.args.machine.now c.args.maps.now c.args.argument.now s c.map_named-m.result c.key_bytes-key_bytes.result c.value_bytes-value_bytes.result c.shape-shape.result (same_map s.frame c.args.kinds c.map_named-m.result s.same_kinds c.map_named-m.ensures.map) c.shape-shape.ensures.shape c.key_bytes-key_bytes.ensures.key c.value_bytes-value_bytes.ensures.value))
-
-pub update-requires-clause-value : goal.update-requires-clause-value
-update-requires-clause-value c =
-    let s = c.requires.told in
-    let room = value_room c.args.maps.now s.signature c.map_named-m.result c.shape-shape.result s.limits s.shapes c.shape-shape.ensures.shape c.value_bytes-value_bytes.result c.value_bytes-value_bytes.ensures.value in
-    subst (λ o. IfSome o (λ shape. length c.fetch-2.new.room ≡ value_size shape)) (sym c.shape-shape.ensures.shape) (c.fetch-2.ensures.count ∙ room.count ∙ c.value_bytes-value_bytes.ensures.value)
 
 pub update-requires-clause-map : goal.update-requires-clause-map
 update-requires-clause-map c =
@@ -94,10 +90,10 @@ pub returns : goal.returns
 returns c =
     let s = c.requires.told in
     let key = key_room c.args.maps.now s.signature c.map_named-m.result c.shape-shape.result s.limits s.shapes c.shape-shape.ensures.shape c.key_bytes-key_bytes.result c.key_bytes-key_bytes.ensures.key in
-    let value = value_room c.args.maps.now s.signature c.map_named-m.result c.shape-shape.result s.limits s.shapes c.shape-shape.ensures.shape c.value_bytes-value_bytes.result c.value_bytes-value_bytes.ensures.value in
+    let room = take c.value_bytes-value_bytes.result c.fetch_value.new.machine.value in
     record {
       executes = λ s.
-          updated_leads c.args.kinds c.args.machine.now c.args.maps.now c.args.argument.now s c.map_named-m.result c.key_bytes-key_bytes.result c.value_bytes-value_bytes.result c.shape-shape.result (same_map s.frame c.args.kinds c.map_named-m.result s.same_kinds c.map_named-m.ensures.map) c.shape-shape.ensures.shape c.key_bytes-key_bytes.ensures.key c.value_bytes-value_bytes.ensures.value
-          c.fetch.new.room c.fetch-2.new.room c.update.new.maps c.update.result (λ bs told. c.fetch.ensures.copied bs (subst (λ k. IsRead c.args.machine.now.stack c.args.maps.now c.args.argument.now c.at-key_base.result k bs) (sym key.count) (subst (λ b. IsRead c.args.machine.now.stack c.args.maps.now c.args.argument.now b c.key_bytes-key_bytes.result bs) (sym c.at-key_base.ensures.base) told))) (λ bs told. c.fetch-2.ensures.copied bs (subst (λ k. IsRead c.args.machine.now.stack c.args.maps.now c.args.argument.now c.at-value_base.result k bs) (sym value.count) (subst (λ b. IsRead c.args.machine.now.stack c.args.maps.now c.args.argument.now b c.value_bytes-value_bytes.result bs) (sym c.at-value_base.ensures.base) told))) c.update.ensures.answers
-          (record { maps = c.update.ensures.others; shapes = c.update.ensures.shapes });
+          same_leads _ _ _ (with_word c.args.machine.now 0 c.update.result) _ _ _ (ap (λ ws. slice_set ws 0 c.update.result) c.fetch_value.ensures.words) c.fetch_value.ensures.stack (updated_leads c.args.kinds c.args.machine.now c.args.maps.now c.args.argument.now s c.map_named-m.result c.key_bytes-key_bytes.result c.value_bytes-value_bytes.result c.shape-shape.result (same_map s.frame c.args.kinds c.map_named-m.result s.same_kinds c.map_named-m.ensures.map) c.shape-shape.ensures.shape c.key_bytes-key_bytes.ensures.key c.value_bytes-value_bytes.ensures.value
+          c.fetch.new.room room c.update.new.maps c.update.result (λ bs told. c.fetch.ensures.copied bs (subst (λ k. IsRead c.args.machine.now.stack c.args.maps.now c.args.argument.now c.at-key_base.result k bs) (sym key.count) (subst (λ b. IsRead c.args.machine.now.stack c.args.maps.now c.args.argument.now b c.key_bytes-key_bytes.result bs) (sym c.at-key_base.ensures.base) told))) (λ bs told. c.fetch_value.ensures.copied bs (subst (λ b. IsRead c.args.machine.now.stack c.args.maps.now c.args.argument.now b c.value_bytes-value_bytes.result bs) (sym c.at-value_base.ensures.base) told)) c.update.ensures.answers
+          (record { maps = c.update.ensures.others; shapes = c.update.ensures.shapes }));
     }

@@ -3,7 +3,7 @@ use Rattle.maps.specs.Maps.{AreBytes}
 use Rattle.oplog.specs.Calls.{Call}
 use Rattle.replica.specs.StoreMeaning.{is_call}
 use Rattle.replica.specs.Refusals.{early_refusal}
-use Rattle.replica.proofs.Asked.{is_asked}
+use Rattle.replica.proofs.Export.{is_asked}
 use Rattle.running.proofs.calls.checked_call.Goals as goal
 
 pub returns-clause-call : goal.returns-clause-call

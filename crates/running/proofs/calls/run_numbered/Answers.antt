@@ -1,7 +1,7 @@
 use Rattle.std.proofs.Common.{sym}
-use Rattle.maps.proofs.Kept.{are_bytes}
+use Rattle.maps.proofs.Export.{are_bytes}
 use Rattle.replica.specs.StoreMeaning.{call_of}
-use Rattle.replica.proofs.Tested.{tests_offered}
+use Rattle.replica.proofs.Export.{tests_offered}
 use Rattle.running.proofs.calls.run_numbered.Goals as goal
 
 pub perform-requires-clause-call : goal.perform-requires-clause-call

@@ -6,7 +6,7 @@ use Rattle.std.proofs.lemmas.Str.{is_utf8-from_IsUtf8, IsUtf8-had}
 use Rattle.text.specs.Lines.{lines_of}
 use Rattle.std.specs.Str.{is_utf8}
 use Rattle.running.specs.Signed.{signed_line}
-use Rattle.engine.proofs.FoundTexts.{not_text_from_err}
+use Rattle.engine.proofs.Export.{not_text_from_err}
 use Rattle.running.proofs.SignedRuns.{of_text, stays}
 use Rattle.running.proofs.signed_texts.signed_text.Goals as goal
 

@@ -2,7 +2,7 @@ use Rattle.std.proofs.Common.{rules, ◌≡◌, true, None, sym, subst}
 use Rattle.maps.specs.Maps.{AreBytes}
 use Rattle.replica.specs.StoreMeaning.{is_call}
 use Rattle.replica.specs.Refusals.{early_refusal}
-use Rattle.replica.proofs.Asked.{is_asked}
+use Rattle.replica.proofs.Export.{is_asked}
 use Rattle.schedule.proofs.nodes.call_of.Goals as goal
 
 pub returns : goal.returns

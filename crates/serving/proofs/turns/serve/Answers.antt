@@ -1,7 +1,7 @@
 use Rattle.std.specs.Prelude.{◌≡◌, IfOk}
 use Rattle.engine.specs.Opening.{IsOpened, on_which}
 use Rattle.engine.specs.Reading.{FailedInTurn, read}
-use Rattle.engine.proofs.Known.{given_so}
+use Rattle.engine.proofs.Export.{given_so}
 use Rattle.serving.specs.ServeAnswer.{service}
 use Rattle.serving.proofs.ServedAll.{before_or_in, is_opened, of_some, opened_as}
 use Rattle.serving.proofs.turns.serve.Goals as goal

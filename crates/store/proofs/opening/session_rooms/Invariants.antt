@@ -1,4 +1,4 @@
--- So far that many rooms are there.
+-- After k rounds k rooms are there.
 use Rattle.std.proofs.Common.{◌≡◌, ◌≤◌, length, vec_capacity}
 use Rattle.std.specs.List.{All}
 use Rattle.replica.specs.Refusals.{IsRoomFor}

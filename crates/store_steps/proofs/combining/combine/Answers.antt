@@ -1,5 +1,5 @@
 use Rattle.std.proofs.Common.{◌≡◌, subst}
-use Rattle.ownlock.proofs.Seats.{one_known}
+use Rattle.ownlock.proofs.Export.{one_known}
 use Rattle.accounts.specs.Moves.{unplaced}
 use Rattle.store_steps.specs.Whole.{CombinesBy}
 use Rattle.store_steps.proofs.Stretches.{combines_by}
@@ -27,6 +27,6 @@ returns-clause-goes g c k after is now =
     let a = c.append_and_replay.ensures.combined k is in
     let first = c.append_and_replay.ensures.goes k a.0 is a.1 in
     let z = c.hand_over.ensures.combined a.0 a.1 in
-    let last = c.hand_over.ensures.handed a.0 z.0 a.1 z.1 first.back first.left first.back_is first.left_is in
+    let last = c.hand_over.ensures.handed a.0 z.0 a.1 z.1 in
     subst (λ s. CombinesBy k s b c.hand_over.new.batch) (one_known c.hand_over.new.seat z.0 after z.1 now)
     (combines_by c.args.here.caller.node k a.0 z.0 b kept first last a.2.extends z.2.extends a.2.stands c.hand_over.new.batch c.hand_over.ensures.answered (subst (λ z. z.note.batch ≡ unplaced b.records) (one_known c.args.seat.now i.0 k i.1 is) i.2.1.noted) a.2.session)

@@ -1,7 +1,6 @@
 use Rattle.ownlock.specs.Seats.{run_of}
-use Rattle.ownlock.proofs.Run.{adds_on}
+use Rattle.ownlock.proofs.Export.{adds_on, one_known}
 use Rattle.std.proofs.Common.{◌+◌, [], ◌∷◌, Some, sym, refl, ap, ◌∙◌, subst}
-use Rattle.ownlock.proofs.Seats.{one_known}
 use Rattle.accounts.specs.declared.sessions.SessionNote.{SessionNote}
 use Rattle.accounts.specs.Moves.{unplaced}
 use Rattle.store_steps.specs.Combining.{HasClaimed}

@@ -1,9 +1,8 @@
-use Rattle.ownlock.proofs.Run.{adds_on}
+use Rattle.ownlock.proofs.Export.{adds_on, one_known}
 use Rattle.std.proofs.Common.{◌≡◌, ℕ, ◌+◌, ◌∷◌, ◌∙◌, sym, ap, subst}
 use Rattle.ownlock.specs.declared.known.ShelfStep.TheVariants.{Put}
 use Rattle.combiner.specs.Desks.{replied}
 use Rattle.node.specs.Answering.{answered_batch}
-use Rattle.ownlock.proofs.Seats.{one_known}
 use Rattle.oplog.specs.Sessions.{IsSessionOf}
 use Rattle.oplog.specs.declared.configuration.Sizes.{Sizes}
 use Rattle.store_steps.specs.AtDesk.{IsReady}
@@ -71,7 +70,7 @@ returns-clause-combined c k is =
 
 pub returns-clause-handed : goal.returns-clause-handed
 unfolding returns-clause-combined
-returns-clause-handed c k after is now log node log_is agrees =
+returns-clause-handed c k after is now =
     let has = known_as c.args.seat.now (λ z. IsFree c.args.here.caller z × IsReady z c.args.batch.now c.args.replies.now × IsOn c.args.here.shared z × Stands z) c.requires.ready k is in
     let v = c.in-Some.held.value in let x = c.desk_mut.result.now in let y = c.reply.new.desk in let place = 1 + c.args.here.shared.nodes + c.args.here.caller.node in
     let there = ap (λ n. 1 + n + c.args.here.caller.node) (sym has.2.nodes_are) in
@@ -83,8 +82,8 @@ returns-clause-handed c k after is now log node log_is agrees =
     let y' = replied (answered_batch c.args.replies.now c.args.batch.now) x in
     let becomes : y ≡ y' = c.reply.ensures.replied ∙ ap (λ z. replied z x) c.reply.ensures.answered in
     let p = c.put.ensures.put t.0 t.2 in
-    subst (λ z. HandsOver c.args.here.caller.node k z log node c.args.batch.now c.args.replies.now) (one_known c.put.new.seat _ after done.1 now)
-    (hands_over c.args.here.caller.node k _ log node c.args.batch.now c.args.replies.now x log_is agrees f.extends f.stands.accounts.completed
+    subst (λ z. HandsOver c.args.here.caller.node k z c.args.batch.now c.args.replies.now) (one_known c.put.new.seat _ after done.1 now)
+    (hands_over c.args.here.caller.node k _ c.args.batch.now c.args.replies.now x f.extends f.stands.accounts.completed
     (subst (λ (z : Sizes × ℕ). IsSessionOf z.0 x.node z.1) (λ j. (sym b.extends.config j, b.session j)) (c.args.here.caller.slot, at.within, at.own, at.near))
     (is_batch t.0 c.args.batch.now c.args.replies.now ready c.args.here.caller.slot x at)
     (desk_node c.args.here.caller k t.0 place v b x c.desk_mut.ensures.desk)

@@ -1,5 +1,5 @@
 use Rattle.std.proofs.Common.{[], ap, sym, subst, ◌∙◌}
-use Rattle.ownlock.proofs.Seats.{one_known}
+use Rattle.ownlock.proofs.Export.{one_known}
 use Rattle.store_steps.specs.declared.deeds.Deed.TheVariants.{Busy}
 use Rattle.store_steps.specs.declared.deeds.Stage.TheVariants.{Ready}
 use Rattle.store_steps.specs.Stages.{HasGone}

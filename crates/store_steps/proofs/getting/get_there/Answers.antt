@@ -5,7 +5,7 @@ use Rattle.maps.specs.declared.shapes.Shape.{Shape}
 use Rattle.maps.specs.Maps.{shapes_of}
 use Rattle.maps.specs.MapSets.{stored_shapes}
 use Rattle.maps.specs.Shapes.{key_size, value_size}
-use Rattle.maps.proofs.StoredShapes.{stored_are}
+use Rattle.maps.proofs.Export.{stored_are}
 use Rattle.store_steps.proofs.getting.get_there.Goals as goal
 
 pub lookup-requires-clause-map : goal.lookup-requires-clause-map

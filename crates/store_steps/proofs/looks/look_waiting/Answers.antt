@@ -1,5 +1,5 @@
 use Rattle.std.proofs.Common.{refl, subst, ◌∙◌}
-use Rattle.ownlock.proofs.Seats.{one_known}
+use Rattle.ownlock.proofs.Export.{one_known}
 use Rattle.store_steps.specs.Seen.{holds}
 use Rattle.store_steps.specs.Sights.{HasSight, SightBy}
 use Rattle.store_steps.specs.Standing.{IsFree}

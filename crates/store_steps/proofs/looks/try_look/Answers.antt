@@ -1,7 +1,6 @@
-use Rattle.ownlock.proofs.Run.{adds_on}
+use Rattle.ownlock.proofs.Export.{adds_on, one_known}
 use Rattle.std.proofs.Common.{subst, ap, ◌∷◌, ◌+◌, ◌≡◌}
 use Rattle.ownlock.specs.declared.known.ShelfStep.TheVariants.{Put}
-use Rattle.ownlock.proofs.Seats.{one_known}
 use Rattle.store_steps.specs.Seen.{holds}
 use Rattle.store_steps.specs.Sights.{SightBy}
 use Rattle.store_steps.proofs.Looked.{sight_ready, sights_ready}

@@ -1,5 +1,5 @@
 use Rattle.std.proofs.Common.{refl, subst, ◌∙◌}
-use Rattle.ownlock.proofs.Seats.{one_known}
+use Rattle.ownlock.proofs.Export.{one_known}
 use Rattle.store_steps.specs.AtDesk.{HasAsked}
 use Rattle.store_steps.specs.Requests.{HasTurned}
 use Rattle.store_steps.specs.Standing.{IsFree}

@@ -1,6 +1,5 @@
-use Rattle.ownlock.proofs.Run.{adds_on}
+use Rattle.ownlock.proofs.Export.{adds_on, one_known}
 use Rattle.std.proofs.Common.{◌+◌, ◌∙◌, refl, sym, ap, subst}
-use Rattle.ownlock.proofs.Seats.{one_known}
 use Rattle.combiner.specs.Desks.{posted}
 use Rattle.replica.specs.StoreMeaning.{store_meaning}
 use Rattle.accounts.specs.Accounts.{IsAllowed}

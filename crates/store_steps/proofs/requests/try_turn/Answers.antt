@@ -1,7 +1,6 @@
 use Rattle.ownlock.specs.Seats.{run_of}
-use Rattle.ownlock.proofs.Run.{adds_on}
+use Rattle.ownlock.proofs.Export.{adds_on, one_known}
 use Rattle.std.proofs.Common.{◌+◌, refl, sym, ap, subst}
-use Rattle.ownlock.proofs.Seats.{one_known}
 use Rattle.store_steps.specs.AtDesk.{IsTurn}
 use Rattle.store_steps.specs.Lending.{with_desk}
 use Rattle.store_steps.specs.Requests.{HasTurned}

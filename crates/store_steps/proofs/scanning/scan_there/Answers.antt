@@ -4,8 +4,7 @@ use Rattle.maps.specs.Maps.{shapes_of}
 use Rattle.maps.specs.Shapes.{entry_count}
 use Rattle.maps.specs.MapSets.{Stored, map_of}
 use Rattle.maps.specs.Scans.{IsPage, given}
-use Rattle.maps.proofs.Stored.{stored_there}
-use Rattle.maps.proofs.StoredShapes.{stored_are}
+use Rattle.maps.proofs.Export.{stored_there, stored_are}
 use Rattle.store_steps.proofs.scanning.scan_there.Goals as goal
 
 pub scan-scanned-requires-clause-place : goal.scan-scanned-requires-clause-place

@@ -1,5 +1,5 @@
 use Rattle.std.proofs.Common.{subst, sym, ◌∙◌, arith}
-use Rattle.ownlock.proofs.Seats.{one_known}
+use Rattle.ownlock.proofs.Export.{one_known}
 use Rattle.store_steps.specs.Rooms.{caught_up}
 use Rattle.store_steps.specs.Standing.{HasPlace}
 use Rattle.store_steps.specs.Whole.{MakesRoom}

@@ -1,4 +1,4 @@
-use Rattle.ownlock.proofs.Run.{adds_on}
+use Rattle.ownlock.proofs.Export.{adds_on}
 use Rattle.std.proofs.Common.{refl}
 use Rattle.store_steps.proofs.Played.{has_raised}
 use Rattle.store_steps.proofs.steps.raise_to.Goals as goal

@@ -1,5 +1,5 @@
 use Rattle.std.proofs.Common.{◌≡◌, ap, sym, subst, ◌∙◌, arith}
-use Rattle.ownlock.proofs.Seats.{one_known}
+use Rattle.ownlock.proofs.Export.{one_known}
 use Rattle.node.specs.Following.{IsNext, replayed, replies_after}
 use Rattle.store_steps.specs.Standing.{HasOthers, Stands}
 use Rattle.store_steps.specs.Whole.{ReplaysBy}

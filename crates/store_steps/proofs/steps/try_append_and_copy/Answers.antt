@@ -1,7 +1,6 @@
-use Rattle.ownlock.proofs.Run.{adds_on}
+use Rattle.ownlock.proofs.Export.{adds_on, one_known}
 use Rattle.std.proofs.Common.{◌≡◌, ap, length, refl, take, sym, subst, ◌∙◌}
 use Rattle.std.proofs.lemmas.List.{length-replicate}
-use Rattle.ownlock.proofs.Seats.{one_known}
 use Rattle.accounts.specs.Moves.{unplaced}
 use Rattle.store_steps.specs.Knowing.{HasReplica}
 use Rattle.node.specs.Following.{copied, room_for}

@@ -1,7 +1,6 @@
-use Rattle.ownlock.proofs.Run.{adds_on}
+use Rattle.ownlock.proofs.Export.{adds_on, one_known}
 use Rattle.std.proofs.Common.{refl, ap, sym, subst, ◌∙◌, arith, true}
 use Rattle.loader.specs.CatalogueView.{sizes_for}
-use Rattle.ownlock.proofs.Seats.{one_known}
 use Rattle.node.specs.Following.{replayed, copied}
 use Rattle.replica.specs.StoreMeaning.{AreUpdates}
 use Rattle.oplog.specs.Logs.{records_from}

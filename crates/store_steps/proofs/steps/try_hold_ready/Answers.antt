@@ -1,8 +1,7 @@
-use Rattle.ownlock.proofs.Run.{adds_on}
+use Rattle.ownlock.proofs.Export.{adds_on, one_known}
 use Rattle.std.proofs.Common.{sym, ap, refl, subst, Some, ◌+◌, ◌∙◌, [], ◌∷◌, arith}
 use Rattle.ownlock.specs.declared.known.ShelfStep.TheVariants.{Read, Took}
 use Rattle.ownlock.specs.Seats.{having_read, tails_in, run_of}
-use Rattle.ownlock.proofs.Seats.{one_known}
 use Rattle.store_steps.specs.Standing.{Agrees, IsFree}
 use Rattle.store_steps.proofs.Taken.{free_on, may_take_replica, took_replica}
 use Rattle.store_steps.proofs.Finished.{holds_on, may_put_replica, back}

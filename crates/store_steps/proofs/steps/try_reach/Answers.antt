@@ -1,7 +1,7 @@
 use Rattle.std.proofs.Common.{◌<◌, ◌≤◌, subst, sym, arith}
 use Rattle.std.specs.Prelude.{nat_lt}
 use Rattle.std.proofs.lemmas.Bool.{le-ltb, lt-ltb}
-use Rattle.ownlock.proofs.Seats.{one_known}
+use Rattle.ownlock.proofs.Export.{one_known}
 use Rattle.store_steps.specs.Standing.{Agrees, Stands}
 use Rattle.store_steps.specs.Whole.{FollowsBy}
 use Rattle.store_steps.proofs.Finished.{is_there, far_enough}

@@ -1,4 +1,5 @@
-use Rattle.explain.proofs.Lines.{are_enough, is_listing, size_take}
+use Rattle.explain.specs.Listing.{last_listed}
+use Rattle.explain.proofs.Lines.{are_listed, is_listing, size_take}
 use Rattle.explain.proofs.Pieces.{on_ok}
 use Rattle.explain.proofs.programs.listing.put_lines.Goals as goal
 
@@ -15,4 +16,4 @@ returns c =
     on_ok c.put_left.result
     (λ put small.
     is_listing p study.known.kinds study.known.refused count _ _ _ _ ((rw c.split_at.ensures.front at c.in_ok-put_instructions.ensures) small) c.split_at.ensures.back_len put
-    (are_enough p study.known.refused count c.last_listed-last.result small c.last_listed-last.ensures c.count_upto.ensures.enough)) c.put_left.ensures
+    (are_listed p (last_listed study.known.kinds study.known.refused) count c.last_listed.result small c.last_listed.ensures (c.count_upto.ensures.upto small))) c.put_left.ensures

@@ -2,8 +2,7 @@ use Rattle.std.proofs.Common.{◌≡◌, ◌<◌, ◌≤◌, Ok, length, rules, 
 use Rattle.insn.specs.declared.decoding.TheConstants.{MAX_INSTALLED_SLOTS}
 use Rattle.insn.specs.Decoded.{decoded}
 use Rattle.insn.specs.Layout.{size}
-use Rattle.insn.proofs.Slots.{are_bytes}
-use Rattle.insn.proofs.Laws.{read_is_spelled}
+use Rattle.insn.proofs.Export.{are_bytes, read_is_spelled}
 use Rattle.verifier.specs.Accepted.{checked}
 use Rattle.verifier.specs.Signature.{signature}
 use Rattle.verifier.specs.Typing.{IsTypable}

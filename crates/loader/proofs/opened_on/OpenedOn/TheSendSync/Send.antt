@@ -1,4 +1,4 @@
--- It owns nothing, so it may go to any thread.
+-- `OpenedOn` owns nothing, so it may go to any thread.
 use denote.Param.Send.{IsSend}
 use Rattle.loader.specs.contracts.opened_on.OpenedOn.{the_row}
 

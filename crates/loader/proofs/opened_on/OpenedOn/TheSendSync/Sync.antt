@@ -1,4 +1,4 @@
--- It owns nothing, so any thread may share it.
+-- `OpenedOn` owns nothing, so any thread may share it.
 use denote.Param.Send.{IsSync, part_keyless}
 use Rattle.loader.specs.contracts.opened_on.OpenedOn.{the_row}
 use Rattle.loader.proofs.opened_on.OpenedOn.TheSendSync.Send.{send}

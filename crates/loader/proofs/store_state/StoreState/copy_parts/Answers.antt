@@ -1,6 +1,6 @@
 use Rattle.std.proofs.Common.{sym, ap, ◌∙◌}
 use Rattle.maps.specs.Maps.{shapes_of}
-use Rattle.maps.proofs.StoredShapes.{stored_are}
+use Rattle.maps.proofs.Export.{stored_are}
 use Rattle.loader.specs.StoreState.{StoreState}
 use Rattle.loader.proofs.store_state.StoreState.copy_parts.Goals as goal
 

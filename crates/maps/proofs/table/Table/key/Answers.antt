@@ -2,7 +2,7 @@ use Rattle.std.proofs.Common.{◌≡◌, ℕ, ◌∙◌, ap, subst, sym, Some}
 use Rattle.std.specs.Prelude.{slice_get, ◌<◌}
 use Rattle.keyindex.specs.declared.index.KeyIndex.{KeyIndex}
 use Rattle.keyindex.specs.Places.{key_in}
-use Rattle.keyindex.proofs.Callers.{key_listed}
+use Rattle.keyindex.proofs.Export.{key_listed}
 use Rattle.maps.specs.declared.table.Table.{Table}
 use Rattle.maps.specs.Shapes.{entry_count}
 use Rattle.maps.specs.Blocks.{keys_at, FitsIndex}

@@ -5,7 +5,7 @@ use Rattle.std.proofs.lemmas.List.{length-drop}
 use Rattle.oplog.specs.Fields.{HasEnds}
 use Rattle.oplog.specs.History.{History}
 use Rattle.oplog.specs.Logs.{Log}
-use Rattle.maps.proofs.StoredShapes.{stored_are}
+use Rattle.maps.proofs.Export.{stored_are}
 use Rattle.oplog.proofs.Ends.{based}
 use Rattle.oplog.proofs.log_state.LogState.reclaim.Goals as goal
 

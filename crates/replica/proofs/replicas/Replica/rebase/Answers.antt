@@ -1,6 +1,6 @@
 use Rattle.std.proofs.Common.{sym, ap, ◌∙◌}
 use Rattle.maps.specs.Maps.{shapes_of}
-use Rattle.maps.proofs.StoredShapes.{stored_are}
+use Rattle.maps.proofs.Export.{stored_are}
 use Rattle.replica.specs.Views.{ReplicaView}
 use Rattle.replica.proofs.replicas.Replica.rebase.Goals as goal
 

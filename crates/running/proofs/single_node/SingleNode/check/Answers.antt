@@ -3,7 +3,7 @@ use Rattle.maps.specs.Maps.{AreBytes}
 use Rattle.oplog.specs.Calls.{NewProgram}
 use Rattle.replica.specs.StoreMeaning.{is_installable}
 use Rattle.replica.specs.Refusals.{install_refusal}
-use Rattle.replica.proofs.Asked.{may_install}
+use Rattle.replica.proofs.Export.{may_install}
 use Rattle.scripts.specs.ScriptShown.{program_of}
 use Rattle.running.proofs.single_node.SingleNode.check.Goals as goal
 

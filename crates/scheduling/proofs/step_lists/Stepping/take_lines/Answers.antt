@@ -3,7 +3,7 @@ use Rattle.text.specs.Lines.{LinesLeft}
 use Rattle.running.specs.RunAnswer.{behind}
 use Rattle.scheduling.specs.ScheduleAnswer.{steps_answer}
 use Rattle.scheduling.proofs.StepLines.{goes_on, bad_here, all_taken}
-use Rattle.engine.proofs.Quiet.{quiet_on}
+use Rattle.engine.proofs.Export.{quiet_on}
 use Rattle.scheduling.proofs.step_lists.Stepping.take_lines.Goals as goal
 
 pub loop-number-init : goal.loop-number-init

@@ -3,7 +3,7 @@ use Rattle.std.proofs.lemmas.Str.{is_utf8-from_IsUtf8}
 use Rattle.oplog.specs.declared.configuration.TheConstants.{ENDLESS}
 use Rattle.std.specs.Str.{is_utf8}
 use Rattle.serving.proofs.KeptLines.{read_turn, no_turn, no_text}
-use Rattle.running.proofs.RunLines.{taken_so}
+use Rattle.running.proofs.Export.{taken_so}
 use Rattle.serving.proofs.LineTurns.{none_taken}
 use Rattle.serving.proofs.service.Service.take_left.Goals as goal
 

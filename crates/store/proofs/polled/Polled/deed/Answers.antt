@@ -5,9 +5,63 @@ use Rattle.store_steps.specs.Stages.{HasDone}
 use Rattle.store_steps.specs.Views.{SessionView, session_view}
 use Rattle.store.specs.Sessions.{IsOf}
 use Rattle.store.proofs.Between.{known_at, on_at, out_at, own_on, room_on}
-use Rattle.store_steps.specs.Updating.{DeedGoes}
+use Rattle.store_steps.specs.Polling.{DeedsGo}
+use Rattle.store_steps.proofs.Export.{go_deeds}
 use Rattle.store.proofs.Invoked.{goes_seen}
 use Rattle.store.proofs.polled.Polled.deed.Goals as goal
+
+-- ---- by four takes
+
+pub go_on_at_once-requires-clause-on : goal.go_on_at_once-requires-clause-on
+go_on_at_once-requires-clause-on c =
+    let s = c.self.inside in
+    let own = subst (λ z. IsOf c.args.store.now z) (sym c.self.view_is) c.requires.own in
+    let shared = c.shared-shared in
+    on_at s.seat s.caller s.batch s.replies shared.result c.args.store.now s.stage c.self.invariant.0 own shared.ensures.places shared.ensures.nodes shared.ensures.catalogue
+
+pub go_on_at_once-requires-clause-out : goal.go_on_at_once-requires-clause-out
+go_on_at_once-requires-clause-out c =
+    let s = c.self.inside in
+    out_at s.seat s.caller s.batch s.replies s.stage c.self.invariant.0 c.requires.asked.0 (ap (λ (z : SessionView). z.note.pending) c.self.view_is ∙ c.requires.asked.1)
+
+pub invariant_of-self : goal.invariant_of-self
+invariant_of-self c =
+    let h = c.go_on_at_once.ensures.gone in
+    (h.polled, room_on c.self.inside.seat c.go_on_at_once.new.seat c.self.inside.room h.extends c.self.invariant.1)
+
+pub go_on_at_once-requires-clause-polled : goal.go_on_at_once-requires-clause-polled
+go_on_at_once-requires-clause-polled c = c.self.invariant.0
+
+pub returns-then-at_once-clause-own : goal.returns-then-at_once-clause-own
+returns-then-at_once-clause-own c =
+    let new = session_view c.go_on_at_once.new.seat in
+    let grown = subst (λ (z : SessionView). Extends z.progress new.progress) c.self.view_is c.go_on_at_once.ensures.gone.extends in
+    own_on c.args.store.now c.args.self.now new grown (c.go_on_at_once.ensures.same ∙ ap (λ (z : SessionView). z.shelf) c.self.view_is) c.requires.own
+
+pub returns-then-at_once-clause-same : goal.returns-then-at_once-clause-same
+returns-then-at_once-clause-same c = (c.go_on_at_once.ensures.same ∙ ap (λ (z : SessionView). z.shelf) c.self.view_is, c.go_on_at_once.ensures.gone.session ∙ ap (λ (z : SessionView). z.session) c.self.view_is)
+
+pub returns-then-at_once-clause-grown : goal.returns-then-at_once-clause-grown
+returns-then-at_once-clause-grown c = subst (λ (z : SessionView). Extends z.progress (session_view c.go_on_at_once.new.seat).progress) c.self.view_is c.go_on_at_once.ensures.gone.extends
+
+pub returns-then-at_once-clause-well_formed : goal.returns-then-at_once-clause-well_formed
+returns-then-at_once-clause-well_formed c = c.go_on_at_once.ensures.gone.well_formed
+
+pub returns-then-at_once-clause-done : goal.returns-then-at_once-clause-done
+returns-then-at_once-clause-done c o is =
+    let h = c.go_on_at_once.ensures.gone in
+    let new = session_view c.go_on_at_once.new.seat in
+    let e = same_Some h.request o (sym h.waited ∙ (ap (λ (z : SessionView). z.note.pending) c.self.view_is ∙ is)) in
+    subst (λ z. HasDone c.args.self.now new z c.go_on_at_once.result) e (subst (λ (z : SessionView). HasDone z new h.request c.go_on_at_once.result) c.self.view_is h.done)
+
+pub returns-then-at_once-clause-goes : goal.returns-then-at_once-clause-goes
+returns-then-at_once-clause-goes c =
+    let s = c.self.inside in
+    let k = known_at s.seat s.caller s.batch s.replies s.stage c.self.invariant.0 in
+    let f = known_at c.go_on_at_once.new.seat s.caller c.go_on_at_once.new.batch c.go_on_at_once.new.replies c.go_on_at_once.new.stage c.go_on_at_once.ensures.gone.polled in
+    goes_seen (λ x y. DeedsGo x y c.go_on_at_once.result) s.seat c.go_on_at_once.new.seat c.args.self.now k.0 f.0 k.1 k.3 c.self.view_is f.1 f.3 (c.go_on_at_once.ensures.goes k.0 f.0 k.1 f.1)
+
+-- ---- by six
 
 pub go_on-requires-clause-on : goal.go_on-requires-clause-on
 go_on-requires-clause-on c =
@@ -21,8 +75,8 @@ go_on-requires-clause-out c =
     let s = c.self.inside in
     out_at s.seat s.caller s.batch s.replies s.stage c.self.invariant.0 c.requires.asked.0 (ap (λ (z : SessionView). z.note.pending) c.self.view_is ∙ c.requires.asked.1)
 
-pub invariant_of-self : goal.invariant_of-self
-invariant_of-self c =
+pub invariant_of-self-2 : goal.invariant_of-self-2
+invariant_of-self-2 c =
     let h = c.go_on.ensures.gone in
     (h.polled, room_on c.self.inside.seat c.go_on.new.seat c.self.inside.room h.extends c.self.invariant.1)
 
@@ -56,4 +110,4 @@ returns-clause-goes c =
     let s = c.self.inside in
     let k = known_at s.seat s.caller s.batch s.replies s.stage c.self.invariant.0 in
     let f = known_at c.go_on.new.seat s.caller c.go_on.new.batch c.go_on.new.replies c.go_on.new.stage c.go_on.ensures.gone.polled in
-    goes_seen (λ x y. DeedGoes x y c.go_on.result) s.seat c.go_on.new.seat c.args.self.now k.0 f.0 k.1 k.3 c.self.view_is f.1 f.3 (c.go_on.ensures.goes k.0 f.0 k.1 f.1)
+    goes_seen (λ x y. DeedsGo x y c.go_on.result) s.seat c.go_on.new.seat c.args.self.now k.0 f.0 k.1 k.3 c.self.view_is f.1 f.3 (go_deeds k.0 f.0 c.go_on.result (c.go_on.ensures.goes k.0 f.0 k.1 f.1))

@@ -5,9 +5,8 @@ use Rattle.store_steps.specs.Stages.{IsPolled}
 use Rattle.store.specs.Polled.{HasPostedFor}
 use Rattle.store_steps.specs.Views.{SessionView, session_view}
 use Rattle.store.specs.Sessions.{HasRoom, IsOf}
-use Rattle.store_steps.proofs.Gone.{on_known}
+use Rattle.store_steps.proofs.Export.{on_known, store_laws}
 use Rattle.store.proofs.Between.{idle_at, on_at, own_on, post_grown, post_session, post_told, post_well, posted_at, room_on, well_at}
-use Rattle.store_steps.proofs.StoreLaws.{store_laws}
 use Rattle.store_steps.specs.Updating.{PostsBy}
 use Rattle.store.proofs.Invoked.{goes_seen}
 use Rattle.store.proofs.polled.Polled.post.Goals as goal

@@ -4,9 +4,10 @@ use Rattle.accounts.specs.Accounts.{IsWellFormed}
 use Rattle.store_steps.specs.Stages.{HasDone}
 use Rattle.store_steps.specs.Views.{SessionView}
 use Rattle.store.proofs.Between.{way_then, well_at}
-use Rattle.store_steps.proofs.StoreLaws.{store_laws}
+use Rattle.store_steps.proofs.Export.{store_laws, deeds_on}
 use Rattle.store.specs.Sessions.{known_of}
-use Rattle.store_steps.specs.Updating.{DeedGoes, Rests, Then}
+use Rattle.store_steps.specs.Polling.{DeedsGo}
+use Rattle.store_steps.specs.Updating.{Rests}
 use Rattle.store.proofs.polled.Polled.try_complete.Goals as goal
 
 pub loop-init : goal.loop-init
@@ -37,9 +38,14 @@ loop-preserved c =
       grown = store_laws.extends_on _ _ _ i.grown c.deed.ensures.grown;
       well = c.deed.ensures.well_formed;
       way = way_then c.args.self.now c.loop.self c.deed.new.self i.way d;
-      deeds = Then (known_of c.args.self.now) (known_of c.loop.self) (known_of c.deed.new.self) i.deeds (subst (λ z. DeedGoes (known_of c.loop.self) (known_of c.deed.new.self) z) c.in-Went.is c.deed.ensures.goes);
+      deeds = deeds_on (known_of c.args.self.now) (known_of c.loop.self) (known_of c.deed.new.self) i.deeds (subst (λ z. DeedsGo (known_of c.loop.self) (known_of c.deed.new.self) z) c.in-Went.is c.deed.ensures.goes);
     }
 
 pub returns-in-Busy-clause-goes : goal.returns-in-Busy-clause-goes
 returns-in-Busy-clause-goes c =
-    Then (known_of c.args.self.now) (known_of c.loop.self) (known_of c.deed.new.self) c.loop.invariant.deeds (subst (λ z. DeedGoes (known_of c.loop.self) (known_of c.deed.new.self) z) c.in-Busy.is c.deed.ensures.goes)
+    deeds_on (known_of c.args.self.now) (known_of c.loop.self) (known_of c.deed.new.self) c.loop.invariant.deeds (subst (λ z. DeedsGo (known_of c.loop.self) (known_of c.deed.new.self) z) c.in-Busy.is c.deed.ensures.goes)
+
+pub returns-in-Collected-clause-goes : goal.returns-in-Collected-clause-goes
+returns-in-Collected-clause-goes c =
+    let d = subst (λ z. DeedsGo (known_of c.loop.self) (known_of c.deed.new.self) z) c.in-Collected.is c.deed.ensures.goes in
+    (c.in-Collected.reply, c.answer_of.ensures.said, (d.0, deeds_on (known_of c.args.self.now) (known_of c.loop.self) d.0 c.loop.invariant.deeds d.1, d.2))

@@ -3,7 +3,7 @@ use Rattle.maps.specs.Maps.{AreBytes}
 use Rattle.oplog.specs.Calls.{NewProgram}
 use Rattle.replica.specs.StoreMeaning.{is_installable}
 use Rattle.replica.specs.Refusals.{install_refusal}
-use Rattle.replica.proofs.Asked.{may_install}
+use Rattle.replica.proofs.Export.{may_install}
 use Rattle.store.specs.Sessions.{new_program}
 use Rattle.store.proofs.polled.Polled.try_install.Goals as goal
 

@@ -3,7 +3,7 @@ use Rattle.maps.specs.Maps.{AreBytes}
 use Rattle.verifier.specs.declared.refusal.Mode.TheVariants.{Update}
 use Rattle.replica.specs.StoreMeaning.{is_call}
 use Rattle.replica.specs.Refusals.{early_refusal}
-use Rattle.replica.proofs.Asked.{is_asked}
+use Rattle.replica.proofs.Export.{is_asked}
 use Rattle.store.proofs.polled.Polled.try_post.Goals as goal
 
 pub post-requires-clause-update : goal.post-requires-clause-update

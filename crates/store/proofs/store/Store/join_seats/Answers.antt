@@ -1,5 +1,5 @@
 use Rattle.std.proofs.Common.{rules, sym, ap, ◌∙◌, ◌≡◌, ◌++◌, ◌∷◌, []}
-use Rattle.store.proofs.Joined.{all_joined, first_of, gathers_first, gathers_more, holds_none, next_of, one_holds_none}
+use Rattle.store.proofs.Joined.{all_joined, first_of, gathers_first, gathers_more, next_of, one_holds_none}
 use Rattle.store.proofs.store.Store.join_seats.Goals as goal
 
 pub loop-next-init : goal.loop-next-init
@@ -14,7 +14,7 @@ join-requires-clause-own c =
     (c.loop-next.invariant.gathered.shelf ∙ id, c.into_parts-seat.ensures.shelf ∙ (next_of c.args.self.now c.args.self.now.id _ _ _ c.in-Some-pop.next _ c.requires.own c.loop-next.invariant.gathered is ∙ id))
 
 pub join-requires-clause-idle : goal.join-requires-clause-idle
-join-requires-clause-idle c = (holds_none c.args.self.now.id _ _ _ c.loop-next.invariant.gathered, one_holds_none _ c.in-Some-pop.next c.into_parts-seat.ensures.known)
+join-requires-clause-idle c = one_holds_none _ c.in-Some-pop.next c.into_parts-seat.ensures.known
 
 pub loop-next-preserved : goal.loop-next-preserved
 loop-next-preserved c =

@@ -1,6 +1,6 @@
 use Rattle.std.proofs.Common.{sym, ap, ◌∙◌, refl, subst, length}
 use Rattle.replica.specs.StoreMeaning.{store_meaning}
-use Rattle.accounts.proofs.Finish.{opens}
+use Rattle.accounts.proofs.Export.{opens}
 use Rattle.store.specs.Opening.{AreOf}
 use Rattle.store.specs.Sessions.{StoreView}
 use Rattle.store_steps.specs.Shelving.{sessions_of}

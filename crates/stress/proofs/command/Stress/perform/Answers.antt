@@ -1,8 +1,7 @@
 use Rattle.std.specs.Prelude.{IfOk, Option}
 use Rattle.engine.specs.Reading.{TextsRead, read}
 use Rattle.engine.specs.Report.{answer_of}
-use Rattle.engine.proofs.Known.{given_so}
-use Rattle.engine.proofs.Reports.{reports}
+use Rattle.engine.proofs.Export.{given_so, reports}
 use Rattle.stress.specs.Runs.{MayMake}
 use Rattle.stress.proofs.command.Stress.perform.Goals as goal
 

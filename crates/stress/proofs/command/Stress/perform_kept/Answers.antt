@@ -1,7 +1,6 @@
 use Rattle.std.specs.Prelude.{IfOk, Option}
 use Rattle.engine.specs.Reading.{TextsRead, read}
-use Rattle.engine.proofs.Known.{given_so}
-use Rattle.engine.proofs.Reports.{performs}
+use Rattle.engine.proofs.Export.{given_so, performs}
 use Rattle.stress.specs.Left.{MayLeave, answer_left}
 use Rattle.stress.proofs.command.Stress.perform_kept.Goals as goal
 

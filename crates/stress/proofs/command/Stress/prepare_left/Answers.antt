@@ -1,5 +1,5 @@
 use Rattle.engine.specs.Reading.{read}
-use Rattle.engine.proofs.Known.{given_so}
+use Rattle.engine.proofs.Export.{given_so}
 use Rattle.stress.specs.Left.{MayLeave}
 use Rattle.stress.specs.Runs.{MayMake}
 use Rattle.stress.proofs.command.Stress.prepare_left.Goals as goal

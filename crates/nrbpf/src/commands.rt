@@ -1,0 +1,125 @@
+// The commands: each has a file, with its options, its help, what its words ask for, and what it does.
+
+mod asm_command;
+mod check_command;
+mod dis_command;
+mod encode_command;
+mod explain_command;
+mod options;
+mod replay_command;
+mod run_command;
+mod schedule_command;
+mod serve_command;
+mod stress_command;
+
+use crate::tasks::{Call, Task};
+use clap::{ArgMatches, Command};
+use engine::{Folder, Inputs, Status};
+use std::alloc::{AllocError, Global};
+use std::io::{Eprint, Input, Read, Write};
+use std::rt::{Clock, Files};
+use std::sync::Wait;
+use std::thread::Threads;
+
+// The commands, in the help's order.
+#[derive(Clone, Copy)]
+enum Name {
+    Check,
+    Explain,
+    Asm,
+    Dis,
+    Encode,
+    Run,
+    Serve,
+    Replay,
+    Schedule,
+    Stress,
+}
+
+const NAMES: [Name; 10] = [
+    Name::Check,
+    Name::Explain,
+    Name::Asm,
+    Name::Dis,
+    Name::Encode,
+    Name::Run,
+    Name::Serve,
+    Name::Replay,
+    Name::Schedule,
+    Name::Stress,
+];
+
+// The options and arguments of a command.
+fn arguments_of<'a>(alloc: Global, name: Name) -> Result<Command<'a>, AllocError> {
+    match name {
+        Name::Check => check_command::arguments(alloc),
+        Name::Explain => explain_command::arguments(alloc),
+        Name::Asm => asm_command::arguments(alloc),
+        Name::Dis => dis_command::arguments(alloc),
+        Name::Encode => encode_command::arguments(alloc),
+        Name::Run => run_command::arguments(alloc),
+        Name::Serve => serve_command::arguments(alloc),
+        Name::Replay => replay_command::arguments(alloc),
+        Name::Schedule => schedule_command::arguments(alloc),
+        Name::Stress => stress_command::arguments(alloc),
+    }
+}
+
+/// Adds the commands to the program's line.
+pub fn add_all<'a>(alloc: Global, program: Command<'a>) -> Result<Command<'a>, AllocError> {
+    let mut program = program;
+    for name in NAMES {
+        program = program.subcommand(arguments_of(alloc, name)?)?;
+    }
+    Ok(program)
+}
+
+/// What the command of this name is asked for.
+pub fn task_of<'a>(name: &str, matches: &ArgMatches<'a>) -> Option<Task<'a>> {
+    match name {
+        "check" => check_command::task(matches),
+        "explain" => explain_command::task(matches),
+        "asm" => asm_command::task(matches),
+        "dis" => dis_command::task(matches),
+        "encode" => encode_command::task(matches),
+        "run" => run_command::task(matches),
+        "serve" => serve_command::task(matches),
+        "replay" => replay_command::task(matches),
+        "schedule" => schedule_command::task(matches),
+        "stress" => stress_command::task(matches),
+        _ => None,
+    }
+}
+
+/// Does what a call asks for, with what it reads and where it writes.
+pub fn perform<
+    R: Files + Input + AllocGlobal + Eprint + Threads + Wait + Clock + Sync,
+    F: Folder,
+    I: Read + Drop,
+    W: Write,
+>(rt: &R, call: &Call<'_>, inputs: &mut Inputs<'_, F, I>, writer: &mut W) -> Status {
+    match call.task {
+        Task::Check => check_command::perform(rt, call.telling, inputs, writer),
+        Task::Explain(asked) => explain_command::perform(rt, asked, call.telling, inputs, writer),
+        Task::Assemble => asm_command::perform(rt, call, inputs, writer),
+        Task::Disassemble(command) => dis_command::perform(
+            rt,
+            command,
+            call.telling,
+            inputs,
+            writer,
+        ),
+        Task::Encode => encode_command::perform(rt, inputs, writer),
+        Task::Run(command) => run_command::perform(rt, command, call.output, inputs, writer),
+        Task::Replay(spare) => replay_command::perform(rt, spare, call.telling, inputs, writer),
+        Task::Schedule(config) => schedule_command::perform(
+            rt,
+            config,
+            call.telling,
+            inputs,
+            writer,
+        ),
+        Task::Serve(spare) => serve_command::perform(rt, spare, call.output, inputs, writer),
+        Task::Stress(config) => stress_command::perform(rt, config, call, inputs, writer),
+    }
+}

@@ -1,0 +1,58 @@
+// The options and arguments that several commands have.
+
+use clap::builder::ValueParser;
+use clap::{Arg, Command, arg};
+use std::alloc::{AllocError, Global};
+
+/// An option whose value is a number of 32 bits.
+pub fn number<'a>(alloc: Global, name: &'a str, default: &'a str, help: &'a str) -> Arg<'a> {
+    Arg::new(alloc, name)
+        .long(name)
+        .value_name("N")
+        .value_parser(ValueParser::unsigned(0, u32::MAX as u64))
+        .default_value(default)
+        .help(help)
+}
+
+/// How many programs may be installed.
+pub fn spare<'a>(alloc: Global) -> Arg<'a> {
+    let help = "Programs that may be installed behind those of the manifest";
+    number(alloc, "spare", "4", help)
+}
+
+/// Adds the sizes of a store.
+pub fn sized<'a>(alloc: Global, command: Command<'a>) -> Result<Command<'a>, AllocError> {
+    let nodes = "Nodes, each with a replica of the maps";
+    let limit = "Updates that the store may have in all";
+    command
+        .arg(number(alloc, "nodes", "2", nodes))?
+        .arg(number(alloc, "slots", "2", "Slots of a node"))?
+        .arg(number(alloc, "window", "64", "Records that the log keeps at once"))?
+        .arg(number(alloc, "limit", "1000000", limit))?
+        .arg(spare(alloc))
+}
+
+/// The state to begin with.
+pub fn load<'a>(alloc: Global) -> Arg<'a> {
+    arg!(in alloc; --load <FILE> "The path of the state to begin with")
+}
+
+/// The file for the state that is left.
+pub fn dump<'a>(alloc: Global) -> Arg<'a> {
+    arg!(in alloc; output: --dump <FILE> "The path of the file for the state that is left")
+}
+
+/// Whether maps may be larger than the standard limits say.
+pub fn large<'a>(alloc: Global) -> Arg<'a> {
+    arg!(in alloc; --large "Takes maps of up to 2147483648 entries, and of 2^40 bytes together")
+}
+
+/// The manifest.
+pub fn manifest<'a>(alloc: Global) -> Arg<'a> {
+    arg!(in alloc; <MANIFEST> "The path of the manifest")
+}
+
+/// The script of calls.
+pub fn script<'a>(alloc: Global) -> Arg<'a> {
+    arg!(in alloc; FILE: <SCRIPT> "The path of the script")
+}

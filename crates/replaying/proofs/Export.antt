@@ -1,0 +1,2 @@
+-- The lemmas that other crates may cite.
+pub use Rattle.replaying.proofs.ReplaysOfLines.{agreeing_lines_are_runs}

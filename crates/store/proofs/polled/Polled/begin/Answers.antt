@@ -1,0 +1,98 @@
+use Rattle.std.proofs.Common.{sym, ap, subst, ◌∙◌}
+use Rattle.combiner.specs.Desks.{BatchView}
+use Rattle.replica.specs.StoreMeaning.{store_meaning}
+use Rattle.accounts.specs.Accounts.{Extends, IsWellFormed}
+use Rattle.store_steps.specs.Polling.{BeginsBy, HasAskedFor}
+use Rattle.store_steps.specs.Stages.{IsPolled}
+use Rattle.store_steps.specs.declared.deeds.Stage.{Stage}
+use Rattle.store_steps.specs.Standing.{StoreSeat}
+use Rattle.store_steps.specs.Views.{SessionView, session_view}
+use Rattle.store.specs.Sessions.{HasRoom, IsOf}
+use Rattle.store_steps.proofs.Export.{store_laws, seen_as}
+use Rattle.store.proofs.Between.{idle_at, known_at, on_at, own_on, room_on, well_at}
+use Rattle.store.proofs.Invoked.{goes_seen, may_ask}
+use Rattle.store.proofs.polled.Polled.begin.Goals as goal
+
+pub try_begin-requires-clause-on : goal.try_begin-requires-clause-on
+try_begin-requires-clause-on c =
+    let s = c.self.inside in
+    let own = subst (λ z. IsOf c.args.store.now z) (sym c.self.view_is) c.requires.own in
+    let shared = c.shared-shared in
+    on_at s.seat s.caller s.batch s.replies shared.result c.args.store.now s.stage c.self.invariant.0 own shared.ensures.places shared.ensures.nodes shared.ensures.catalogue
+
+pub try_begin-requires-clause-idle : goal.try_begin-requires-clause-idle
+try_begin-requires-clause-idle c =
+    let s = c.self.inside in
+    idle_at s.seat s.caller s.batch s.replies s.stage c.self.invariant.0 (ap (λ (z : SessionView). z.note.pending) c.self.view_is ∙ c.requires.idle)
+
+pub try_begin-requires-clause-few : goal.try_begin-requires-clause-few
+try_begin-requires-clause-few c =
+    let s = c.self.inside in
+    let i = idle_at s.seat s.caller s.batch s.replies s.stage c.self.invariant.0 (ap (λ (z : SessionView). z.note.pending) c.self.view_is ∙ c.requires.idle) in
+    let own = subst (λ z. IsOf c.args.store.now z) (sym c.self.view_is) c.requires.own in
+    let config = ap (λ (z : SessionView). z.progress.config) (sym (seen_as s.seat i.known i.is)) ∙ own.config in
+    let may = may_ask i.known c.args.store.now.config config c.shared-shared.ensures.config i.pending i.batch i.within i.well_formed in
+    (i.known, i.is, may.few)
+
+pub invariant_of-self : goal.invariant_of-self
+invariant_of-self c =
+    let s = c.self.inside in
+    let e = c.in_default.ensures.stays in
+    subst (λ (z : StoreSeat × BatchView × Stage). IsPolled z.0 s.caller z.1 s.replies z.2 × HasRoom s.room z.0) (λ j. (sym e.0 j, sym e.1 j, sym e.2 j)) c.self.invariant
+
+pub invariant_of-self-2 : goal.invariant_of-self-2
+invariant_of-self-2 c =
+    let s = c.self.inside in
+    let h = c.in-Some.ensures.begun s.replies in
+    (h.polled, room_on s.seat c.try_begin.new.seat s.room h.extends c.self.invariant.1)
+
+-- ---- the desk is held
+
+pub returns-in_default-clause-own : goal.returns-in_default-clause-own
+returns-in_default-clause-own c = subst (λ z. IsOf c.args.store.now z) (sym (ap session_view c.in_default.ensures.stays.0 ∙ c.self.view_is)) c.requires.own
+
+pub returns-in_default-clause-same : goal.returns-in_default-clause-same
+returns-in_default-clause-same c =
+    let e = ap session_view c.in_default.ensures.stays.0 ∙ c.self.view_is in
+    (ap (λ (z : SessionView). z.shelf) e, ap (λ (z : SessionView). z.session) e)
+
+pub returns-in_default-clause-grown : goal.returns-in_default-clause-grown
+returns-in_default-clause-grown c =
+    let e = ap session_view c.in_default.ensures.stays.0 ∙ c.self.view_is in
+    subst (λ (z : SessionView). Extends c.args.self.now.progress z.progress) (sym e) (store_laws.extends_self c.args.self.now.progress)
+
+pub returns-in_default-clause-well_formed : goal.returns-in_default-clause-well_formed
+returns-in_default-clause-well_formed c =
+    let s = c.self.inside in
+    subst (λ (z : SessionView). IsWellFormed store_meaning z.progress) (sym (ap session_view c.in_default.ensures.stays.0)) (well_at s.seat s.caller s.batch s.replies s.stage c.self.invariant.0)
+
+pub returns-in_default-clause-stays : goal.returns-in_default-clause-stays
+returns-in_default-clause-stays c = ap session_view c.in_default.ensures.stays.0 ∙ c.self.view_is
+
+-- ---- it is posted
+
+pub returns-clause-own : goal.returns-clause-own
+returns-clause-own c =
+    let new = session_view c.try_begin.new.seat in
+    let grown = subst (λ (z : SessionView). Extends z.progress new.progress) c.self.view_is (c.in-Some.ensures.begun c.self.inside.replies).extends in
+    own_on c.args.store.now c.args.self.now new grown (c.try_begin.ensures.same ∙ ap (λ (z : SessionView). z.shelf) c.self.view_is) c.requires.own
+
+pub returns-clause-same : goal.returns-clause-same
+returns-clause-same c =
+    (c.try_begin.ensures.same ∙ ap (λ (z : SessionView). z.shelf) c.self.view_is, (c.in-Some.ensures.begun c.self.inside.replies).session ∙ ap (λ (z : SessionView). z.session) c.self.view_is)
+
+pub returns-clause-grown : goal.returns-clause-grown
+returns-clause-grown c = subst (λ (z : SessionView). Extends z.progress (session_view c.try_begin.new.seat).progress) c.self.view_is (c.in-Some.ensures.begun c.self.inside.replies).extends
+
+pub returns-clause-well_formed : goal.returns-clause-well_formed
+returns-clause-well_formed c = (c.in-Some.ensures.begun c.self.inside.replies).well_formed
+
+pub returns-clause-asked : goal.returns-clause-asked
+returns-clause-asked c = subst (λ (z : SessionView). HasAskedFor z (session_view c.try_begin.new.seat) c.args.op.now) c.self.view_is (c.in-Some.ensures.begun c.self.inside.replies).asked
+
+pub returns-clause-goes : goal.returns-clause-goes
+returns-clause-goes c =
+    let s = c.self.inside in
+    let i = idle_at s.seat s.caller s.batch s.replies s.stage c.self.invariant.0 (ap (λ (z : SessionView). z.note.pending) c.self.view_is ∙ c.requires.idle) in
+    let f = known_at c.try_begin.new.seat s.caller c.try_begin.new.batch s.replies c.try_begin.new.stage (c.in-Some.ensures.begun s.replies).polled in
+    goes_seen (λ x y. BeginsBy x y c.args.op.now) s.seat c.try_begin.new.seat c.args.self.now i.known f.0 i.is i.free.held c.self.view_is f.1 f.3 (c.in-Some.ensures.goes i.known f.0 i.is f.1)

@@ -1,0 +1,89 @@
+// An update by four takes of a session whose calls answer at once.
+
+ghost use Rattle.std.specs.Prelude.{◌≡◌, None, Some, Err, true, IfSome, IfNone};
+ghost use Rattle.verifier.specs.declared.refusal.Mode.TheVariants.{Update};
+ghost use Rattle.accounts.specs.Accounts.{Extends, IsWellFormed};
+ghost use Rattle.replica.specs.StoreMeaning.{store_meaning, is_operation};
+ghost use Rattle.replica.specs.declared.refusals.StoreRefused.{StoreRefused};
+ghost use Rattle.replica.specs.Refusals.{early_refusal};
+ghost use Rattle.store.specs.Going.{BeginGoes};
+ghost use Rattle.store.specs.Polled.{TellsAsked};
+ghost use Rattle.store.specs.Sessions.{IsOf, known_of};
+ghost use Rattle.store_steps.specs.Polling.{BeginsBy, HasAskedFor};
+ghost use Rattle.store_steps.specs.Views.{op_of};
+
+use crate::polled::Polled;
+use crate::store::Store;
+use oplog::{Call, Op};
+use replica::{StoreRefused, check_call};
+use store_steps::{Here, try_begin};
+use verifier::Mode;
+
+impl Polled {
+    // Posts an operation that is not refused, and claims the requests of its node in the same hold of the desk. `None` where the desk is held.
+    fn begin(&mut self, store: &Store, op: &Op) -> Option<()>
+        requires own { IsOf store.now self.old }
+        requires idle { self.old.note.pending ≡ None }
+        requires update { is_operation Update store.now.catalogue op.now ≡ true }
+        ensures own { IsOf store.now self.new }
+        ensures same { (self.new.shelf ≡ self.old.shelf) × (self.new.session ≡ self.old.session) }
+        ensures grown { Extends self.old.progress self.new.progress }
+        ensures well_formed { IsWellFormed store_meaning self.new.progress }
+        ensures stays { IfNone result (self.new ≡ self.old) }
+        ensures asked { IfSome result (λ _. HasAskedFor self.old self.new op.now) }
+        ensures goes { IfSome result (λ _. BeginsBy (known_of self.old) (known_of self.new) op.now) }
+    {
+        let shared = store.shared();
+        let Polled {
+            seat,
+            caller,
+            batch,
+            stage,
+            at_once,
+            ..
+        } = self;
+        let here = Here {
+            shared,
+            caller: *caller,
+        };
+        let Some(()) = try_begin(here, seat, op, batch, stage) else {
+            return None;
+        };
+        *at_once = true;
+        Some(())
+    }
+
+    /// Posts an update as [`try_post`](Polled::try_post) does, but goes by four takes as [`Session::update`](crate::Session::update): in the same hold of
+    /// the desk it claims the requests of its node, if nobody combines. [`try_complete`](Polled::try_complete) goes on with it.
+    ///
+    /// # Errors
+    ///
+    /// As with [`try_post`](Polled::try_post).
+    pub fn try_update(
+        &mut self,
+        store: &Store,
+        program: u16,
+        argument: &[u8],
+    ) -> Result<Option<()>, StoreRefused>
+        requires own { IsOf store.now self.old }
+        requires idle { self.old.note.pending ≡ None }
+        ensures own { IsOf store.now self.new }
+        ensures same { (self.new.shelf ≡ self.old.shelf) × (self.new.session ≡ self.old.session) }
+        ensures grown { Extends self.old.progress self.new.progress }
+        ensures well_formed { IsWellFormed store_meaning self.new.progress }
+        ensures early { (r : StoreRefused) → early_refusal store.now.catalogue Update program argument.now ≡ Some r → (result ≡ Err r)
+            × (self.new ≡ self.old) }
+        ensures asked { early_refusal store.now.catalogue Update program argument.now ≡ None
+            → TellsAsked self.old self.new (op_of program argument.now) result }
+        ensures goes { early_refusal store.now.catalogue Update program argument.now ≡ None
+            → BeginGoes self.old self.new (op_of program argument.now) result }
+    {
+        let _seat = &self.seat;
+        check_call(store.catalogue(), Mode::Update, program, argument)?;
+        let call = Call::new(program, argument);
+        let Some(()) = self.begin(store, &Op::Run(call)) else {
+            return Ok(None);
+        };
+        Ok(Some(()))
+    }
+}

@@ -1,0 +1,141 @@
+// The install of a program that may name some of the store's maps alone.
+
+ghost use Rattle.std.specs.Prelude.{◌≡◌, ◌<◌, ◌≤◌, None, Some, Err, IfOk, length};
+ghost use Rattle.accounts.specs.Accounts.{Extends, IsWellFormed};
+ghost use Rattle.maps.specs.declared.shapes.TheConstants.{MAX_ARG_LEN};
+ghost use Rattle.oplog.specs.declared.records.TheConstants.{MAX_INSTALLED_BYTES};
+ghost use Rattle.replica.specs.StoreMeaning.{store_meaning};
+ghost use Rattle.replica.specs.Refusals.{IsRefusedAs, IsRoomFor};
+ghost use Rattle.replica.specs.declared.refusals.StoreRefused.{StoreRefused};
+ghost use Rattle.store.specs.Going.{PostGoes, UpdateGoes};
+ghost use Rattle.store.specs.Polled.{TellsPost};
+ghost use Rattle.store.specs.Sessions.{IsOf, TellsUpdate};
+ghost use Rattle.store.specs.Within.{install_within, outside_refusal, program_within, refused_as, within_refusal, within_refused};
+
+use crate::answers::Answer;
+use crate::asked::Asked;
+use crate::polled::Polled;
+use crate::session::Session;
+use crate::store::Store;
+use loader::{InstallRefusal, Installed};
+use maps::MAX_ARG_LEN;
+use named_maps::first_outside;
+use oplog::{MAX_INSTALLED_BYTES, NewProgram, Op};
+use replica::StoreRefused;
+use std::sync::Wait;
+use verifier::{Accepted, Mode, Refused, VerifyFault};
+
+/// A program that is to be installed, and the maps that it may name.
+#[derive(Clone, Copy)]
+pub struct Confined<'a> {
+    /// The maps that it may name: bit m stands for map m. Bits of maps that the store hasn't got say nothing.
+    pub maps: u16,
+    /// Which helpers it may call.
+    pub mode: Mode,
+    /// The length of its argument in bytes, at most 64.
+    pub arg_len: usize,
+    /// Its instructions, at most 192 bytes.
+    pub bytes: &'a [u8],
+}
+
+// The store's refusal for bytes that are no program, or none that is safe.
+fn refused_as(refusal: InstallRefusal) -> StoreRefused
+    ensures refused { result ≡ refused_as refusal }
+{
+    match refusal {
+        InstallRefusal::Decode(refusal) => StoreRefused::NotDecoded(refusal),
+        InstallRefusal::Verify(refusal) => StoreRefused::NotAccepted(refusal),
+    }
+}
+
+// S8 where the program names a map outside of these: V16, at the first slot that does.
+fn check_maps(program: &Accepted, maps: u16) -> Result<(), StoreRefused>
+    ensures refusal { IsRefusedAs (outside_refusal maps program.now.program) result }
+{
+    match first_outside(program, maps) {
+        None => Ok(()),
+        Some(slot) => Err(StoreRefused::NotAccepted(Refused {
+            slot: slot as u32,
+            why: VerifyFault::UnknownHelperOrMap,
+        })),
+    }
+}
+
+// Whether a program may be installed: as [`check_install`](replica::check_install) has it, and then whether it names no other maps than it may.
+fn check_within(room: &mut Installed, wanted: Confined<'_>) -> Result<(), StoreRefused>
+    requires room { 0 < room.old.places }
+    ensures few { IfOk result (λ _. (length wanted.entry.bytes.now ≤ MAX_INSTALLED_BYTES) × (wanted.entry.arg_len ≤ MAX_ARG_LEN)) }
+    ensures room { IsRoomFor room.old.shapes room.new }
+    ensures refusal { IsRefusedAs (within_refusal room.old.shapes wanted.entry.maps (program_within wanted.entry)) result }
+{
+    if wanted.bytes.len() > MAX_INSTALLED_BYTES || wanted.arg_len > MAX_ARG_LEN {
+        return Err(StoreRefused::TooLarge);
+    }
+    room.clear();
+    if let Err(refusal) = room.install(wanted.mode, wanted.arg_len, wanted.bytes) {
+        return Err(refused_as(refusal));
+    }
+    match room.program(0) {
+        Some(program) => check_maps(program, wanted.maps),
+        None => unreachable!(),
+    }
+}
+
+impl Session {
+    /// Installs a program, as [`install`](Session::install) has it, that names no other maps than it may. So who lets others install programs says
+    /// which maps each may read and change.
+    ///
+    /// # Errors
+    ///
+    /// S6, S7 and S8 as with `install`. Then S8 with V16 where the program names a map that it may not, at the first slot that does. Nothing is
+    /// done then. S4: the history has all its records, and this request has none. The session goes on after each.
+    pub fn install_within<R: Wait>(
+        &mut self,
+        rt: &R,
+        store: &Store,
+        wanted: Confined<'_>,
+    ) -> Result<Answer, StoreRefused>
+        requires own { IsOf store.now self.old }
+        ensures early { (r : StoreRefused) → within_refused store.now wanted.entry ≡ Some r → (result ≡ Err r) × (self.new ≡ self.old) }
+        ensures own { IsOf store.now self.new }
+        ensures same { (self.new.shelf ≡ self.old.shelf) × (self.new.session ≡ self.old.session) }
+        ensures grown { Extends self.old.progress self.new.progress }
+        ensures well_formed { IsWellFormed store_meaning self.new.progress }
+        ensures answered { within_refused store.now wanted.entry ≡ None → TellsUpdate self.old self.new (install_within wanted.entry) result }
+        ensures goes { within_refused store.now wanted.entry ≡ None → UpdateGoes self.old self.new (install_within wanted.entry) result }
+    {
+        check_within(&mut self.room, wanted)?;
+        let program = NewProgram::new(wanted.mode, wanted.arg_len, wanted.bytes);
+        self.perform(rt, store, Asked::New(&program))
+    }
+}
+
+impl Polled {
+    /// Posts the install of a program, as [`Session::install_within`] has it, if nobody holds the desk of its node; it is an update like others.
+    ///
+    /// # Errors
+    ///
+    /// S6, S7 or S8 as with [`Session::install_within`]: nothing is done then.
+    pub fn try_install_within(
+        &mut self,
+        store: &Store,
+        asked: Confined<'_>,
+    ) -> Result<Option<()>, StoreRefused>
+        requires own { IsOf store.now self.old }
+        requires idle { self.old.note.pending ≡ None }
+        ensures early { (r : StoreRefused) → within_refused store.now asked.entry ≡ Some r → (result ≡ Err r) × (self.new ≡ self.old) }
+        ensures own { IsOf store.now self.new }
+        ensures same { (self.new.shelf ≡ self.old.shelf) × (self.new.session ≡ self.old.session) }
+        ensures grown { Extends self.old.progress self.new.progress }
+        ensures well_formed { IsWellFormed store_meaning self.new.progress }
+        ensures posted { within_refused store.now asked.entry ≡ None → TellsPost self.old self.new (install_within asked.entry) result }
+        ensures goes { within_refused store.now asked.entry ≡ None → PostGoes self.old self.new (install_within asked.entry) result }
+    {
+        check_within(&mut self.room, asked)?;
+        let program = NewProgram::new(asked.mode, asked.arg_len, asked.bytes);
+        let Some(()) = self.post(store, &Op::Install(program)) else {
+            return Ok(None);
+        };
+        Ok(Some(()))
+    }
+}

@@ -1,0 +1,3 @@
+-- The lemmas that other crates may cite.
+pub use Rattle.store_laws.proofs.CallsMade.{calls_are_explained}
+pub use Rattle.store_laws.proofs.RunEvents.{answers_are_in_run, runs_are_explained}

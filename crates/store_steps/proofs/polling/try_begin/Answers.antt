@@ -1,0 +1,52 @@
+use Rattle.std.proofs.Common.{suc, ◌<◌, ◌^◌, length, subst}
+use Rattle.ownlock.proofs.Export.{one_known}
+use Rattle.store_steps.specs.AtOnce.{FoundNoAnswer}
+use Rattle.store_steps.specs.Requests.{HasTurned}
+use Rattle.store_steps.specs.declared.desks.Turn.TheVariants.{Combines, Waits}
+use Rattle.store_steps.specs.Standing.{SessionKnown}
+use Rattle.store_steps.specs.Updating.{ClaimsIt, Looks, TurnsBy}
+use Rattle.store_steps.proofs.Gone.{on_known}
+use Rattle.store_steps.proofs.Begun.{begun_combining, begun_waiting, one_deed}
+use Rattle.store_steps.proofs.Taken.{known_as}
+use Rattle.store_steps.proofs.polling.try_begin.Goals as goal
+
+pub try_post_and_turn-requires-clause-idle : goal.try_post_and_turn-requires-clause-idle
+try_post_and_turn-requires-clause-idle c =
+    let i = c.requires.idle in
+    let few = known_as c.args.seat.now (λ (k : SessionKnown). suc (length k.note.answered) < 2 ^ 64) c.requires.few i.known i.is in
+    (i.known, i.is, i.free, record { pending = i.pending; alone = i.batch; few = few }, on_known c.args.here.shared c.args.seat.now i.known i.is c.requires.on)
+
+pub unreachable-requires : goal.unreachable-requires
+unreachable-requires c = subst FoundNoAnswer c.in-Some-Collects.field-0-is c.in-Some-Collects.ensures.fresh
+
+pub returns-in-Some-Waits-clause-begun : goal.returns-in-Some-Waits-clause-begun
+returns-in-Some-Waits-clause-begun c kept =
+    let i = c.requires.idle in
+    let few = known_as c.args.seat.now (λ (k : SessionKnown). suc (length k.note.answered) < 2 ^ 64) c.requires.few i.known i.is in
+    let p = c.in-Some-Waits.ensures.turned i.known i.is in
+    let b = c.try_post_and_turn.new.batch in
+    let h = subst (λ z. HasTurned p.asked p.after p.posted.request b z) c.in-Some-Waits.field-0-is p.turned in
+    begun_waiting c.args.seat.now c.try_post_and_turn.new.seat c.args.here.caller i few p.asked p.after c.args.op.now p.posted p.is b kept h
+
+pub returns-in-Some-Combines-clause-begun : goal.returns-in-Some-Combines-clause-begun
+returns-in-Some-Combines-clause-begun c kept =
+    let i = c.requires.idle in
+    let few = known_as c.args.seat.now (λ (k : SessionKnown). suc (length k.note.answered) < 2 ^ 64) c.requires.few i.known i.is in
+    let p = c.in-Some-Combines.ensures.turned i.known i.is in
+    let b = c.try_post_and_turn.new.batch in
+    let h = subst (λ z. HasTurned p.asked p.after p.posted.request b z) c.in-Some-Combines.field-0-is p.turned in
+    begun_combining c.args.seat.now c.try_post_and_turn.new.seat c.args.here.caller i few p.asked p.after c.args.op.now p.posted p.is b kept h
+
+pub returns-in-Some-Waits-clause-goes : goal.returns-in-Some-Waits-clause-goes
+returns-in-Some-Waits-clause-goes c k after is now =
+    let p = c.in-Some-Waits.ensures.turned k is in
+    let b = c.try_post_and_turn.new.batch in
+    let t = subst (λ z. TurnsBy p.asked p.after b z) c.in-Some-Waits.field-0-is p.turns in
+    (p.asked, p.posts, one_deed p.asked after (Looks b (subst (λ z. TurnsBy p.asked z b Waits) (one_known c.try_post_and_turn.new.seat p.after after p.is now) t)))
+
+pub returns-in-Some-Combines-clause-goes : goal.returns-in-Some-Combines-clause-goes
+returns-in-Some-Combines-clause-goes c k after is now =
+    let p = c.in-Some-Combines.ensures.turned k is in
+    let b = c.try_post_and_turn.new.batch in
+    let t = subst (λ z. TurnsBy p.asked p.after b z) c.in-Some-Combines.field-0-is p.turns in
+    (p.asked, p.posts, one_deed p.asked after (ClaimsIt b (subst (λ z. TurnsBy p.asked z b Combines) (one_known c.try_post_and_turn.new.seat p.after after p.is now) t)))

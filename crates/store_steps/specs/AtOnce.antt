@@ -1,0 +1,75 @@
+-- A post and the turn after it in one hold of the desk.
+use Rattle.std.specs.Prelude.{◌≡◌, ℕ, suc, ◌<◌, ◌^◌, [], length, None, Some}
+use Rattle.ownlock.specs.Seats.{IsSession}
+use Rattle.oplog.specs.Operations.{Operation}
+use Rattle.combiner.specs.Desks.{BatchView}
+use Rattle.combiner.specs.declared.slots.Reply.{Reply}
+use Rattle.store_steps.specs.declared.desks.Turn.{Turn}
+use Rattle.store_steps.specs.declared.desks.Turn.TheVariants.{Collects, Combines, Waits}
+use Rattle.store_steps.specs.declared.steps.Caller.{Caller}
+use Rattle.store_steps.specs.declared.steps.Shared.{Shared}
+use Rattle.accounts.specs.declared.sessions.Pending.{Pending}
+use Rattle.replica.specs.Views.{RepliesView}
+use Rattle.store_steps.specs.AtDesk.{IsReady}
+use Rattle.store_steps.specs.Combining.{HasCombined}
+use Rattle.store_steps.specs.Whole.{HandsOver}
+use Rattle.store_steps.specs.Knowing.{IsOn, Knows}
+use Rattle.store_steps.specs.Requests.{HasCompleted, HasPosted, HasTurned}
+use Rattle.store_steps.specs.Standing.{SessionKnown, StoreSeat, IsFree, Stands}
+use Rattle.store_steps.specs.Updating.{PostsBy, TurnsBy}
+
+-- the session waits for no answer, combines for nobody, and has had fewer answers than a word can count
+pub record IsAlone (k : SessionKnown) : Type 0 where
+  pub pending : k.note.pending ≡ None
+  pub alone : k.note.batch ≡ []
+  pub few : suc (length k.note.answered) < 2 ^ 64
+
+-- the seat is one session of this store, that of the caller's slot, which holds nothing, and may ask
+abbrev pub MayAsk : StoreSeat → Caller → Shared → Type 0
+MayAsk s caller shared = (k : SessionKnown) × IsSession s k × IsFree caller k × IsAlone k × IsOn shared k
+
+-- its session has posted the operation, and had a turn then, as if it had put the desk back and taken it again between
+pub record PostsAndTurns (old new : StoreSeat) (k : SessionKnown) (op : Operation) (batch : BatchView) (turn : Turn) : Type 0 where
+  pub asked : SessionKnown
+  pub posted : HasPosted k asked op
+  pub posts : PostsBy k asked op
+  pub after : SessionKnown
+  pub is : IsSession new after
+  pub turned : HasTurned asked after posted.request batch turn
+  pub turns : TurnsBy asked after batch turn
+
+-- it found no answer
+abbrev pub FoundNoAnswer : Turn → Type 0
+FoundNoAnswer (Collects reply) = ⊥
+FoundNoAnswer Combines = Unit {0}
+FoundNoAnswer Waits = Unit {0}
+
+-- the session waits for this answer, and has had fewer answers than a word can count
+abbrev pub StillWaits : SessionKnown → Pending → Type 0
+StillWaits k o = (k.note.pending ≡ Some o) × (suc (length k.note.answered) < 2 ^ 64)
+
+-- the seat is one session of this store, that of the caller's slot, which holds nothing, has what the programs of its batch answer, and waits still
+abbrev pub MayHandOver : StoreSeat → Caller → Shared → BatchView → RepliesView → Type 0
+MayHandOver s caller shared batch kept = Knows s (λ k. IsFree caller k × IsReady k batch kept × IsOn shared k × Stands k × ((o : Pending) × StillWaits k o))
+
+-- its session has handed over the answers of its batch, and had a turn then, as if it had put the desk back and taken it again between
+pub record GivesAndTurns (node : ℕ) (new : StoreSeat) (k : SessionKnown) (o : Pending) (given : BatchView) (kept : RepliesView) (batch : BatchView) (turn : Turn) : Type 0 where
+  pub combined : SessionKnown
+  pub has : HasCombined k combined
+  pub gives : HandsOver node k combined given kept
+  pub after : SessionKnown
+  pub is : IsSession new after
+  pub turned : HasTurned combined after o batch turn
+  pub turns : TurnsBy combined after batch turn
+
+-- so it has, whichever request it waits for
+abbrev pub SessionGives : (node : ℕ) (old new : StoreSeat) → (given : BatchView) → (kept : RepliesView) → BatchView → Turn → Type 0
+SessionGives node old new given kept batch turn = (k : SessionKnown) (o : Pending) → IsSession old k → StillWaits k o → GivesAndTurns node new k o given kept batch turn
+
+-- it has posted the operation, and has its answer
+pub record AsksAtOnce (new : StoreSeat) (k : SessionKnown) (op : Operation) (reply : Reply) : Type 0 where
+  pub asked : SessionKnown
+  pub posted : HasPosted k asked op
+  pub after : SessionKnown
+  pub is : IsSession new after
+  pub completed : HasCompleted asked after posted.request reply

@@ -1,0 +1,39 @@
+-- An update by four takes whose session waits for nobody: what its post and claim leave, and of which deeds its calls are.
+use Rattle.std.specs.Prelude.{◌≡◌, ◌≤◌, [], length, Some}
+use Rattle.oplog.specs.Operations.{Operation}
+use Rattle.combiner.specs.Desks.{BatchView}
+use Rattle.replica.specs.StoreMeaning.{store_meaning}
+use Rattle.replica.specs.Views.{RepliesView}
+use Rattle.accounts.specs.declared.sessions.Pending.{Pending}
+use Rattle.accounts.specs.Accounts.{Extends, IsWellFormed}
+use Rattle.store_steps.specs.declared.deeds.Deed.{Deed}
+use Rattle.store_steps.specs.declared.deeds.Deed.TheVariants.{Busy, Went, Collected}
+use Rattle.store_steps.specs.declared.deeds.Stage.{Stage}
+use Rattle.store_steps.specs.declared.steps.Caller.{Caller}
+use Rattle.store_steps.specs.Stages.{IsPolled}
+use Rattle.store_steps.specs.Standing.{SessionKnown, StoreSeat}
+use Rattle.store_steps.specs.Updating.{CollectsBy, Deeds, PostsBy}
+use Rattle.store_steps.specs.Views.{SessionView, session_view}
+
+-- it waits for the answer to this operation, which it posted when the history was no shorter than it had known; it may have claimed a batch since
+abbrev pub HasAskedFor : (old new : SessionView) → Operation → Type 0
+HasAskedFor old new op =
+    (o : Pending) × (o.op ≡ op) × (length old.progress.history ≤ o.seen) × (record new.note { batch = [] } ≡ record old.note { pending = Some o; batch = [] })
+
+-- what the post of an idle session leaves, and what may stand between its calls then
+pub record HasBegun (old new : StoreSeat) (caller : Caller) (op : Operation) (b : BatchView) (kept : RepliesView) (stage : Stage) : Type 0 where
+  pub asked : HasAskedFor (session_view old) (session_view new) op
+  pub session : (session_view new).session ≡ (session_view old).session
+  pub extends : Extends (session_view old).progress (session_view new).progress
+  pub well_formed : IsWellFormed store_meaning (session_view new).progress
+  pub polled : IsPolled new caller b kept stage
+
+-- it posted this operation, and then did so many deeds
+abbrev pub BeginsBy : SessionKnown → SessionKnown → Operation → Type 0
+BeginsBy k after op = (m : SessionKnown) × PostsBy k m op × Deeds m after
+
+-- so many deeds in one call; where it has its answer, that was collected last
+abbrev pub DeedsGo : SessionKnown → SessionKnown → Deed → Type 0
+DeedsGo k after Busy = Deeds k after
+DeedsGo k after Went = Deeds k after
+DeedsGo k after (Collected reply) = (m : SessionKnown) × Deeds k m × CollectsBy m after reply

@@ -1,0 +1,175 @@
+// A post and a turn in one hold of the desk.
+
+ghost use Rattle.std.specs.Prelude.{◌≡◌, true, IfNone, IfSome};
+ghost use Rattle.ownlock.specs.Seats.{IsSession};
+ghost use Rattle.verifier.specs.declared.refusal.Mode.TheVariants.{Update};
+ghost use Rattle.replica.specs.StoreMeaning.{is_operation};
+ghost use Rattle.store_steps.specs.AtOnce.{AsksAtOnce, FoundNoAnswer, MayAsk, MayHandOver, PostsAndTurns, SessionGives};
+ghost use Rattle.store_steps.specs.Knowing.{Relates};
+ghost use Rattle.store_steps.specs.Standing.{SessionKnown};
+ghost use Rattle.store_steps.specs.Updating.{UpdatesBy};
+
+use crate::batches::Room;
+use crate::combining::append_and_replay;
+use crate::desks;
+use crate::desks::Turn;
+use crate::requests::{turn, watch};
+use crate::steps::Here;
+use crate::values::Value;
+use combiner::{Batch, Reply};
+use oplog::Op;
+use ownlock::Seat;
+use replica::Replies;
+use std::marker::Brand;
+use std::sync::Wait;
+
+/// Posts an operation at the desk of the caller's node, and has a turn there in the same hold: it claims the posted requests into the batch, where nobody
+/// combines. Where another session holds the desk it answers `None`, and nothing has changed.
+#[inline(always)]
+pub fn try_post_and_turn(
+    here: Here<'_>,
+    seat: &mut Seat<Value>,
+    op: &Op,
+    batch: &mut Batch,
+) -> Option<Turn>
+    requires own { seat.old.shelf ≡ here.shared.shelf.now.id }
+    requires idle { MayAsk seat.old here.caller here.shared }
+    requires update { is_operation Update here.shared.catalogue.now op.now ≡ true }
+    ensures same { seat.new.shelf ≡ seat.old.shelf }
+    ensures stays { IfNone result ((seat.new ≡ seat.old) × (batch.new ≡ batch.old)) }
+    ensures turned { IfSome result (λ turn. (k : SessionKnown) → IsSession seat.old k → PostsAndTurns seat.old seat.new k op.now batch.new turn) }
+    ensures fresh { IfSome result FoundNoAnswer }
+{
+    let Some(mut held) = here
+        .shared
+        .shelf
+        .try_take(seat, 1 + here.shared.nodes + here.caller.node)
+    else {
+        return None;
+    };
+    desks::post(held.value.desk_mut(), here.caller.slot, op);
+    let mut again = here.shared.shelf.settle::<Brand>(seat, held);
+    let turn = desks::look(again.value.desk_mut(), here.caller.slot, batch);
+    here.shared.shelf.put::<Brand>(seat, again);
+    Some(turn)
+}
+
+/// Answers the requests of the batch at the desk of the caller's node, by the outcomes that were kept of it, and has a turn there in the same hold: it
+/// collects its own answer. Where another session holds the desk it answers `None`, and nothing has changed.
+#[inline(always)]
+pub fn try_hand_over_and_turn(
+    here: Here<'_>,
+    seat: &mut Seat<Value>,
+    batch: &mut Batch,
+    replies: &Replies,
+) -> Option<Turn>
+    requires own { seat.old.shelf ≡ here.shared.shelf.now.id }
+    requires ready { MayHandOver seat.old here.caller here.shared batch.old replies.now }
+    ensures same { seat.new.shelf ≡ seat.old.shelf }
+    ensures stays { IfNone result ((seat.new ≡ seat.old) × (batch.new ≡ batch.old)) }
+    ensures turned { IfSome result (SessionGives here.entry.caller.node seat.old seat.new batch.old replies.now batch.new) }
+{
+    let Some(mut held) = here
+        .shared
+        .shelf
+        .try_take(seat, 1 + here.shared.nodes + here.caller.node)
+    else {
+        return None;
+    };
+    desks::reply(held.value.desk_mut(), batch, replies);
+    let mut again = here.shared.shelf.settle::<Brand>(seat, held);
+    let turn = desks::look(again.value.desk_mut(), here.caller.slot, batch);
+    here.shared.shelf.put::<Brand>(seat, again);
+    Some(turn)
+}
+
+// The same as the first, but it waits while another session holds the desk.
+#[inline(always)]
+fn post_and_turn<R: Wait>(
+    rt: &R,
+    here: Here<'_>,
+    seat: &mut Seat<Value>,
+    op: &Op,
+    batch: &mut Batch,
+) -> Turn
+    requires own { seat.old.shelf ≡ here.shared.shelf.now.id }
+    requires idle { MayAsk seat.old here.caller here.shared }
+    requires update { is_operation Update here.shared.catalogue.now op.now ≡ true }
+    ensures same { seat.new.shelf ≡ seat.old.shelf }
+    ensures turned { (k : SessionKnown) → IsSession seat.old k → PostsAndTurns seat.old seat.new k op.now batch.new result }
+{
+    if let Some(turn) = try_post_and_turn(here, seat, op, batch) {
+        return turn;
+    }
+    for _ in rt.forever() {
+        here.shared
+            .shelf
+            .wait(rt, seat, 1 + here.shared.nodes + here.caller.node);
+        if let Some(turn) = try_post_and_turn(here, seat, op, batch) {
+            return turn;
+        }
+    }
+    unreachable!()
+}
+
+// The same as the second, but it waits while another session holds the desk.
+#[inline(always)]
+fn hand_over_and_turn<R: Wait>(
+    rt: &R,
+    here: Here<'_>,
+    seat: &mut Seat<Value>,
+    batch: &mut Batch,
+    replies: &Replies,
+) -> Turn
+    requires own { seat.old.shelf ≡ here.shared.shelf.now.id }
+    requires ready { MayHandOver seat.old here.caller here.shared batch.old replies.now }
+    ensures same { seat.new.shelf ≡ seat.old.shelf }
+    ensures turned { SessionGives here.entry.caller.node seat.old seat.new batch.old replies.now batch.new result }
+{
+    if let Some(turn) = try_hand_over_and_turn(here, seat, batch, replies) {
+        return turn;
+    }
+    for _ in rt.forever() {
+        here.shared
+            .shelf
+            .wait(rt, seat, 1 + here.shared.nodes + here.caller.node);
+        if let Some(turn) = try_hand_over_and_turn(here, seat, batch, replies) {
+            return turn;
+        }
+    }
+    unreachable!()
+}
+
+/// A whole update with as few takes as who uses a desk can have: it posts and claims in one hold of the desk, and answers its batch and collects its own
+/// answer in another. Where another session combines it waits as [`complete`](crate::complete) does.
+pub fn ask_at_once<R: Wait>(
+    rt: &R,
+    here: Here<'_>,
+    seat: &mut Seat<Value>,
+    op: &Op,
+    room: &mut Room,
+) -> Reply
+    requires own { seat.old.shelf ≡ here.shared.shelf.now.id }
+    requires idle { MayAsk seat.old here.caller here.shared }
+    requires update { is_operation Update here.shared.catalogue.now op.now ≡ true }
+    ensures same { seat.new.shelf ≡ seat.old.shelf }
+    ensures asked { (k : SessionKnown) → IsSession seat.old k → AsksAtOnce seat.new k op.now result }
+    ensures goes { Relates seat.old seat.new (λ k after. UpdatesBy k after op.now result) }
+{
+    let mut at = post_and_turn(rt, here, seat, op, &mut room.batch);
+    for _ in rt.forever() {
+        match at {
+            Turn::Collects(reply) => return reply,
+            Turn::Combines => {
+                append_and_replay(rt, here, seat, &room.batch, &mut room.replies);
+                room.count();
+                at = hand_over_and_turn(rt, here, seat, &mut room.batch, &room.replies);
+            }
+            Turn::Waits => {
+                watch(here.shared.shelf, 1 + here.caller.node);
+                at = turn(rt, here, seat, &mut room.batch);
+            }
+        }
+    }
+    unreachable!()
+}
