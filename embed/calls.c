@@ -63,7 +63,7 @@ static nrbpf_status go_on(struct place *place, nrbpf_answer *out, nrbpf_error *w
     nrbpf_raw_call(raw);
     place->is_posted = raw->status == NRBPF_POSTED;
     if (raw->status == NRBPF_OK) {
-        out->point = raw->place;
+        out->point = raw->point;
         out->reply = raw->reply;
         return NRBPF_OK;
     }
@@ -122,9 +122,9 @@ nrbpf_status nrbpf_read(nrbpf_session *session, uint16_t program, const void *ar
     return status;
 }
 
-nrbpf_status nrbpf_try_install(nrbpf_session *session, uint32_t mode, uint32_t argument_len, const void *bytes, size_t len, nrbpf_answer *out,
-                               nrbpf_error *why) {
-    if (!session || (!bytes && len > 0) || !out) {
+// Installs a program, NRBPF_RAW_INSTALL or NRBPF_RAW_INSTALL_WITHIN.
+static nrbpf_status install(nrbpf_session *session, uint64_t call, const nrbpf_confined *program, nrbpf_answer *out, nrbpf_error *why) {
+    if (!session || !program || (!program->bytes && program->len > 0) || !out) {
         return refused(why, NRBPF_H7);
     }
     struct place *const place = place_of(session);
@@ -132,19 +132,38 @@ nrbpf_status nrbpf_try_install(nrbpf_session *session, uint32_t mode, uint32_t a
     if (status != NRBPF_OK) {
         return refused(why, status);
     }
-    if (len > sizeof place->raw.bytes) {
-        return refused(why, mode > NRBPF_MODE_READ ? NRBPF_H5 : NRBPF_S6);
+    if (program->len > sizeof place->raw.bytes) {
+        return refused(why, program->mode > NRBPF_MODE_READ ? NRBPF_H5 : NRBPF_S6);
     }
-    place->raw.call = NRBPF_RAW_INSTALL;
-    place->raw.mode = mode;
-    place->raw.argument = argument_len;
-    put_bytes(&place->raw, bytes, len);
+    place->raw.call = call;
+    place->raw.program = program->maps;
+    place->raw.mode = program->mode;
+    place->raw.argument = program->argument_len;
+    put_bytes(&place->raw, program->bytes, program->len);
     return go_on(place, out, why);
+}
+
+nrbpf_status nrbpf_try_install(nrbpf_session *session, uint32_t mode, uint32_t argument_len, const void *bytes, size_t len, nrbpf_answer *out,
+                               nrbpf_error *why) {
+    const nrbpf_confined program = {0, mode, argument_len, bytes, len};
+    return install(session, NRBPF_RAW_INSTALL, &program, out, why);
 }
 
 nrbpf_status nrbpf_install(nrbpf_session *session, uint32_t mode, uint32_t argument_len, const void *bytes, size_t len, nrbpf_answer *out,
                            nrbpf_error *why) {
     const nrbpf_status status = nrbpf_try_install(session, mode, argument_len, bytes, len, out, why);
+    if (status == NRBPF_BUSY || status == NRBPF_POSTED) {
+        return wait_for(place_of(session), out, why);
+    }
+    return status;
+}
+
+nrbpf_status nrbpf_try_install_within(nrbpf_session *session, const nrbpf_confined *program, nrbpf_answer *out, nrbpf_error *why) {
+    return install(session, NRBPF_RAW_INSTALL_WITHIN, program, out, why);
+}
+
+nrbpf_status nrbpf_install_within(nrbpf_session *session, const nrbpf_confined *program, nrbpf_answer *out, nrbpf_error *why) {
+    const nrbpf_status status = nrbpf_try_install_within(session, program, out, why);
     if (status == NRBPF_BUSY || status == NRBPF_POSTED) {
         return wait_for(place_of(session), out, why);
     }
@@ -187,7 +206,7 @@ nrbpf_status nrbpf_try_get(nrbpf_session *session, uint32_t map, const void *key
     nrbpf_raw_get(&place->raw, map, own_key, own_len, to, value_len);
     status = told(&place->raw, NULL);
     if (status == NRBPF_OK) {
-        out->point = place->raw.place;
+        out->point = place->raw.point;
         out->is_there = (uint32_t)place->raw.count;
     }
     return status;
@@ -221,7 +240,7 @@ nrbpf_status nrbpf_try_scan(nrbpf_session *session, uint32_t map, uint32_t from,
     nrbpf_raw_scan(&place->raw, map, from, keys_at, keys_room, values_at, values_room);
     status = told(raw, NULL);
     if (status == NRBPF_OK) {
-        out->point = raw->place;
+        out->point = raw->point;
         out->count = (uint32_t)raw->count;
         out->next = raw->next == NRBPF_RAW_END ? NRBPF_END : (uint32_t)raw->next;
     }
@@ -276,7 +295,7 @@ nrbpf_status nrbpf_try_read_each(nrbpf_session *session, const nrbpf_question *q
     nrbpf_raw_read_each(&place->raw, asked, count, own_replies, count);
     status = told(&place->raw, why);
     if (status == NRBPF_OK) {
-        *point = place->raw.place;
+        *point = place->raw.point;
         for (size_t i = 0; i < count; i++) {
             replies[i] = own_replies[i];
         }
@@ -308,7 +327,7 @@ nrbpf_status nrbpf_try_snapshot(nrbpf_session *session, nrbpf_state *into, uint6
     nrbpf_raw_snapshot(&place->raw, raw_state_of(into));
     status = told(&place->raw, NULL);
     if (status == NRBPF_OK) {
-        *point = place->raw.place;
+        *point = place->raw.point;
     }
     return status;
 }

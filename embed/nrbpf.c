@@ -2,6 +2,7 @@
 // and to the memory in which handles lie. What a store does is decided below it.
 #include "handles.h"
 #include <assert.h>
+#include <stddef.h>
 #include <stdlib.h>
 #include <string.h>
 
@@ -13,12 +14,17 @@ uint32_t nrbpf_version(void) {
     return NRBPF_VERSION;
 }
 
+// The bytes of a configuration of a host with a header of this version: before 2001 it ends at its limits of maps.
+static size_t size_of_config(uint32_t version) {
+    return version < 2001 ? offsetof(nrbpf_config, limits) : sizeof(nrbpf_config);
+}
+
 nrbpf_status nrbpf_config_init(nrbpf_config *config, uint32_t version, uint32_t nodes, uint32_t slots) {
     const nrbpf_config made = NRBPF_CONFIG(nodes, slots);
     if (!config) {
         return NRBPF_H7;
     }
-    *config = made;
+    memcpy(config, &made, size_of_config(version));
     config->version = version;
     return NRBPF_OK;
 }
@@ -88,6 +94,26 @@ static struct nrbpf_raw_bytes bytes_of(const char *text, size_t len) {
     return bytes;
 }
 
+// A number of limits, or the standard one where it is 0; of more than 32 bits, one that is refused.
+static uint32_t number_or(uint64_t number, uint32_t standard) {
+    if (number > UINT32_MAX) {
+        return UINT32_MAX;
+    }
+    return number ? (uint32_t)number : standard;
+}
+
+// How large the maps may be.
+static struct nrbpf_raw_limits limits_of(const nrbpf_config *config) {
+    const nrbpf_limits standard = NRBPF_STANDARD;
+    const nrbpf_limits given = config->version < 2001 ? standard : config->limits;
+    struct nrbpf_raw_limits limits;
+    limits.key = number_or(given.key, standard.key);
+    limits.value = number_or(given.value, standard.value);
+    limits.entries = number_or(given.entries, (uint32_t)standard.entries);
+    limits.bytes = given.bytes ? given.bytes : standard.bytes;
+    return limits;
+}
+
 // Whether the texts can be opened or loaded: H7, H8, O2. Then the opening is written, and its files are to be freed.
 static nrbpf_status prepared(const struct texts *given, struct nrbpf_raw_opening *opening) {
     if (has_null(given)) {
@@ -115,6 +141,7 @@ static nrbpf_status prepared(const struct texts *given, struct nrbpf_raw_opening
     opening->window = given->config->window;
     opening->limit = given->config->limit;
     opening->spare = given->config->spare;
+    opening->limits = limits_of(given->config);
     return NRBPF_OK;
 }
 

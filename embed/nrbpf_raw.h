@@ -13,7 +13,7 @@
  * after the function has returned.
  *
  * A status is 0, NRBPF_RAW_BUSY, NRBPF_RAW_AGAIN, or a refusal: its letter times 256 and its number, those of docs/REFUSALS.md or of the letter H.
- * With any status but 0 the words place, reply, count, next, number and length are as they were, and so are the bytes, replies and states that a call
+ * With any status but 0 the words point, reply, count, next, number and length are as they were, and so are the bytes, replies and states that a call
  * is to fill.
  */
 #ifndef NRBPF_RAW_H
@@ -34,7 +34,7 @@ enum {
     NRBPF_RAW_H2,           /* the handle is not open: the opening was refused, or the session was not given; or the state's handle has none */
     NRBPF_RAW_H3,           /* a read of any kind, a snapshot, or a detach, while an update is out */
     NRBPF_RAW_H4,           /* a text is not UTF-8: the manifest, a file, its name, the name of a program, or the text of a state */
-    NRBPF_RAW_H5,           /* a word is none of a call: `call` above 2, `mode` above 1, `length` above 192; read_each: more than 16 questions, or another
+    NRBPF_RAW_H5,           /* a word is none of a call: `call` above 3, `mode` above 1, `length` above 192; read_each: more than 16 questions, or another
                              * number of replies */
     NRBPF_RAW_H6,           /* detach: the session's place is not empty here; close_into: a part of the store is elsewhere, and it is ended */
     NRBPF_RAW_H9 = 'H' << 8 | 9 /* snapshot: the state has other maps, or another number of places for programs, than the store */
@@ -47,10 +47,15 @@ struct nrbpf_raw_bytes { const uint8_t *at; size_t length; };
 /* A program file of the manifest: the name that stands there, and its text, hexadecimal digits. */
 struct nrbpf_raw_file { struct nrbpf_raw_bytes name, text; };
 
+/* How large the maps of a manifest may be: the most bytes of a key and of a value, entries of a map, and bytes of all maps. O1 where one is above the
+ * widest. */
+struct nrbpf_raw_limits { uint32_t key, value, entries; uint64_t bytes; };
+
 struct nrbpf_raw_opening {
     struct nrbpf_raw_bytes manifest;
     const struct nrbpf_raw_file *files; size_t count;
     uint32_t nodes, slots, window, limit, spare;    /* as O1 has their limits; limit 0 is no end */
+    struct nrbpf_raw_limits limits;
 };
 
 /* A read: a program, by its number, and its argument. */
@@ -74,7 +79,7 @@ struct nrbpf_raw_store {
 
 /* ---- a session's handle */
 
-enum { NRBPF_RAW_UPDATE = 0, NRBPF_RAW_READ = 1, NRBPF_RAW_INSTALL = 2 };
+enum { NRBPF_RAW_UPDATE = 0, NRBPF_RAW_READ = 1, NRBPF_RAW_INSTALL = 2, NRBPF_RAW_INSTALL_WITHIN = 3 };
 
 #define NRBPF_RAW_END UINT64_MAX
 
@@ -82,16 +87,17 @@ struct nrbpf_raw_session {
     uint64_t own[2];
     /* asked, by nrbpf_raw_call alone; the other calls leave these words as they are */
     uint64_t call;          /* NRBPF_RAW_UPDATE, .. */
-    uint16_t program;       /* update, read: the program's number */
-    uint64_t mode;          /* install: 0 for a program that updates, 1 for one that reads */
-    uint64_t argument;      /* install: how many bytes the program's arguments have */
+    uint16_t program;       /* update, read: the program's number. install within: the maps that the new program may name, bit m for map m: one that
+                             * names another is refused with S8 and V16 */
+    uint64_t mode;          /* both installs: 0 for a program that updates, 1 for one that reads */
+    uint64_t argument;      /* both installs: how many bytes the program's arguments have */
     uint64_t length;        /* how many bytes count, of the argument, or of the program that is installed; H5 above 192 */
     uint8_t bytes[192];
     /* answered */
     uint64_t status;
     uint64_t inner;         /* with S7 a refusal of the letter D, with S8 of the letter V; else 0 */
     uint64_t slot;          /* the instruction that is to blame, where inner isn't 0. read_each: with S1 to S3 the number of the question, from 0. Else 0 */
-    uint64_t place;         /* update, install: the index in the history, from 0. All others: how many operations of the history were seen */
+    uint64_t point;         /* update, both installs: the index in the history, from 0. All others: how many operations of the history were seen */
     uint64_t reply;         /* what the program replied there; of an install the number of the program, or 2^64 - 7 where each place is taken */
     uint64_t count;         /* scan: how many entries were given. get: 1 where the key stands there, 0 where it doesn't */
     uint64_t next;          /* scan: the place to go on from, below 2^32; NRBPF_RAW_END where it came to the end of the map */
@@ -173,11 +179,11 @@ void nrbpf_raw_get(struct nrbpf_raw_session *session, uint32_t map, const uint8_
  * map, and 16 more for each entry that there is room for. Statuses: 0, BUSY, S9, S10, H2, H3. */
 void nrbpf_raw_scan(struct nrbpf_raw_session *session, uint32_t map, uint32_t from, uint8_t *keys, size_t keys_room, uint8_t *values, size_t values_room);
 
-/* Answers up to 16 questions at one place, each in `replies` at its number; there are as many replies as questions. With none it only brings the maps of
- * the session's node up to that place. Statuses: 0, BUSY, S1 to S3 of the first question that is refused, whose number is in slot, H2, H3, H5. */
+/* Answers up to 16 questions at one point, each in `replies` at its number; there are as many replies as questions. With none it only brings the maps of
+ * the session's node up to that point. Statuses: 0, BUSY, S1 to S3 of the first question that is refused, whose number is in slot, H2, H3, H5. */
 void nrbpf_raw_read_each(struct nrbpf_raw_session *session, const struct nrbpf_raw_question *questions, size_t count, uint64_t *replies, size_t room);
 
-/* Makes a state the store's at one place of the history. The status stands in the session's handle: 0, BUSY, H3, H9, H2 where the session's handle is not
+/* Makes a state the store's at one point of the history. The status stands in the session's handle: 0, BUSY, H3, H9, H2 where the session's handle is not
  * open or the state's has none; with any but 0 the state is as it was. The words of the state's handle stay. */
 void nrbpf_raw_snapshot(struct nrbpf_raw_session *session, struct nrbpf_raw_state *state);
 

@@ -6,7 +6,7 @@
 #![tactic(auto)]
 
 #[cfg(test)]
-mod answered;
+mod combining_sessions;
 #[cfg(test)]
 mod commands;
 #[cfg(test)]
@@ -22,15 +22,11 @@ mod helper_answers;
 #[cfg(test)]
 mod instructions;
 #[cfg(test)]
-mod left;
-#[cfg(test)]
 mod lock;
 #[cfg(test)]
 mod manifests;
 #[cfg(test)]
 mod map_calls;
-#[cfg(test)]
-mod meeting;
 #[cfg(test)]
 mod pages;
 #[cfg(test)]
@@ -49,6 +45,10 @@ mod single_store;
 mod snapshots;
 #[cfg(test)]
 mod states;
+#[cfg(test)]
+mod stress_results;
+#[cfg(test)]
+mod stress_sessions;
 #[cfg(test)]
 mod two_nodes;
 #[cfg(test)]

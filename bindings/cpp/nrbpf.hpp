@@ -20,6 +20,7 @@
 #include <exception>
 #include <filesystem>
 #include <fstream>
+#include <initializer_list>
 #include <iterator>
 #include <map>
 #include <memory>
@@ -112,6 +113,7 @@ struct config : nrbpf_config {
     config &with_window(std::uint32_t count) noexcept { return window = count, *this; }
     config &with_limit(std::uint32_t count) noexcept { return limit = count, *this; }
     config &with_spare(std::uint32_t count) noexcept { return spare = count, *this; }
+    config &with_limits(const nrbpf_limits &of_maps) noexcept { return limits = of_maps, *this; }
 };
 
 // A map of a manifest. An array's key is its index in 4 bytes, the low one first.
@@ -206,10 +208,10 @@ class state {
 public:
     explicit state(nrbpf_state *given) noexcept : at(given) {}
 
-    // The state that a dump says, for stores of this manifest with so many spare places. An empty dump is a new store's.
-    static state load(const manifest &of, std::string_view dump, std::uint32_t spare = 0) {
+    // The state that a dump says, for stores of this manifest with so many spare places, by these limits of maps. An empty dump is a new store's.
+    static state load(const manifest &of, std::string_view dump, std::uint32_t spare = 0, const nrbpf_limits &limits = {}) {
         const auto files = of.native();
-        const config sizes = config().with_spare(spare);
+        const config sizes = config().with_spare(spare).with_limits(limits);
         nrbpf_state *out = nullptr;
         nrbpf_error why{};
         detail::check(nrbpf_state_load(&sizes, of.text().data(), of.text().size(), files.data(), files.size(), dump.data(), dump.size(), &out, &why), why);
@@ -239,6 +241,19 @@ public:
 // ---- Sessions
 
 enum class mode : std::uint32_t { update = NRBPF_MODE_UPDATE, read = NRBPF_MODE_READ };
+
+// Maps that a program may name, by their numbers: {0, 2}. A number that no map has says nothing.
+class maps_allowed {
+    std::uint16_t told = 0;
+
+public:
+    maps_allowed(std::initializer_list<unsigned> numbers) noexcept {
+        for (const unsigned number : numbers)
+            if (number < 16) told = static_cast<std::uint16_t>(told | 1u << number);
+    }
+
+    std::uint16_t bits() const noexcept { return told; }
+};
 
 using answer = nrbpf_answer;
 
@@ -375,6 +390,15 @@ public:
         return out;
     }
 
+    // The same for a program that may name these maps alone: S8 with V16 where it names another.
+    answer install_within(const maps_allowed &maps, mode of_program, std::uint32_t argument_len, bytes code) {
+        answer out;
+        nrbpf_error why{};
+        const nrbpf_confined program{maps.bits(), static_cast<std::uint32_t>(of_program), argument_len, code.data(), code.size()};
+        detail::check(nrbpf_install_within(at, &program, &out, &why), why);
+        return out;
+    }
+
     // The same, and wait for nobody.
     tried try_update(std::uint16_t program, bytes argument = {}) {
         answer out{};
@@ -387,6 +411,14 @@ public:
         nrbpf_error why{};
         const nrbpf_status status =
             nrbpf_try_install(at, static_cast<std::uint32_t>(of_program), argument_len, code.data(), code.size(), &out, &why);
+        return tried_of(status, out, why);
+    }
+
+    tried try_install_within(const maps_allowed &maps, mode of_program, std::uint32_t argument_len, bytes code) {
+        answer out{};
+        nrbpf_error why{};
+        const nrbpf_confined program{maps.bits(), static_cast<std::uint32_t>(of_program), argument_len, code.data(), code.size()};
+        const nrbpf_status status = nrbpf_try_install_within(at, &program, &out, &why);
         return tried_of(status, out, why);
     }
 

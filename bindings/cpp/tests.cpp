@@ -52,6 +52,7 @@ template <class Call> static void is_refused(Call call, fault wanted, int line) 
 
 static const std::uint8_t five[] = {0xb7, 0, 0, 0, 5, 0, 0, 0, 0x95, 0, 0, 0, 0, 0, 0, 0}; // replies 5
 static const std::uint8_t nothing_in_r0[] = {0x95, 0, 0, 0, 0, 0, 0, 0};
+static const std::uint8_t names_map_0[] = {0x18, 0x51, 0, 0, 0, 0, 0, 0, 0, 0, 0, 0, 0, 0, 0, 0, 0xb7, 0, 0, 0, 6, 0, 0, 0, 0x95, 0, 0, 0, 0, 0, 0, 0}; // replies 6
 static const std::uint32_t third = 3;
 
 static manifest example(const std::string &name) { return manifest::read("examples/" + name + "/manifest"); }
@@ -150,6 +151,14 @@ static void installs() {
     ANSWER(it.session.read(2), 2, 5);
     ANSWER(tried(it.session, [&] { return it.session.try_install(nrbpf::mode::read, 0, five); }), 2, 3);
     ANSWER(it.session.install(nrbpf::mode::read, 0, five), 3, NRBPF_REPLY_NO_ROOM);
+}
+
+static void installs_within() {
+    counter it(config().with_spare(3));
+    ANSWER(it.session.install_within({0}, nrbpf::mode::read, 0, names_map_0), 0, 2);
+    ANSWER(it.session.install_within({}, nrbpf::mode::read, 0, five), 1, 3);
+    ANSWER(tried(it.session, [&] { return it.session.try_install_within({0, 15, 99}, nrbpf::mode::read, 0, names_map_0); }), 2, 4);
+    ANSWER(it.session.read(2), 3, 6);
 }
 
 static void tries() {
@@ -365,9 +374,11 @@ static void refused_manifests() {
     REFUSED(open(with(it + "read 4 bump.hex\n")), NRBPF_FILE_NOT_ACCEPTED, NRBPF_REFUSAL('V', 18), 2, 7);
     REFUSED(open(with("map array 256 65536\nmap array 1 1\n")), NRBPF_TOO_MUCH, 0, 2);
     REFUSED(open(with("map array \xff 16\n")), NRBPF_NOT_UTF8);
-    const config wrong[] = {config(0),    config(9), config(1, 0), config(1, 17), config().with_window(15), config().with_window(4097),
-                            config().with_spare(17)};
+    const config wrong[] = {config(0),    config(9), config(1, 0), config(1, 17), config().with_window(15), config().with_window(1048577),
+                            config().with_spare(4097)};
     for (const config &sizes : wrong) REFUSED(nrbpf::store(example("counter"), sizes), NRBPF_OUT_OF_LIMITS);
+    REFUSED(open(with("map hash 8 8 65537\n")), NRBPF_BAD_LINE, 0, 1);
+    nrbpf::store(with("map hash 8 8 65537\n"), config().with_limits(NRBPF_LARGE));
     config other;
     other.version += 1000;
     REFUSED(nrbpf::store(example("counter"), other), NRBPF_OTHER_VERSION);
@@ -389,7 +400,7 @@ static void refused_dumps() {
     REFUSED(load("1 00000000" + seven + "1 01000000" + seven + "1 02000000" + seven), NRBPF_DUMP_TOO_MANY_KEYS, 0, 3);
     REFUSED(load("p read 0 " + hex(nothing_in_r0) + "\n"), NRBPF_DUMP_BAD_PROGRAM, NRBPF_REFUSAL('V', 6), 1);
     REFUSED(load(program_line + program_line), NRBPF_DUMP_TOO_MANY_PROGRAMS, 0, 2);
-    REFUSED(nrbpf::state::load(of, "", 17), NRBPF_OUT_OF_LIMITS);
+    REFUSED(nrbpf::state::load(of, "", 4097), NRBPF_OUT_OF_LIMITS);
     REFUSED(nrbpf::state::load(manifest(""), ""), NRBPF_BAD_LINE, 0, 1);
 }
 
@@ -404,6 +415,8 @@ static void refused_calls() {
     REFUSED(it.session.install(nrbpf::mode::read, 0, {}), NRBPF_NOT_DECODED, NRBPF_REFUSAL('D', 2));
     REFUSED(it.session.try_install(nrbpf::mode::read, 0, nothing_in_r0), NRBPF_NOT_ACCEPTED, NRBPF_REFUSAL('V', 6));
     REFUSED(it.session.install(static_cast<nrbpf::mode>(2), 0, five), NRBPF_BAD_CALL);
+    REFUSED(it.session.install_within({1}, nrbpf::mode::read, 0, names_map_0), NRBPF_NOT_ACCEPTED, NRBPF_REFUSAL('V', 16));
+    REFUSED(it.session.try_install_within({}, nrbpf::mode::read, 0, names_map_0), NRBPF_NOT_ACCEPTED, NRBPF_REFUSAL('V', 16));
     REFUSED(it.session.get(1, key), NRBPF_UNKNOWN_MAP);
     REFUSED(it.session.get(0, five), NRBPF_KEY_LENGTH);
     REFUSED(it.session.scan_page(1), NRBPF_UNKNOWN_MAP);
@@ -450,7 +463,7 @@ static void ends() {
 
 int main() {
     const std::pair<const char *, void (*)()> tests[] = {
-        {"header", header}, {"scans", scans}, {"rows", rows}, {"installs", installs}, {"tries", tries}, {"gets_and_scans", gets_and_scans}, {"reads_at_one_point", reads_at_one_point},
+        {"header", header}, {"scans", scans}, {"rows", rows}, {"installs", installs}, {"installs_within", installs_within}, {"tries", tries}, {"gets_and_scans", gets_and_scans}, {"reads_at_one_point", reads_at_one_point},
         {"four_threads", four_threads}, {"tries_beside_others", tries_beside_others}, {"snapshots", snapshots},
         {"snapshots_beside_threads", snapshots_beside_threads}, {"dumps", dumps}, {"stores_go_on", stores_go_on}, {"close_next_to_a_session", close_next_to_a_session},
         {"refused_manifests", refused_manifests}, {"refused_dumps", refused_dumps}, {"refused_calls", refused_calls}, {"limits", limits}, {"ends", ends},

@@ -30,6 +30,18 @@ static inline nrbpf_status go_try_install(nrbpf_session *session, uint32_t mode,
     return nrbpf_try_install(session, mode, argument_len, bytes, len, out, why);
 }
 
+static inline nrbpf_status go_install_within(nrbpf_session *session, uint16_t maps, uint32_t mode, uint32_t argument_len, const uint8_t *bytes,
+                                             size_t len, nrbpf_answer *out, nrbpf_error *why) {
+    const nrbpf_confined program = {maps, mode, argument_len, bytes, len};
+    return nrbpf_install_within(session, &program, out, why);
+}
+
+static inline nrbpf_status go_try_install_within(nrbpf_session *session, uint16_t maps, uint32_t mode, uint32_t argument_len,
+                                                 const uint8_t *bytes, size_t len, nrbpf_answer *out, nrbpf_error *why) {
+    const nrbpf_confined program = {maps, mode, argument_len, bytes, len};
+    return nrbpf_try_install_within(session, &program, out, why);
+}
+
 static inline nrbpf_status go_get(nrbpf_session *session, uint32_t map, const uint8_t *key, size_t key_len, uint8_t *value, size_t value_len,
                                   nrbpf_found *out) {
     return nrbpf_get(session, map, key, key_len, value, value_len, out);

@@ -21,13 +21,27 @@ import (
 	"unsafe"
 )
 
+// Limits says how large the maps of a manifest may be. A number that is 0 is that of Standard.
+type Limits struct {
+	Key, Value uint32 // the most bytes of a key, 4 to 64, and of a value, to 256
+	Entries    uint64 // the most entries of a map, to 2^31
+	Bytes      uint64 // the most bytes of all maps, to 2^40
+}
+
+// Standard and Large are the limits without an option, and the widest.
+var (
+	Standard = Limits{64, 256, 65_536, 16_777_216}
+	Large    = Limits{64, 256, 1 << 31, 1 << 40}
+)
+
 // Config has the sizes of a store.
 type Config struct {
 	Nodes  uint32 // 1 to 8: each has a copy of the maps, by which it answers reads
 	Slots  uint32 // 1 to 16: the sessions of a node
-	Window uint32 // 16 to 4096: the updates that the log keeps
+	Window uint32 // 16 to 1048576: the updates that the log keeps
 	Limit  uint32 // the updates of the whole history, behind which there is ErrFull; Endless: no end
-	Spare  uint32 // 0 to 16: the programs that may be installed later
+	Spare  uint32 // 0 to 4096: the programs that may be installed later
+	Limits Limits // how large the maps of the manifest may be
 }
 
 // Endless is the limit of a history that has no end.
@@ -37,7 +51,7 @@ const Endless = C.NRBPF_ENDLESS
 func NewConfig(nodes, slots uint32) Config {
 	var config C.nrbpf_config
 	C.nrbpf_config_init(&config, C.NRBPF_VERSION, C.uint32_t(nodes), C.uint32_t(slots))
-	return Config{nodes, slots, uint32(config.window), uint32(config.limit), uint32(config.spare)}
+	return Config{nodes, slots, uint32(config.window), uint32(config.limit), uint32(config.spare), Limits{}}
 }
 
 func (c Config) inC() C.nrbpf_config {
@@ -48,6 +62,12 @@ func (c Config) inC() C.nrbpf_config {
 		window:  C.uint32_t(c.Window),
 		limit:   C.uint32_t(c.Limit),
 		spare:   C.uint32_t(c.Spare),
+		limits: C.nrbpf_limits{
+			key:     C.uint32_t(c.Limits.Key),
+			value:   C.uint32_t(c.Limits.Value),
+			entries: C.uint64_t(c.Limits.Entries),
+			bytes:   C.uint64_t(c.Limits.Bytes),
+		},
 	}
 }
 

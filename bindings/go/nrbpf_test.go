@@ -280,6 +280,21 @@ func TestInstall(t *testing.T) {
 	same(t, "a read that stores", *why, nrbpf.Error{Status: nrbpf.ErrNotAccepted, Inner: nrbpf.Refusal('V', 18), Slot: 6})
 }
 
+// sixProgram replies 6, and names map 0 in its slot 0.
+var sixProgram = must(hex.DecodeString("1851000000000000" + "0000000000000000" + "b700000006000000" + "9500000000000000"))
+
+func TestInstallWithin(t *testing.T) {
+	store := opened(t, "counter", 2)
+	session := attached(t, store, 0)
+	same(t, "a map that it may name", must(session.InstallWithin([]uint32{0, 15, 99}, nrbpf.ModeRead, 0, sixProgram)), nrbpf.Answer{Point: 0, Reply: 2})
+	same(t, "a call of it", must(session.Read(2, nil)), nrbpf.Answer{Point: 1, Reply: 6})
+	wanted := nrbpf.Error{Status: nrbpf.ErrNotAccepted, Inner: nrbpf.Refusal('V', 16), Slot: 0}
+	same(t, "another map", *refused(t, last(session.InstallWithin([]uint32{1}, nrbpf.ModeRead, 0, sixProgram)), nrbpf.ErrNotAccepted), wanted)
+	same(t, "no map", *refused(t, last(session.TryInstallWithin(nil, nrbpf.ModeRead, 0, sixProgram)), nrbpf.ErrNotAccepted), wanted)
+	five := must(answered(session, func() (nrbpf.Answer, error) { return session.TryInstallWithin(nil, nrbpf.ModeRead, 0, fiveProgram) }))
+	same(t, "a program that names none", five, nrbpf.Answer{Point: 1, Reply: 3})
+}
+
 func TestRefusedCalls(t *testing.T) {
 	store := opened(t, "counter", 0)
 	session := attached(t, store, 0)

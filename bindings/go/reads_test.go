@@ -176,9 +176,22 @@ func TestRefusedStates(t *testing.T) {
 	config.Spare = 1
 	why := refused(t, last(nrbpf.Load(config, counter, []byte("p read 0 95000000\n"))), nrbpf.ErrDumpBadProgram)
 	same(t, "half a slot", why.Inner, nrbpf.Refusal('D', 1))
-	config.Spare = 17
+	config.Spare = 4097
 	refused(t, last(nrbpf.Load(config, counter, nil)), nrbpf.ErrOutOfLimits)
 	refused(t, last(nrbpf.Load(nrbpf.NewConfig(1, 1), counter, []byte("\xff\n"))), nrbpf.ErrNotUTF8)
+}
+
+func TestLimits(t *testing.T) {
+	config, past := nrbpf.NewConfig(1, 1), nrbpf.Manifest{Text: "map hash 8 8 65537\n"}
+	same(t, "a map past the limits", refused(t, last(nrbpf.Open(config, past)), nrbpf.ErrBadLine).Line, 1)
+	config.Limits = nrbpf.Large
+	store, err := nrbpf.Open(config, past)
+	if err != nil {
+		t.Fatal(err)
+	}
+	store.Close()
+	config.Limits.Entries++
+	refused(t, last(nrbpf.Open(config, past)), nrbpf.ErrOutOfLimits)
 }
 
 // full takes some bytes and then no more.

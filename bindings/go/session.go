@@ -142,6 +142,38 @@ func (s *Session) TryInstall(mode Mode, argumentLen uint32, program []byte) (Ans
 	return s.installed(status)
 }
 
+// InstallWithin is an Install of a program that may name these maps alone, by their numbers. A number that no map has says nothing. S8 with V16
+// where the program names another map, at the first slot that does.
+func (s *Session) InstallWithin(maps []uint32, mode Mode, argumentLen uint32, program []byte) (Answer, error) {
+	defer s.lock.Unlock()
+	if err := s.enter(); err != nil {
+		return Answer{}, err
+	}
+	status := C.go_install_within(s.at, bits(maps), C.uint32_t(mode), C.uint32_t(argumentLen), first(program), size(program), &s.answer, &s.why)
+	return s.installed(status)
+}
+
+// TryInstallWithin is an InstallWithin that waits for nobody: ErrBusy and ErrPosted besides, as of TryUpdate.
+func (s *Session) TryInstallWithin(maps []uint32, mode Mode, argumentLen uint32, program []byte) (Answer, error) {
+	defer s.lock.Unlock()
+	if err := s.enter(); err != nil {
+		return Answer{}, err
+	}
+	status := C.go_try_install_within(s.at, bits(maps), C.uint32_t(mode), C.uint32_t(argumentLen), first(program), size(program), &s.answer, &s.why)
+	return s.installed(status)
+}
+
+// bits has bit m for each map m among these.
+func bits(maps []uint32) C.uint16_t {
+	var told C.uint16_t
+	for _, m := range maps {
+		if m < 16 {
+			told |= 1 << m
+		}
+	}
+	return told
+}
+
 func (s *Session) installed(status C.nrbpf_status) (Answer, error) {
 	if status != C.NRBPF_OK {
 		return Answer{}, explained(status, &s.why)

@@ -117,7 +117,7 @@ static void too_many_keys(void) {
 
 static void wrong_calls(void) {
     const nrbpf_config config = config_of(SPARE);
-    const nrbpf_config old = {NRBPF_VERSION - 1000, 2, 2, 4096, 0, SPARE};
+    const nrbpf_config old = {NRBPF_VERSION - 1000, 2, 2, 4096, 0, SPARE, {0, 0, 0, 0}};
     const char *const manifest = files.manifest;
     const size_t len = strlen(manifest);
     nrbpf_state *state = NULL;
@@ -128,7 +128,7 @@ static void wrong_calls(void) {
     EXPECT_STATUS(nrbpf_state_load(&config, manifest, len, files.files, programs, NULL, 1, &state, &why), NRBPF_H7);
     EXPECT_STATUS(nrbpf_state_load(&config, manifest, len, files.files, programs, "", 0, NULL, &why), NRBPF_H7);
     EXPECT_STATUS(nrbpf_state_load(&old, manifest, len, files.files, programs, "", 0, &state, &why), NRBPF_H8);
-    EXPECT_STATUS(load("", 0, 17, &state, &why), NRBPF_O1);
+    EXPECT_STATUS(load("", 0, 4097, &state, &why), NRBPF_O1);
     EXPECT(why.status == NRBPF_O1 && why.inner == 0 && why.line == 0 && why.slot == 0);
     EXPECT_STATUS(nrbpf_state_load(&config, "map array 08 16\n", 16, NULL, 0, "", 0, &state, &why), NRBPF_C1);
     EXPECT(why.status == NRBPF_C1 && why.line == 1);

@@ -401,7 +401,7 @@ static void open_store(void) {
     EXPECT_STATUS(nrbpf_config_init(&config, NRBPF_VERSION, 1 + below(3), 1 + below(3) + (is_beside ? THREADS : 0)), NRBPF_OK);
     config.window = chance(2) ? 16 : 64;
     config.limit = is_beside || chance(2) ? NRBPF_ENDLESS : 20 + below(200);
-    config.spare = below(MOST_PLACES + 1);
+    config.spare = below(MOST_SPARE + 1);
     open_wrongly();
     memset(&now, 0, sizeof now);
     calls += 2;

@@ -5,7 +5,7 @@
 
 #include "fixture.h"
 
-enum { KEYS = 12, KEY_ROOM = 8, COUNTERS = 16, MOST_PLACES = 3 };
+enum { KEYS = 12, KEY_ROOM = 8, COUNTERS = 16, MOST_SPARE = 3 };
 enum { PUT = 0, GET = 1, DEL = 2, CAS = 3, COUNT_UP = 4, COUNT = 5, MODEL_PROGRAMS = 6 };
 
 #define MODEL_MANIFEST                                      \
@@ -31,7 +31,7 @@ typedef struct model {
     uint32_t value[KEYS];
     uint64_t counter[COUNTERS];
     uint32_t count;                             // of what is installed
-    installed programs[MOST_PLACES];
+    installed programs[MOST_SPARE];
 } model;
 
 // The program files, of which the counter's name map 1 in place of map 0.

@@ -48,11 +48,42 @@ static void configurations(void) {
         refuse_config(wrong, NRBPF_H8);
     }
     const uint32_t outside[][5] = {{0, 1, 16, 1, 0},   {9, 1, 16, 1, 0},    {1, 0, 16, 1, 0},  {1, 17, 16, 1, 0},
-                                   {1, 1, 15, 1, 0},   {1, 1, 4097, 1, 0}, {1, 1, 16, 1, 17}, {UINT32_MAX, UINT32_MAX, 16, 1, 0}};
+                                   {1, 1, 15, 1, 0},   {1, 1, 1048577, 1, 0}, {1, 1, 16, 1, 4097}, {UINT32_MAX, UINT32_MAX, 16, 1, 0}};
     for (int i = 0; i < 8; i++) {
         const uint32_t *it = outside[i];
-        refuse_config((nrbpf_config){NRBPF_VERSION, it[0], it[1], it[2], it[3], it[4]}, NRBPF_O1);
+        refuse_config((nrbpf_config){NRBPF_VERSION, it[0], it[1], it[2], it[3], it[4], {0, 0, 0, 0}}, NRBPF_O1);
     }
+    const nrbpf_limits wider[] = {{65, 0, 0, 0}, {3, 0, 0, 0}, {0, 257, 0, 0}, {0, 0, 2147483649, 0}, {0, 0, UINT64_MAX, 0}, {0, 0, 0, 1099511627777}};
+    for (int i = 0; i < 6; i++) {
+        wrong = good;
+        wrong.limits = wider[i];
+        refuse_config(wrong, NRBPF_O1);
+    }
+}
+
+// What a manifest of one map is answered with these limits, by a host with a header of this version.
+static nrbpf_status opened_with(const char *manifest, nrbpf_limits limits, uint32_t version) {
+    nrbpf_config config = NRBPF_CONFIG(1, 1);
+    nrbpf_store *store = NULL;
+    config.limits = limits;
+    config.version = version;
+    const nrbpf_status status = nrbpf_open(&config, manifest, strlen(manifest), NULL, 0, &store, NULL);
+    if (status == NRBPF_OK) {
+        EXPECT_STATUS(nrbpf_close(store), NRBPF_OK);
+    }
+    return status;
+}
+
+static void limits_of_maps(void) {
+    const nrbpf_limits standard = NRBPF_STANDARD, large = NRBPF_LARGE, zeros = {0, 0, 0, 0}, narrow = {0, 0, 16, 0};
+    const char *past = "map hash 8 8 65537\n";
+    EXPECT_STATUS(opened_with(past, zeros, NRBPF_VERSION), NRBPF_C1);
+    EXPECT_STATUS(opened_with(past, standard, NRBPF_VERSION), NRBPF_C1);
+    EXPECT_STATUS(opened_with(past, large, NRBPF_VERSION), NRBPF_OK);
+    EXPECT_STATUS(opened_with(past, large, 2000), NRBPF_C1);    // an older host has no limits there
+    EXPECT_STATUS(opened_with("map hash 8 8 17\n", narrow, NRBPF_VERSION), NRBPF_C1);
+    EXPECT_STATUS(opened_with("map hash 8 8 16\n", narrow, NRBPF_VERSION), NRBPF_OK);
+    EXPECT_STATUS(opened_with("map hash 8 8 2147483649\n", large, NRBPF_VERSION), NRBPF_C1);
 }
 
 static void manifests(void) {
@@ -350,7 +381,7 @@ static void first_of_several(void) {
     static const uint8_t zeros[200];
     const nrbpf_file no_text = {"other", 5, NULL, 1};
     const nrbpf_question questions[17] = {{NULL, 4, UINT16_MAX}};
-    nrbpf_config other = {NRBPF_VERSION + 1000, 0, 0, 0, 0, 0};
+    nrbpf_config other = {NRBPF_VERSION + 1000, 0, 0, 0, 0, 0, {0, 0, 0, 0}};
     nrbpf_answer answer = {77, 77};
     uint64_t replies[17], point;
     refuse(&other, NULL, 1, &no_text, 1, (fault){.status = NRBPF_H7});
@@ -481,6 +512,7 @@ int main(void) {
     EXPECT(nrbpf_version() == NRBPF_VERSION);
     EXPECT_STATUS(nrbpf_config_init(NULL, NRBPF_VERSION, 1, 1), NRBPF_H7);
     configurations();
+    limits_of_maps();
     manifests();
     null_pointers_of_open();
     names_and_ends();

@@ -13,6 +13,7 @@ import nrbpf
 
 TOP = Path(__file__).resolve().parents[3]
 FIVE = bytes.fromhex("b700000005000000 9500000000000000")  # replies 5
+NAMES_MAP_0 = bytes.fromhex("1851000000000000 0000000000000000 b700000000000000 9500000000000000")  # in its slot 0
 NOTHING_IN_R0 = bytes.fromhex("9500000000000000")
 T = TypeVar("T")
 

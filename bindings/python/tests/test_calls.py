@@ -5,7 +5,7 @@ import threading
 import unittest
 
 import nrbpf
-from tests.fixture import FIVE, counter, example, text_of, tried, u32
+from tests.fixture import FIVE, NAMES_MAP_0, counter, example, text_of, tried, u32
 
 
 def run(name, spare=0, state=None):
@@ -128,6 +128,13 @@ class Tries(unittest.TestCase):
             self.assertEqual(session.read(told.reply), (1, 5))
             told = tried(session, lambda: session.try_install(nrbpf.Mode.READ, 0, FIVE))
             self.assertEqual(told, (1, nrbpf.REPLY_NO_ROOM))
+
+    def test_install_within(self):
+        with counter(spare=2) as (_, session, _, _):
+            self.assertEqual(session.install_within({0, 15, 99}, nrbpf.Mode.READ, 0, NAMES_MAP_0), (0, 2))
+            told = tried(session, lambda: session.try_install_within((), nrbpf.Mode.READ, 0, FIVE))
+            self.assertEqual(told, (1, 3))
+            self.assertEqual(session.read(told.reply), (2, 5))
 
     def test_beside_others(self):
         """A session tries beside three threads that are in its way: what is posted is made once, and until it is

@@ -6,7 +6,7 @@ import warnings
 
 import nrbpf
 from nrbpf import Status
-from tests.fixture import FIVE, NOTHING_IN_R0, counter, example, u32
+from tests.fixture import FIVE, NAMES_MAP_0, NOTHING_IN_R0, counter, example, u32
 
 BUMP, PEEK = "examples/counter/bump.hex", "examples/counter/peek.hex"
 ARRAY = "map array 8 16\n"
@@ -49,13 +49,22 @@ class Openings(Refusals):
         self.assertTrue(str(why).startswith("line 2: C4: ") and "slot 7: V18: " in str(why), str(why))
 
     def test_sizes(self):
-        outside = {"nodes": (0, 9), "slots": (0, 17), "window": (15, 4097), "spare": (17,)}
+        outside = {"nodes": (0, 9), "slots": (0, 17), "window": (15, 1048577), "spare": (4097,)}
         for name, number in ((name, number) for name, numbers in outside.items() for number in numbers):
             with self.subTest(name, number=number):
                 self.refuses(Status.OUT_OF_LIMITS, nrbpf.open, example("counter"), **{name: number})
-        for sizes in ({"nodes": -1}, {"limit": 1 << 32}):
+        for limits in ({"key": 65}, {"value": 257}, {"entries": (1 << 31) + 1}, {"bytes": (1 << 40) + 1}):
+            with self.subTest(limits=limits):
+                self.refuses(Status.OUT_OF_LIMITS, nrbpf.open, example("counter"), limits=nrbpf.LARGE._replace(**limits))
+        for sizes in ({"nodes": -1}, {"limit": 1 << 32}, {"limits": nrbpf.Limits(key=0)}):
             with self.assertRaises(ValueError):
                 nrbpf.open(example("counter"), **sizes)
+
+    def test_limits(self):
+        past = nrbpf.Manifest("map hash 8 8 65537\n", {})
+        self.refuses(Status.BAD_LINE, nrbpf.open, past, line=1)
+        nrbpf.open(past, limits=nrbpf.LARGE).close()
+        self.refuses(Status.BAD_LINE, nrbpf.open, nrbpf.Manifest("map hash 8 8 17\n", {}), limits=nrbpf.Limits(entries=16), line=1)
 
     def test_states(self):
         with nrbpf.State.load(example("counter"), f"p read 0 {FIVE.hex()}\n".encode(), spare=1) as state:
@@ -90,7 +99,7 @@ class Dumps(Refusals):
                 self.assertIsInstance(why, nrbpf.DumpError)
 
     def test_what_else_is_loaded(self):
-        self.refuses(Status.OUT_OF_LIMITS, nrbpf.State.load, example("counter"), b"", spare=17)
+        self.refuses(Status.OUT_OF_LIMITS, nrbpf.State.load, example("counter"), b"", spare=4097)
         self.refuses(Status.BAD_LINE, nrbpf.State.load, nrbpf.Manifest("", {}), b"", line=1)
         self.refuses(Status.NOT_UTF8, nrbpf.State.load, example("counter"), b"\xff\n")
 
@@ -122,6 +131,15 @@ class Calls(Refusals):
                 self.refuses(Status.NOT_DECODED, call, nrbpf.Mode.READ, 0, opcode_13, inner="D4", slot=1)
                 self.refuses(Status.NOT_ACCEPTED, call, nrbpf.Mode.READ, 0, NOTHING_IN_R0, inner="V6")
                 self.refuses(Status.BAD_CALL, call, 2, 0, FIVE)
+            self.assertEqual(session.read(peek, u32(3)), (0, 0))
+
+    def test_installs_within(self):
+        with counter(spare=1) as (_, session, _, peek):
+            for call in (session.install_within, session.try_install_within):
+                for maps in ((), [1], {-1, 15, 16}):
+                    self.refuses(Status.NOT_ACCEPTED, call, maps, nrbpf.Mode.READ, 0, NAMES_MAP_0, inner="V16")
+                self.refuses(Status.NOT_ACCEPTED, call, [0], nrbpf.Mode.READ, 0, NOTHING_IN_R0, inner="V6")
+                self.refuses(Status.TOO_LARGE, call, [0], nrbpf.Mode.READ, 65, FIVE)
             self.assertEqual(session.read(peek, u32(3)), (0, 0))
 
     def test_more_reads(self):

@@ -13,7 +13,7 @@ pub use error::{Error, QuestionRefused, Refusal};
 pub use manifest::{Manifest, MapShape};
 pub use session::{Answer, Found, Mode, Page, Question, Scan, Session, Tried, REPLY_INVALID, REPLY_NO_ROOM};
 pub use state::State;
-pub use store::{Config, NotClosed, Store, ENDLESS};
+pub use store::{Config, Limits, NotClosed, Store, ENDLESS};
 
 /// The version of the library: its major number and its minor one.
 pub fn version() -> (u32, u32) {

@@ -197,6 +197,20 @@ impl<'a> Session<'a> {
         Ok(Answer::of(out))
     }
 
+    /// As [`install`](Session::install), for a program that may name these maps alone, by their numbers. A number that no map has says nothing.
+    ///
+    /// # Errors
+    ///
+    /// The same. S8 with V16 where it names another map, at the first slot that does.
+    pub fn install_within(&mut self, maps: &[u32], mode: Mode, argument_len: u32, code: &[u8]) -> Result<Answer, Error> {
+        let (mut out, mut why) = (sys::nrbpf_answer::default(), sys::nrbpf_error::default());
+        let program = confined(maps, mode, argument_len, code);
+        // SAFETY: as above.
+        let status = unsafe { sys::nrbpf_install_within(self.as_ptr(), &program, &mut out, &mut why) };
+        check_with(status, why)?;
+        Ok(Answer::of(out))
+    }
+
     /// As [`update`](Session::update), and waits for nobody.
     ///
     /// # Errors
@@ -231,6 +245,19 @@ impl<'a> Session<'a> {
         // SAFETY: as above.
         let status =
             unsafe { sys::nrbpf_try_install(self.as_ptr(), mode as u32, argument_len, bytes_at(code), code.len(), &mut out, &mut why) };
+        tried(status, out, why)
+    }
+
+    /// As [`install_within`](Session::install_within), and waits for nobody.
+    ///
+    /// # Errors
+    ///
+    /// The same.
+    pub fn try_install_within(&mut self, maps: &[u32], mode: Mode, argument_len: u32, code: &[u8]) -> Result<Tried, Error> {
+        let (mut out, mut why) = (sys::nrbpf_answer::default(), sys::nrbpf_error::default());
+        let program = confined(maps, mode, argument_len, code);
+        // SAFETY: as above.
+        let status = unsafe { sys::nrbpf_try_install_within(self.as_ptr(), &program, &mut out, &mut why) };
         tried(status, out, why)
     }
 
@@ -483,4 +510,10 @@ fn unless_busy(status: u32, why: sys::nrbpf_error) -> Result<bool, Error> {
         sys::NRBPF_BUSY => Ok(false),
         _ => check_with(status, why).map(|()| true),
     }
+}
+
+// A program and the maps that it may name, as the library takes them while `code` is lent.
+fn confined(maps: &[u32], mode: Mode, argument_len: u32, code: &[u8]) -> sys::nrbpf_confined {
+    let bits = maps.iter().filter(|&&map| map < 16).fold(0, |bits, &map| bits | 1 << map);
+    sys::nrbpf_confined { maps: bits, mode: mode as u32, argument_len, bytes: bytes_at(code), len: code.len() }
 }

@@ -1,7 +1,7 @@
 //! States: all keys, values and installed programs at one point of a history.
 
 use crate::error::{check, check_with};
-use crate::{sys, Config, Error, Manifest};
+use crate::{sys, Config, Error, Limits, Manifest};
 use std::any::Any;
 use std::ffi::{c_char, c_int, c_void};
 use std::fmt;
@@ -42,7 +42,16 @@ impl State {
     ///
     /// C1 to C6 and H4 of the manifest, E0 to E9 and H4 of the dump, O1 of `spare`.
     pub fn load(manifest: &Manifest, spare: u32, dump: &[u8]) -> Result<State, Error> {
-        let config = Config::new(1, 1).spare(spare).told();
+        State::load_within(manifest, Limits::STANDARD, spare, dump)
+    }
+
+    /// The same of a manifest that is read by these limits of maps.
+    ///
+    /// # Errors
+    ///
+    /// As [`State::load`]; O1 of the limits too.
+    pub fn load_within(manifest: &Manifest, limits: Limits, spare: u32, dump: &[u8]) -> Result<State, Error> {
+        let config = Config::new(1, 1).spare(spare).limits(limits).told();
         let (mut out, mut why) = (null_mut(), sys::nrbpf_error::default());
         // SAFETY: each pointer has as many bytes behind it as the call is told.
         let status = manifest.with(|text, files| unsafe {

@@ -10,6 +10,28 @@ use std::sync::Arc;
 /// No end of a history.
 pub const ENDLESS: u32 = 0;
 
+/// How large the maps of a manifest may be, of [`Limits::STANDARD`] or [`Limits::LARGE`]. A host that loads others' manifests may make them narrower.
+#[derive(Clone, Copy, Debug, PartialEq, Eq, Hash)]
+#[non_exhaustive]
+pub struct Limits {
+    /// The most bytes of a key, 4 to 64.
+    pub key: u32,
+    /// The most bytes of a value, 1 to 256.
+    pub value: u32,
+    /// The most entries of a map, 1 to 2^31.
+    pub entries: u64,
+    /// The most bytes of all maps, 1 to 2^40.
+    pub bytes: u64,
+}
+
+impl Limits {
+    /// Maps of 65,536 entries, and 16 MiB of all maps.
+    pub const STANDARD: Limits = Limits { key: 64, value: 256, entries: 65_536, bytes: 16_777_216 };
+
+    /// Maps of 2^31 entries, and 2^40 bytes of all maps.
+    pub const LARGE: Limits = Limits { key: 64, value: 256, entries: 2_147_483_648, bytes: 1_099_511_627_776 };
+}
+
 /// The sizes of a store, of [`Config::new`]. A later version may have more of them, so no literal makes one:
 ///
 /// ```compile_fail,E0639
@@ -22,18 +44,20 @@ pub struct Config {
     pub nodes: u32,
     /// 1 to 16: the sessions of a node.
     pub slots: u32,
-    /// 16 to 4,096: the updates that the log keeps.
+    /// 16 to 1,048,576: the updates that the log keeps.
     pub window: u32,
     /// The updates of the whole history, behind which there is [`Error::Full`]; or [`ENDLESS`].
     pub limit: u32,
-    /// 0 to 16: the programs that may be installed later.
+    /// 0 to 4,096: the programs that may be installed later.
     pub spare: u32,
+    /// How large the maps of the manifest may be.
+    pub limits: Limits,
 }
 
 impl Config {
     /// So many nodes, so many sessions of each, a window of 4,096, no end, and no spare place.
     pub const fn new(nodes: u32, slots: u32) -> Config {
-        Config { nodes, slots, window: 4_096, limit: ENDLESS, spare: 0 }
+        Config { nodes, slots, window: 4_096, limit: ENDLESS, spare: 0, limits: Limits::STANDARD }
     }
 
     /// The same with another window.
@@ -54,12 +78,20 @@ impl Config {
         Config { spare, ..self }
     }
 
+    /// The same with other limits of maps.
+    #[must_use]
+    pub const fn limits(self, limits: Limits) -> Config {
+        Config { limits, ..self }
+    }
+
     pub(crate) fn told(self) -> sys::nrbpf_config {
-        let Config { nodes, slots, window, limit, spare } = self;
+        let Config { nodes, slots, window, limit, spare, limits } = self;
+        let Limits { key, value, entries, bytes } = limits;
+        let limits = sys::nrbpf_limits { key, value, entries, bytes };
         let mut told = sys::nrbpf_config::default();
         // SAFETY: it writes what it is lent.
         unsafe { sys::nrbpf_config_init(&mut told, sys::NRBPF_VERSION, nodes, slots) };
-        sys::nrbpf_config { window, limit, spare, ..told }
+        sys::nrbpf_config { window, limit, spare, limits, ..told }
     }
 }
 

@@ -4,7 +4,7 @@
 
 use std::ffi::{c_char, c_int, c_void};
 
-pub const NRBPF_VERSION: u32 = 2_000;
+pub const NRBPF_VERSION: u32 = 2_001;
 pub const NRBPF_OK: u32 = 0;
 pub const NRBPF_BUSY: u32 = 1;
 pub const NRBPF_POSTED: u32 = 2;
@@ -36,6 +36,15 @@ pub struct nrbpf_error {
 
 #[repr(C)]
 #[derive(Clone, Copy, Debug, Default)]
+pub struct nrbpf_limits {
+    pub key: u32,
+    pub value: u32,
+    pub entries: u64,
+    pub bytes: u64,
+}
+
+#[repr(C)]
+#[derive(Clone, Copy, Debug, Default)]
 pub struct nrbpf_config {
     pub version: u32,
     pub nodes: u32,
@@ -43,6 +52,7 @@ pub struct nrbpf_config {
     pub window: u32,
     pub limit: u32,
     pub spare: u32,
+    pub limits: nrbpf_limits,
 }
 
 #[repr(C)]
@@ -52,6 +62,16 @@ pub struct nrbpf_file {
     pub name_len: usize,
     pub text: *const c_char,
     pub text_len: usize,
+}
+
+#[repr(C)]
+#[derive(Clone, Copy, Debug)]
+pub struct nrbpf_confined {
+    pub maps: u16,
+    pub mode: u32,
+    pub argument_len: u32,
+    pub bytes: *const c_void,
+    pub len: usize,
 }
 
 #[repr(C)]
@@ -134,6 +154,18 @@ extern "C" {
         argument_len: u32,
         bytes: *const c_void,
         len: usize,
+        out: *mut nrbpf_answer,
+        why: *mut nrbpf_error,
+    ) -> u32;
+    pub fn nrbpf_install_within(
+        session: *mut nrbpf_session,
+        program: *const nrbpf_confined,
+        out: *mut nrbpf_answer,
+        why: *mut nrbpf_error,
+    ) -> u32;
+    pub fn nrbpf_try_install_within(
+        session: *mut nrbpf_session,
+        program: *const nrbpf_confined,
         out: *mut nrbpf_answer,
         why: *mut nrbpf_error,
     ) -> u32;

@@ -2,8 +2,8 @@
 
 mod fixture;
 
-use fixture::{answer, counter, example, hex_of, key, BUMP, FIVE, NOTHING_IN_R0, PEEK};
-use nrbpf::{Config, Error, Manifest, Mode, Question, QuestionRefused, Session, State, Store};
+use fixture::{answer, counter, example, hex_of, key, BUMP, FIVE, NAMES_MAP_0, NOTHING_IN_R0, PEEK};
+use nrbpf::{Config, Error, Limits, Manifest, Mode, Question, QuestionRefused, Session, State, Store};
 use std::mem;
 
 const ARRAY: &str = "map array 8 16\n";
@@ -64,6 +64,8 @@ fn manifests() {
 #[test]
 fn sizes() {
     let good = Config::new(1, 1);
+    let mut wider = Limits::LARGE;
+    wider.entries += 1;
     let wrong = [
         Config::new(0, 1),
         Config::new(9, 1),
@@ -71,12 +73,27 @@ fn sizes() {
         Config::new(1, 17),
         Config::new(u32::MAX, u32::MAX),
         good.window(15),
-        good.window(4_097),
-        good.spare(17),
+        good.window(1_048_577),
+        good.spare(4_097),
+        good.limits(wider),
     ];
     for config in wrong {
         assert_eq!(Store::open(config, &example("counter")).err(), Some(Error::OutOfLimits), "{config:?}");
     }
+}
+
+#[test]
+fn limits() {
+    let good = Config::new(1, 1);
+    let manifest = Manifest::new("map hash 8 8 65537\n");
+    let too_large = Store::open(good, &manifest).expect_err("65,537 entries are past the standard limits").to_string();
+    assert!(too_large.starts_with("line 1: C1: "), "{too_large}");
+    assert!(Store::open(good.limits(Limits::LARGE), &manifest).is_ok());
+    let mut narrow = Limits::STANDARD;
+    narrow.entries = 16;
+    let manifest = Manifest::new("map hash 8 8 17\n");
+    assert!(Store::open(good, &manifest).is_ok());
+    assert!(Store::open(good.limits(narrow), &manifest).is_err());
 }
 
 #[test]
@@ -113,7 +130,7 @@ fn dumps() {
     for (text, wanted) in rows {
         assert_eq!(State::load(&manifest, 1, text.as_bytes()).map(drop).map_err(parts), Err(wanted), "{text}");
     }
-    assert_eq!(State::load(&manifest, 17, b"").err(), Some(Error::OutOfLimits));
+    assert_eq!(State::load(&manifest, 4_097, b"").err(), Some(Error::OutOfLimits));
     assert_eq!(State::load(&Manifest::new(""), 0, b"").err(), Some(Error::BadLine { line: 1 }));
     assert_eq!(State::load(&manifest, 0, b"\xff\n").err(), Some(Error::NotUtf8));
 }
@@ -138,6 +155,24 @@ fn calls() -> Result<(), Error> {
     runs(&mut session, PEEK, BUMP, |it, program, argument| it.try_read(program, argument).err());
     assert_eq!(session.poll(), Err(Error::NothingPosted));
     assert_eq!(session.read(PEEK, &key(3))?, answer(0, 0));
+    Ok(())
+}
+
+#[test]
+fn installs_within() -> Result<(), Error> {
+    let store = counter(Config::new(1, 1).spare(3));
+    let mut session = store.attach(0)?;
+    for maps in [&[][..], &[1], &[15, 16, u32::MAX]] {
+        let wanted = Err(row("S8", "V16", 0, 0));
+        assert_eq!(session.install_within(maps, Mode::Read, 0, &NAMES_MAP_0).map_err(parts), wanted.clone());
+        assert_eq!(session.try_install_within(maps, Mode::Read, 0, &NAMES_MAP_0).map_err(parts).map(|_| answer(0, 0)), wanted);
+    }
+    assert_eq!(session.install_within(&[], Mode::Read, 65, &FIVE).map_err(parts), Err(row("S6", "", 0, 0)));
+    assert_eq!(session.install_within(&[], Mode::Read, 0, &NOTHING_IN_R0).map_err(parts), Err(row("S8", "V6", 0, 0)));
+    assert_eq!(session.install_within(&[0], Mode::Read, 0, &NAMES_MAP_0)?, answer(0, 2));
+    assert_eq!(session.install_within(&[3, 0, 99], Mode::Update, 0, &NAMES_MAP_0)?, answer(1, 3));
+    assert_eq!(session.install_within(&[], Mode::Read, 0, &FIVE)?, answer(2, 4));
+    assert_eq!(session.read(4, &[])?, answer(3, 5));
     Ok(())
 }
 

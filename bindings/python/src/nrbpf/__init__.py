@@ -11,7 +11,7 @@ so threads wait for each other in the store alone. Make no call in a forked chil
 """
 
 from ._errors import CallError, DumpError, Error, HostError, ManifestError, OpeningError, Pending, Status
-from ._manifest import Manifest, MapShape, Sizes
+from ._manifest import LARGE, STANDARD, Limits, Manifest, MapShape, Sizes
 from ._native import VERSION
 from ._session import Answer, Found, Mode, Page, Replies, Session
 from ._state import State
@@ -28,9 +28,11 @@ REPLY_INVALID = 2**64 - 22
 __all__ = [
     "BUSY",
     "ENDLESS",
+    "LARGE",
     "POSTED",
     "REPLY_INVALID",
     "REPLY_NO_ROOM",
+    "STANDARD",
     "VERSION",
     "Answer",
     "CallError",
@@ -38,6 +40,7 @@ __all__ = [
     "Error",
     "Found",
     "HostError",
+    "Limits",
     "Manifest",
     "ManifestError",
     "MapShape",

@@ -60,23 +60,43 @@ def _shape(words: list[bytes]) -> MapShape:
     return MapShape("hash", int(words[2]), int(words[3]), int(words[4]))
 
 
+class Limits(NamedTuple):
+    """How large the maps of a manifest may be: the most bytes of a key and of a value, entries of a map, and bytes of all
+    maps. A host that loads others' manifests may make them narrower."""
+
+    key: int = 64
+    value: int = 256
+    entries: int = 65_536
+    bytes: int = 16_777_216
+
+
+STANDARD = Limits()
+
+LARGE = Limits(entries=1 << 31, bytes=1 << 40)
+
+
 class Sizes(NamedTuple):
     """The sizes of a store: its nodes, the sessions of each, the updates that the log keeps, those that its history may
-    have (0: no end), and the programs that may be installed later."""
+    have (0: no end), the programs that may be installed later, and how large the maps may be."""
 
     nodes: int = 1
     slots: int = 1
     window: int = 4096
     limit: int = 0
     spare: int = 0
+    limits: Limits = STANDARD
 
     def native(self) -> _native.Config:
-        for name, number in self._asdict().items():
-            if not 0 <= number < 1 << 32:
+        for name in ("nodes", "slots", "window", "limit", "spare"):
+            if not 0 <= getattr(self, name) < 1 << 32:
                 raise ValueError(f"{name} is a number from 0 to 2^32 - 1")
         config = _native.Config()
         _native.library.nrbpf_config_init(config, _native.VERSION, self.nodes, self.slots)
         config.window, config.limit, config.spare = self.window, self.limit, self.spare
+        for name, number in self.limits._asdict().items():
+            if not 0 < number < 1 << (64 if name in ("entries", "bytes") else 32):
+                raise ValueError(f"{name} is a number from 1 on, of as many bits as it has")
+            setattr(config.limits, name, number)
         return config
 
 

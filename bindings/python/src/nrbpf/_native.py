@@ -8,15 +8,22 @@ import os
 import platform
 import sys
 
-VERSION = 2000
+VERSION = 2001
 
 
 class File(c.Structure):
     _fields_ = (("name", c.c_char_p), ("name_len", c.c_size_t), ("text", c.c_char_p), ("text_len", c.c_size_t))
 
 
+class Limits(c.Structure):
+    _fields_ = (("key", c.c_uint32), ("value", c.c_uint32), ("entries", c.c_uint64), ("bytes", c.c_uint64))
+
+
 class Config(c.Structure):
-    _fields_ = tuple((name, c.c_uint32) for name in ("version", "nodes", "slots", "window", "limit", "spare"))
+    _fields_ = (
+        *((name, c.c_uint32) for name in ("version", "nodes", "slots", "window", "limit", "spare")),
+        ("limits", Limits),
+    )
 
 
 class Fault(c.Structure):
@@ -39,6 +46,16 @@ class Asked(c.Structure):
     _fields_ = (("argument", c.c_char_p), ("len", c.c_size_t), ("program", c.c_uint16))
 
 
+class Confined(c.Structure):
+    _fields_ = (
+        ("maps", c.c_uint16),
+        ("mode", c.c_uint32),
+        ("argument_len", c.c_uint32),
+        ("bytes", c.c_char_p),
+        ("len", c.c_size_t),
+    )
+
+
 Writer = c.CFUNCTYPE(c.c_int, c.c_void_p, c.POINTER(c.c_char), c.c_size_t)
 
 _AT, _OUT, _SIZE, _TEXT = c.c_void_p, c.POINTER(c.c_void_p), c.c_size_t, c.c_char_p
@@ -46,6 +63,7 @@ _WHY, _ANSWER, _POINT = c.POINTER(Fault), c.POINTER(Answered), c.POINTER(c.c_uin
 _SOURCES = [c.POINTER(Config), _TEXT, _SIZE, c.POINTER(File), _SIZE]
 _RUN = [_AT, c.c_uint16, _TEXT, _SIZE, _ANSWER]
 _INSTALL = [_AT, c.c_uint32, c.c_uint32, _TEXT, _SIZE, _ANSWER, _WHY]
+_WITHIN = [_AT, c.POINTER(Confined), _ANSWER, _WHY]
 _GET = [_AT, c.c_uint32, _TEXT, _SIZE, c.c_void_p, _SIZE, c.POINTER(FoundThere)]
 _SCAN = [_AT, c.c_uint32, c.c_uint32, c.c_void_p, _SIZE, c.c_void_p, _SIZE, c.POINTER(Scanned)]
 _EACH = [_AT, c.POINTER(Asked), _SIZE, _POINT, _POINT, _WHY]
@@ -73,6 +91,7 @@ _TWINS = {
     "update": _RUN,
     "read": _RUN,
     "install": _INSTALL,
+    "install_within": _WITHIN,
     "get": _GET,
     "scan": _SCAN,
     "read_each": _EACH,

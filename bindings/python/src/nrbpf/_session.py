@@ -6,7 +6,7 @@ import ctypes
 import enum
 import threading
 import time
-from collections.abc import Callable, Iterator, Sequence
+from collections.abc import Callable, Iterable, Iterator, Sequence
 from types import TracebackType
 from typing import TYPE_CHECKING, Any, NamedTuple
 
@@ -98,6 +98,13 @@ class Session:
         check(self._use(lambda at: _library.nrbpf_install(at, *install.native())), install.fault)
         return install.told()
 
+    def install_within(self, maps: Iterable[int], mode: Mode, argument_len: int, code: Buffer) -> Answer:
+        """As `install`, for a program that may name these maps alone, by their numbers. A number that no map has says
+        nothing. A program that names another map is refused: NotAccepted, with V16 and the first slot that does."""
+        install = _Install(mode, argument_len, code)
+        check(self._use(lambda at: _library.nrbpf_install_within(at, *install.confined(maps))), install.fault)
+        return install.told()
+
     def try_update(self, program: int, argument: Buffer = b"") -> Answer | Pending:
         """As `update`, and waits for nobody. Of POSTED the store has the update, once: `poll` or `wait` is the
         session's next call then."""
@@ -111,6 +118,14 @@ class Session:
         """As `install`, and waits for nobody."""
         install = _Install(mode, argument_len, code)
         status = self._try(lambda at: _library.nrbpf_try_install(at, *install.native()))
+        return pending(status, install.fault) or install.told()
+
+    def try_install_within(
+        self, maps: Iterable[int], mode: Mode, argument_len: int, code: Buffer
+    ) -> Answer | Pending:
+        """As `install_within`, and waits for nobody."""
+        install = _Install(mode, argument_len, code)
+        status = self._try(lambda at: _library.nrbpf_try_install_within(at, *install.confined(maps)))
         return pending(status, install.fault) or install.told()
 
     def poll(self) -> Answer | Pending:
@@ -287,6 +302,11 @@ class _Install:
 
     def native(self) -> tuple[object, ...]:
         return self.mode, self.argument_len, self.code, len(self.code), self.answer, self.fault
+
+    def confined(self, maps: Iterable[int]) -> tuple[object, ...]:
+        bits = sum({1 << map for map in maps if 0 <= map < 16})
+        program = _native.Confined(bits, self.mode, self.argument_len, self.code, len(self.code))
+        return program, self.answer, self.fault
 
     def told(self) -> Answer:
         return Answer(self.answer.point, self.answer.reply)

@@ -10,7 +10,7 @@ from typing import Any, Protocol
 
 from . import _native
 from ._errors import Status, check
-from ._manifest import Buffer, Manifest, Sizes, as_bytes
+from ._manifest import STANDARD, Buffer, Limits, Manifest, Sizes, as_bytes
 
 _library = _native.library
 
@@ -35,11 +35,11 @@ class State:
         self._lock = threading.Lock()
 
     @classmethod
-    def load(cls, manifest: Manifest, dump: Buffer, *, spare: int = 0) -> State:
+    def load(cls, manifest: Manifest, dump: Buffer, *, spare: int = 0, limits: Limits = STANDARD) -> State:
         """The state that a dump says, for stores of this manifest with so many spare places. An empty dump is a new
         store's."""
         out, fault, text = ctypes.c_void_p(), _native.Fault(), as_bytes(dump)
-        config = Sizes(spare=spare).native()
+        config = Sizes(spare=spare, limits=limits).native()
         check(_library.nrbpf_state_load(config, *manifest.native(), text, len(text), out, fault), fault)
         return cls(out.value)
 

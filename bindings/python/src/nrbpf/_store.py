@@ -9,7 +9,7 @@ from types import TracebackType
 
 from . import _native
 from ._errors import Status, check, error_of, within
-from ._manifest import ONE_SESSION, Manifest, MapShape, Sizes
+from ._manifest import ONE_SESSION, STANDARD, Limits, Manifest, MapShape, Sizes
 from ._session import Session
 from ._state import State
 
@@ -141,14 +141,16 @@ def open(
     window: int = 4096,
     limit: int = 0,
     spare: int = 0,
+    limits: Limits = STANDARD,
     state: State | None = None,
 ) -> Store:
     """Opens a store of a manifest, or goes on from a state, which may be opened on again.
 
     nodes: 1 to 8, each with a copy of the maps, by which it answers reads
     slots: 1 to 16, the sessions of a node
-    window: 16 to 4,096, the updates that the log keeps
+    window: 16 to 1,048,576, the updates that the log keeps
     limit: the updates of the whole history, behind which there is S4; ENDLESS, 0: no end
-    spare: 0 to 16, the programs that may be installed later
+    spare: 0 to 4,096, the programs that may be installed later
+    limits: STANDARD, LARGE or others: how large the maps may be
     """
-    return Store(manifest, Sizes(nodes, slots, window, limit, spare), state)
+    return Store(manifest, Sizes(nodes, slots, window, limit, spare, limits), state)

@@ -2,7 +2,7 @@
 
 ghost use Rattle.std.specs.Prelude.{⊤};
 
-use engine::{Folder, Inputs, Notes, perform};
+use engine::{Folder, Inputs, MapSizes, Notes, perform};
 use oplog::Config;
 use replaying::Replay;
 use std::sync::atomic::{AtomicU64, Ordering};
@@ -41,6 +41,7 @@ pub(crate) fn given<'a>(
     state: &'a [u8],
 ) -> Inputs<'a, Programs, &'a [u8]> {
     Inputs {
+        sizes: MapSizes::Standard,
         folder,
         manifest: Some(MANIFEST),
         file: Some(file),
