@@ -1,6 +1,10 @@
+# make help       prints these lines
 # make            proves and builds the program and the library for C. The first time that takes about an hour, two minutes after a gate on this machine
 # make unproved   builds both without a proof, with checks, in two minutes: in crates/nrbpf/out/unproved and embed/out/unproved
-# make check      the whole test suite, which proves and builds them too
+# make quick      what needs no proof: rows, programs in C, documents, hosts and packages, in five minutes
+# make test       the whole test suite, which proves and builds them too; make check is the same
+# make fmt        lays out the sources: crates, tests, and the prose of the documents
+# make docs       writes the documents anew that scripts write: manual page, completion, pictures, plots, CLAUSES, BELIEVED, LINES. The program must be built
 # make install    puts what is built below PREFIX, and builds nothing; DESTDIR stands before every path, as packages want it
 # make uninstall  takes it away
 # make dist       a tarball of the sources in out/, of the same bytes each time
@@ -8,7 +12,7 @@
 # make deb        the same as three packages for Debian
 # make wheel      the package for Python with the library inside
 #
-# docs/PACKAGING.md says what is built from what. This is for GNU make.
+# packaging/README.md says what is installed and how a release is made. This is for GNU make.
 
 PREFIX = /usr/local
 DESTDIR =
@@ -42,8 +46,30 @@ unproved:
 	.ci/unproved program
 	embed/build --unproved
 
-check:
+help:
+	@sed -n '/^# make /s/^# //p' Makefile
+
+quick:
+	.ci/fast
+
+test check:
 	.ci/run
+
+fmt:
+	@for crate in crates/*/; do (cd "$$crate" && rt fmt) || exit; done
+	.ci/tests --format
+	.ci/prose
+
+docs: is-runnable
+	.ci/manual
+	.ci/pictures
+	.ci/plots
+	.ci/believed
+	.ci/promises
+	.ci/lines
+
+is-runnable:
+	@test -n "$$NRBPF_PROGRAM" || test "$$(./nrbpf --which)" = "proved $(CURDIR)/$(program)" || { echo 'make: the program is not proved and built of these sources yet: ./nrbpf --prove' >&2; exit 1; }
 
 # (what is built of other sources is not installed)
 is-built:
@@ -95,4 +121,4 @@ dist:
 bindist deb wheel:
 	.ci/release $@
 
-.PHONY: all program library unproved check is-built install uninstall dist bindist deb wheel
+.PHONY: all program library unproved help quick test check fmt docs is-runnable is-built install uninstall dist bindist deb wheel

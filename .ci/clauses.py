@@ -225,6 +225,8 @@ def items_of_use(path, before=""):
     yield module, last, (other or last).strip()
 
 
+# A clause: `requires` or `ensures`, its name, which may be empty, and its text.
+Clause = namedtuple("Clause", "kind name text")
 Function = namedtuple("Function", "is_public signature clauses scope is_law")
 Block = namedtuple("Block", "kind name head body")
 
@@ -286,7 +288,7 @@ class Source:
         """Takes in a function, whose name stands here, and returns where it ends."""
         name = re.compile(r"\s*(\w+)").match(text, at)[1]
         signature, clauses = "", []
-        form = re.compile(r"\b(requires|ensures|decreases|ghost)\*?\s*(?:\.\.\s*)?\w*\s*:?\s*\{|[{;(\[]")
+        form = re.compile(r"\b(requires|ensures|decreases|ghost)\*?\s*(?:\.\.\s*)?(\w*)\s*:?\s*\{|[{;(\[]")
         while True:
             found = form.search(text, at)
             signature += text[at : found.start()]
@@ -300,7 +302,7 @@ class Source:
             if found[0] in "([":
                 signature += text[found.start() : at]
             elif found[1] != "decreases":
-                clauses.append(text[found.end() : at - 1])
+                clauses.append(Clause(found[1], found[2], text[found.end() : at - 1]))
 
     def members(self, body):
         """The ghost members of a trait or an impl, each with its name and text, and its functions."""
@@ -326,7 +328,8 @@ class Repository:
     """`cites` leads from each node to those that it cites; `inner` from a type to what only the way cites in which its values lie in memory:
     the view, the codes and the invariant of its model, or its ghost fields. `calls` are the public calls and types. A law is a function that
     takes nothing and does nothing, so that its clauses are all that it is; `hidden` are the laws that users of the crate can't name; `ghosts`
-    has of each ghost member of src/ how many lines it has."""
+    has of each ghost member of src/ how many lines it has, `texts` its text. `named` has of each call its clauses, each with what it names
+    itself; of these calls `laws` are laws, and `types` are types."""
 
     def __init__(self, top):
         self.crates, self.libraries, self.modules, self.sources = [], [], {}, {}
@@ -341,6 +344,7 @@ class Repository:
                 self.libraries.append(crate)
                 for name in files_below(f"{folder}/src", ".rt"):
                     self.sources[crate, name] = Source(crate, name, f"{folder}/src/{name}.rt")
+        self.texts, self.named, self.laws, self.types = {}, defaultdict(list), set(), set()
         self.public = {crate: self.public_of(crate, "lib") for crate in self.libraries}
         for module in self.modules.values():
             for name, pairs in module.cites.items():
@@ -441,7 +445,10 @@ class Repository:
         self.cites[node] |= self.types_in(function.signature, source, own)
         parameters = set(re.findall(r"\b(\w+)\s*:(?!:)", function.signature))
         for clause in function.clauses:
-            self.cites[node] |= self.cited_in(clause, function.scope, source, parameters, own)
+            named = self.cited_in(clause.text, function.scope, source, parameters, own)
+            self.cites[node] |= named
+            self.named[node].append((clause, named))
+        self.laws |= {node} if function.is_law else set()
         self.calls |= {node} if is_public else set()
         self.hidden |= {node} if function.is_law and not is_public else set()
 
@@ -475,6 +482,7 @@ class Repository:
         of = f"{own.name} as {trait}" if trait not in ("", "Model") else own.name
         node = Definition(own.crate, f"src/{source.module}", f"{of}.{name}")
         self.ghosts[node] = max(1, sum(bool(it.strip()) for it in text.splitlines()))
+        self.texts[node] = text
         self.cites[node] |= cited
         into[own].add(node)
 
@@ -485,6 +493,7 @@ class Repository:
         self.cites[own] |= self.types_in(block.head, source) - {own}
         if self.is_public(own):
             self.calls.add(Call(*own))
+            self.types.add(Call(*own))
             self.cites[Call(*own)].add(own)
         if block.kind == "trait":
             ghosts, functions, scope = source.members(block.body)
