@@ -1,4 +1,4 @@
-# Made by .ci/manual from the help of nrbpf: change crates/nrbpf/src/help.rt, not this file.
+# Made by .ci/manual from the help of nrbpf: change help.rt and commands/ of crates/nrbpf/src, not this file.
 # Completes commands, options and paths of nrbpf in bash:  . docs/nrbpf.bash
 _nrbpf() {
     local word=${COMP_WORDS[COMP_CWORD]} before=${COMP_WORDS[COMP_CWORD - 1]} words
@@ -11,16 +11,16 @@ _nrbpf() {
         replay:--spare | schedule:--limit | schedule:--nodes | schedule:--slots | schedule:--spare | schedule:--window | serve:--spare | stress:--limit | stress:--nodes | stress:--slots | stress:--spare | stress:--window) COMPREPLY=(); return ;;
     esac
     case ${COMP_WORDS[1]} in
-        check) words='-h --help' ;;
+        check) words='--large -h --help' ;;
         explain) words='--graph -h --help' ;;
         asm) words='-o --output --explain -h --help' ;;
         dis) words='--slots -h --help' ;;
         encode) words='-h --help' ;;
-        run) words='--load --dump --signed -h --help' ;;
-        serve) words='--spare --load --dump -h --help' ;;
-        replay) words='--spare --load --history --explain -h --help' ;;
-        schedule) words='--nodes --slots --window --limit --spare --explain --lanes -h --help' ;;
-        stress) words='--nodes --slots --window --limit --spare --load --dump --history --stats -h --help' ;;
+        run) words='--large --load --dump --signed -h --help' ;;
+        serve) words='--spare --large --load --dump -h --help' ;;
+        replay) words='--spare --large --load --history --explain -h --help' ;;
+        schedule) words='--nodes --slots --window --limit --spare --large --explain --lanes -h --help' ;;
+        stress) words='--nodes --slots --window --limit --spare --large --load --dump --history --stats -h --help' ;;
         help) words='check explain asm dis encode run serve replay schedule stress' ;;
         *) words= ;;
     esac
