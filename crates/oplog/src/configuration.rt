@@ -76,6 +76,18 @@ pub struct Config {
 
 impl Config {
     /// Whether each number is within its limits.
+    ///
+    /// # Examples
+    ///
+    /// ```
+    /// use oplog::Config;
+    ///
+    /// let config = Config { nodes: 2, slots: 3, window: 64, limit: 1_000_000, spare: 4 };
+    /// assert!(rt; config.is_within_limits());
+    /// // The window of a configuration has 4,096 records at most.
+    /// let wide = Config { window: 4_097, ..config };
+    /// assert!(rt; !wide.is_within_limits());
+    /// ```
     pub fn is_within_limits(&self) -> bool
         ensures limits { IsTrue result ↔ IsConfig self.now }
     {
@@ -89,6 +101,17 @@ impl Config {
     }
 
     /// The sizes of the configuration, as the parts of a store take them.
+    ///
+    /// # Examples
+    ///
+    /// ```
+    /// use oplog::{Config, Sizes};
+    ///
+    /// let config = Config { nodes: 2, slots: 3, window: 64, limit: 1_000_000, spare: 4 };
+    /// let sizes = config.sizes();
+    /// assert_eq!(rt; sizes, Sizes { nodes: 2, slots: 3, window: 64, limit: 1_000_000, spare: 4 });
+    /// assert!(rt; sizes.is_within_limits());
+    /// ```
     pub fn sizes(&self) -> Sizes
         ensures sizes { result ≡ sizes_in self.now }
         ensures within { IsConfig self.now → AreSizes result }
@@ -104,6 +127,17 @@ impl Config {
 }
 
 /// The sizes of a store as its parts take them: those of a [`Config`], or others, whose history may have up to [`ENDLESS`] records.
+///
+/// # Examples
+///
+/// ```
+/// use oplog::{Config, ENDLESS, Sizes};
+///
+/// let config = Config { nodes: 2, slots: 3, window: 64, limit: 1_000_000, spare: 4 };
+/// let endless = Sizes { limit: ENDLESS, ..config.sizes() };
+/// assert!(rt; endless.is_within_limits());
+/// assert_eq!(rt; (endless.nodes, endless.slots, endless.window), (2, 3, 64));
+/// ```
 #[derive(Clone, Copy, Debug, PartialEq, Eq)]
 pub struct Sizes {
     /// Nodes, each with a replica of the maps: 1 to [`MAX_NODES`].
@@ -120,6 +154,17 @@ pub struct Sizes {
 
 impl Sizes {
     /// Whether each size is within its limits.
+    ///
+    /// # Examples
+    ///
+    /// ```
+    /// use oplog::{ENDLESS, Sizes};
+    ///
+    /// let sizes = Sizes { nodes: 2, slots: 3, window: 1_048_576, limit: ENDLESS, spare: 4 };
+    /// assert!(rt; sizes.is_within_limits());
+    /// let none = Sizes { nodes: 0, ..sizes };
+    /// assert!(rt; !none.is_within_limits());
+    /// ```
     pub fn is_within_limits(&self) -> bool
         ensures limits { IsTrue result ↔ AreSizes self.now }
     {
@@ -134,6 +179,15 @@ impl Sizes {
 }
 
 /// Why a store is not opened.
+///
+/// # Examples
+///
+/// ```
+/// use oplog::OpenError;
+///
+/// assert_eq!(rt; OpenError::OutOfLimits.number(), 1);
+/// assert!(rt; OpenError::NoMemory != OpenError::OtherState);
+/// ```
 #[derive(Clone, Copy, Debug, PartialEq, Eq, Error)]
 pub enum OpenError {
     /// O1: a number of the configuration is out of its limits.
@@ -149,6 +203,16 @@ pub enum OpenError {
 
 impl OpenError {
     /// The number, 1 to 3, that a refusal shows after its letter O.
+    ///
+    /// # Examples
+    ///
+    /// ```
+    /// use oplog::OpenError;
+    ///
+    /// assert_eq!(rt; OpenError::OutOfLimits.number(), 1);
+    /// assert_eq!(rt; OpenError::NoMemory.number(), 2);
+    /// assert_eq!(rt; OpenError::OtherState.number(), 3);
+    /// ```
     pub fn number(self) -> u8
         ensures number { result ≡ open_fault_number self }
     {
