@@ -14,6 +14,24 @@ use std::marker::Model;
 use store_steps::Value;
 
 /// What a closed store leaves: its catalogue, its log, and the replica of each node.
+///
+/// # Examples
+///
+/// ```
+/// use store::{Config, Store, load_manifest};
+///
+/// let manifest = "map array 8 16\nprogram five update 0 five.hex\n";
+/// let files = [("five.hex", "b7000000050000009500000000000000")]; // a program that replies 5
+/// let catalogue = load_manifest(rt.alloc(), manifest, &files)?;
+/// let config = Config { nodes: 1, slots: 1, window: 16, limit: 100, spare: 0 };
+/// let (store, mut sessions) = Store::open(rt.alloc(), config, catalogue)?;
+///
+/// let answer = sessions[0].invoke(&rt, &store, 0, &[]);
+/// let closed = match store.close(sessions) { Ok(closed) => closed, Err(_) => unreachable!() };
+/// assert_eq!(rt; answer.map(|it| it.reply), Ok(5));
+/// assert_eq!(rt; closed.log().tail(), 1);
+/// assert_eq!(rt; closed.replica(0).map(|it| it.tail()), Some(1));
+/// ```
 #[derive(Drop)]
 pub struct Closed {
     catalogue: Catalogue,
@@ -55,6 +73,22 @@ impl Closed {
     }
 
     /// The maps and programs that it was opened with.
+    ///
+    /// # Examples
+    ///
+    /// ```
+    /// use store::{Config, Store, load_manifest};
+    ///
+    /// let manifest = "map array 8 16\nprogram five update 0 five.hex\n";
+    /// let files = [("five.hex", "b7000000050000009500000000000000")]; // a program that replies 5
+    /// let catalogue = load_manifest(rt.alloc(), manifest, &files)?;
+    /// let config = Config { nodes: 1, slots: 1, window: 16, limit: 100, spare: 0 };
+    /// let (store, sessions) = Store::open(rt.alloc(), config, catalogue)?;
+    ///
+    /// let closed = match store.close(sessions) { Ok(closed) => closed, Err(_) => unreachable!() };
+    /// assert_eq!(rt; closed.catalogue().number("five"), Some(0));
+    /// assert_eq!(rt; closed.catalogue().number("six"), None);
+    /// ```
     pub fn catalogue(&self) -> &Catalogue
         ensures catalogue { result.now ≡ self.now.catalogue }
     {
@@ -63,6 +97,25 @@ impl Closed {
 
     /// The state after the whole history, which a store of the same catalogue may be opened on, and the catalogue. What the log has not
     /// dropped is performed once more; no memory is taken.
+    ///
+    /// # Examples
+    ///
+    /// ```
+    /// use store::{Answer, Config, Store, load_manifest};
+    ///
+    /// let manifest = "map hash 1 2 16\nprogram put update 2 put.hex\n"; // it puts its argument under the argument's first byte
+    /// let files = [("put.hex", "bf12000000000000bf1300000000000018510000000000000000000000000000b70400000000000085000000020000009500000000000000")];
+    /// let catalogue = load_manifest(rt.alloc(), manifest, &files)?;
+    /// let config = Config { nodes: 1, slots: 1, window: 16, limit: 100, spare: 0 };
+    /// let (store, mut sessions) = Store::open(rt.alloc(), config, catalogue)?;
+    ///
+    /// let answer = sessions[0].invoke(&rt, &store, 0, &[7, 9]);
+    /// let closed = match store.close(sessions) { Ok(closed) => closed, Err(_) => unreachable!() };
+    /// let (state, catalogue) = closed.into_state();
+    /// assert_eq!(rt; answer, Ok(Answer { index: 0, reply: 0 }));
+    /// assert_eq!(rt; state.maps().len(0), 1);
+    /// assert_eq!(rt; catalogue.number("put"), Some(0));
+    /// ```
     pub fn into_state(self) -> (StoreState, Catalogue)
         ensures state { result.0 ≡ last_state self }
         ensures catalogue { result.1 ≡ self.catalogue }
@@ -80,6 +133,23 @@ impl Closed {
     }
 
     /// The log.
+    ///
+    /// # Examples
+    ///
+    /// ```
+    /// use store::{Answer, Config, Store, load_manifest};
+    ///
+    /// let manifest = "map array 8 16\nprogram five update 0 five.hex\n";
+    /// let files = [("five.hex", "b7000000050000009500000000000000")]; // a program that replies 5
+    /// let catalogue = load_manifest(rt.alloc(), manifest, &files)?;
+    /// let config = Config { nodes: 1, slots: 1, window: 16, limit: 100, spare: 0 };
+    /// let (store, mut sessions) = Store::open(rt.alloc(), config, catalogue)?;
+    ///
+    /// let answer = sessions[0].invoke(&rt, &store, 0, &[]);
+    /// let closed = match store.close(sessions) { Ok(closed) => closed, Err(_) => unreachable!() };
+    /// assert_eq!(rt; answer, Ok(Answer { index: 0, reply: 5 }));
+    /// assert_eq!(rt; closed.log().tail(), 1);
+    /// ```
     pub fn log(&self) -> &LogState
         ensures log { result.now ≡ self.now.log }
     {
@@ -90,6 +160,25 @@ impl Closed {
     }
 
     /// The replica of a node, from 0; `None` past the last.
+    ///
+    /// # Examples
+    ///
+    /// ```
+    /// use store::{Config, Store, load_manifest};
+    ///
+    /// let manifest = "map array 8 16\nprogram five update 0 five.hex\n";
+    /// let files = [("five.hex", "b7000000050000009500000000000000")]; // a program that replies 5
+    /// let catalogue = load_manifest(rt.alloc(), manifest, &files)?;
+    /// let config = Config { nodes: 2, slots: 1, window: 16, limit: 100, spare: 0 };
+    /// let (store, mut sessions) = Store::open(rt.alloc(), config, catalogue)?;
+    ///
+    /// let answer = sessions[0].invoke(&rt, &store, 0, &[]);
+    /// let closed = match store.close(sessions) { Ok(closed) => closed, Err(_) => unreachable!() };
+    /// assert_eq!(rt; answer.map(|it| it.reply), Ok(5));
+    /// assert_eq!(rt; closed.replica(0).map(|it| it.tail()), Some(1));
+    /// assert_eq!(rt; closed.replica(1).map(|it| it.tail()), Some(0)); // its session asked for nothing
+    /// assert!(rt; closed.replica(2).is_none());
+    /// ```
     pub fn replica(&self, node: u32) -> Option<&Replica>
         ensures replica { option_map (λ r. r.now) result ≡ slice_get self.now.replicas node }
     {
