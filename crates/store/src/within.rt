@@ -26,6 +26,22 @@ use std::sync::Wait;
 use verifier::{Accepted, Mode, Refused, VerifyFault};
 
 /// A program that is to be installed, and the maps that it may name.
+///
+/// # Examples
+///
+/// ```
+/// use store::{Answer, Config, Confined, Mode, Store, load_manifest};
+///
+/// let catalogue = load_manifest(rt.alloc(), "map array 8 16\n", &[])?;
+/// let config = Config { nodes: 1, slots: 1, window: 16, limit: 100, spare: 1 };
+/// let (store, mut sessions) = Store::open(rt.alloc(), config, catalogue)?;
+///
+/// let six = [0xb7, 0, 0, 0, 6, 0, 0, 0, 0x95, 0, 0, 0, 0, 0, 0, 0]; // a program that replies 6, and names no map
+/// let wanted = Confined { maps: 0, mode: Mode::Read, arg_len: 0, bytes: &six };
+/// let placed = sessions[0].install_within(&rt, &store, wanted);
+/// let _closed = match store.close(sessions) { Ok(closed) => closed, Err(_) => unreachable!() };
+/// assert_eq!(rt; placed, Ok(Answer { index: 0, reply: 0 }));
+/// ```
 #[derive(Clone, Copy)]
 pub struct Confined<'a> {
     /// The maps that it may name: bit m stands for map m. Bits of maps that the store hasn't got say nothing.
@@ -89,6 +105,25 @@ impl Session {
     ///
     /// S6, S7 and S8 as with `install`. Then S8 with V16 where the program names a map that it may not, at the first slot that does. Nothing is
     /// done then. S4: the history has all its records, and this request has none. The session goes on after each.
+    ///
+    /// # Examples
+    ///
+    /// ```
+    /// use store::{Answer, Config, Confined, Mode, Store, load_manifest};
+    ///
+    /// let catalogue = load_manifest(rt.alloc(), "map array 8 16\nmap array 8 16\n", &[])?;
+    /// let config = Config { nodes: 1, slots: 1, window: 16, limit: 100, spare: 1 };
+    /// let (store, mut sessions) = Store::open(rt.alloc(), config, catalogue)?;
+    ///
+    /// // ldmap r1, 1; mov64 r0, 0; exit
+    /// let program = [0x18, 0x51, 0, 0, 1, 0, 0, 0, 0, 0, 0, 0, 0, 0, 0, 0, 0xb7, 0, 0, 0, 0, 0, 0, 0, 0x95, 0, 0, 0, 0, 0, 0, 0];
+    /// let wanted = Confined { maps: 0b01, mode: Mode::Read, arg_len: 0, bytes: &program };
+    /// let refused = sessions[0].install_within(&rt, &store, wanted);
+    /// let placed = sessions[0].install_within(&rt, &store, Confined { maps: 0b10, ..wanted });
+    /// let _closed = match store.close(sessions) { Ok(closed) => closed, Err(_) => unreachable!() };
+    /// assert_eq!(rt; refused.err().map(|it| it.number()), Some(8));
+    /// assert_eq!(rt; placed, Ok(Answer { index: 0, reply: 0 }));
+    /// ```
     pub fn install_within<R: Wait>(
         &mut self,
         rt: &R,
@@ -116,6 +151,26 @@ impl Polled {
     /// # Errors
     ///
     /// S6, S7 or S8 as with [`Session::install_within`]: nothing is done then.
+    ///
+    /// # Examples
+    ///
+    /// ```
+    /// use store::{Answer, Config, Confined, Mode, Polled, Store, load_manifest};
+    ///
+    /// let catalogue = load_manifest(rt.alloc(), "map array 8 16\nmap array 8 16\n", &[])?;
+    /// let config = Config { nodes: 1, slots: 1, window: 16, limit: 100, spare: 1 };
+    /// let (store, mut sessions) = Store::open(rt.alloc(), config, catalogue)?;
+    /// let mut polled = Polled::new(sessions.remove(0));
+    /// sessions.destroy_empty();
+    ///
+    /// // ldmap r1, 1; mov64 r0, 0; exit
+    /// let program = [0x18, 0x51, 0, 0, 1, 0, 0, 0, 0, 0, 0, 0, 0, 0, 0, 0, 0xb7, 0, 0, 0, 0, 0, 0, 0, 0x95, 0, 0, 0, 0, 0, 0, 0];
+    /// let wanted = Confined { maps: 0b01, mode: Mode::Read, arg_len: 0, bytes: &program };
+    /// let refused = polled.try_install_within(&store, wanted).err();
+    /// assert_eq!(rt; refused.map(|it| it.number()), Some(8));
+    /// assert_eq!(rt; polled.try_install_within(&store, Confined { maps: 0b10, ..wanted })?, Some(()));
+    /// assert_eq!(rt; polled.try_complete(&store), Some(Ok(Answer { index: 0, reply: 0 })));
+    /// ```
     pub fn try_install_within(
         &mut self,
         store: &Store,
