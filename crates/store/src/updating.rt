@@ -59,6 +59,23 @@ impl Polled {
     /// # Errors
     ///
     /// As with [`try_post`](Polled::try_post).
+    ///
+    /// # Examples
+    ///
+    /// ```
+    /// use store::{Answer, Config, Polled, Store, load_manifest};
+    ///
+    /// let manifest = "map array 8 16\nprogram five update 0 five.hex\n";
+    /// let files = [("five.hex", "b7000000050000009500000000000000")]; // a program that replies 5
+    /// let catalogue = load_manifest(rt.alloc(), manifest, &files)?;
+    /// let config = Config { nodes: 1, slots: 1, window: 16, limit: 100, spare: 0 };
+    /// let (store, mut sessions) = Store::open(rt.alloc(), config, catalogue)?;
+    /// let mut polled = Polled::new(sessions.remove(0));
+    /// sessions.destroy_empty();
+    ///
+    /// assert_eq!(rt; polled.try_update(&store, 0, &[])?, Some(()));
+    /// assert_eq!(rt; polled.try_complete(&store), Some(Ok(Answer { index: 0, reply: 5 })));
+    /// ```
     pub fn try_update(
         &mut self,
         store: &Store,
