@@ -40,6 +40,24 @@ use verifier::Mode;
 
 /// What a thread updates and reads a store with: one slot of one node. It moves to a thread, and has no `Drop`: it ends in
 /// `Store::close`.
+///
+/// # Examples
+///
+/// ```
+/// use store::{Answer, Config, Store, load_manifest};
+///
+/// let manifest = "map array 8 16\nprogram five update 0 five.hex\n";
+/// let files = [("five.hex", "b7000000050000009500000000000000")]; // a program that replies 5
+/// let catalogue = load_manifest(rt.alloc(), manifest, &files)?;
+/// let config = Config { nodes: 1, slots: 1, window: 16, limit: 100, spare: 0 };
+/// let (store, mut sessions) = Store::open(rt.alloc(), config, catalogue)?;
+/// let mut session = sessions.remove(0);
+///
+/// let answer = session.invoke(&rt, &store, 0, &[]);
+/// sessions.push_reserved(session); // the list that it came in has room for it
+/// let _closed = match store.close(sessions) { Ok(closed) => closed, Err(_) => unreachable!() };
+/// assert_eq!(rt; answer, Ok(Answer { index: 0, reply: 5 }));
+/// ```
 pub struct Session {
     seat: Seat<Value>,
     caller: Caller,
@@ -110,6 +128,20 @@ impl Session {
 
     /// Gives the session's seat and slot, to make its steps one by one. A seat that is let go leaves the store without this session, so that it
     /// can't be closed.
+    ///
+    /// # Examples
+    ///
+    /// ```
+    /// use store::{Config, Store, load_manifest};
+    ///
+    /// let catalogue = load_manifest(rt.alloc(), "map array 8 16\n", &[])?;
+    /// let config = Config { nodes: 1, slots: 1, window: 16, limit: 100, spare: 0 };
+    /// let (_store, mut sessions) = Store::open(rt.alloc(), config, catalogue)?;
+    ///
+    /// let (_seat, caller) = sessions.remove(0).into_parts();
+    /// sessions.destroy_empty();
+    /// assert_eq!(rt; (caller.node, caller.slot), (0, 0));
+    /// ```
     pub fn into_parts(self) -> (Seat<Value>, Caller)
         ensures shelf { result.0.shelf ≡ self.shelf }
         ensures known { result.0.sessions ≡ known_of self ∷ [] }
@@ -120,6 +152,25 @@ impl Session {
     }
 
     /// What the session has combined since it was opened or came back from a [`Polled`](crate::Polled), which counts nothing. No clause speaks of it.
+    ///
+    /// # Examples
+    ///
+    /// ```
+    /// use store::{Batches, Config, Store, load_manifest};
+    ///
+    /// let manifest = "map array 8 16\nprogram five update 0 five.hex\n";
+    /// let files = [("five.hex", "b7000000050000009500000000000000")]; // a program that replies 5
+    /// let catalogue = load_manifest(rt.alloc(), manifest, &files)?;
+    /// let config = Config { nodes: 1, slots: 1, window: 16, limit: 100, spare: 0 };
+    /// let (store, mut sessions) = Store::open(rt.alloc(), config, catalogue)?;
+    ///
+    /// let first = sessions[0].invoke(&rt, &store, 0, &[]);
+    /// let second = sessions[0].invoke(&rt, &store, 0, &[]);
+    /// let batches = sessions[0].batches();
+    /// let _closed = match store.close(sessions) { Ok(closed) => closed, Err(_) => unreachable!() };
+    /// assert_eq!(rt; (first.is_ok(), second.is_ok()), (true, true));
+    /// assert_eq!(rt; batches, Batches { count: 2, requests: 2, largest: 1 });
+    /// ```
     pub fn batches(&self) -> Batches {
         self.combining.batches
     }
@@ -186,6 +237,24 @@ impl Session {
     ///
     /// S1 unknown program, S2 argument length, S3 not an update: nothing is done then. S4: the history has all its records,
     /// and this request has none. The session goes on after each.
+    ///
+    /// # Examples
+    ///
+    /// ```
+    /// use store::{Answer, Config, Store, StoreRefused, load_manifest};
+    ///
+    /// let manifest = "map array 8 16\nprogram five update 0 five.hex\n";
+    /// let files = [("five.hex", "b7000000050000009500000000000000")]; // a program that replies 5
+    /// let catalogue = load_manifest(rt.alloc(), manifest, &files)?;
+    /// let config = Config { nodes: 1, slots: 1, window: 16, limit: 100, spare: 0 };
+    /// let (store, mut sessions) = Store::open(rt.alloc(), config, catalogue)?;
+    ///
+    /// let answer = sessions[0].invoke(&rt, &store, 0, &[]);
+    /// let refused = sessions[0].invoke(&rt, &store, 1, &[]);
+    /// let _closed = match store.close(sessions) { Ok(closed) => closed, Err(_) => unreachable!() };
+    /// assert_eq!(rt; answer, Ok(Answer { index: 0, reply: 5 }));
+    /// assert_eq!(rt; refused, Err(StoreRefused::UnknownProgram));
+    /// ```
     pub fn invoke<R: Wait>(
         &mut self,
         rt: &R,
@@ -217,6 +286,24 @@ impl Session {
     /// # Errors
     ///
     /// As with [`invoke`](Session::invoke).
+    ///
+    /// # Examples
+    ///
+    /// ```
+    /// use store::{Answer, Config, Store, StoreRefused, load_manifest};
+    ///
+    /// let manifest = "map array 8 16\nprogram five update 0 five.hex\n";
+    /// let files = [("five.hex", "b7000000050000009500000000000000")]; // a program that replies 5
+    /// let catalogue = load_manifest(rt.alloc(), manifest, &files)?;
+    /// let config = Config { nodes: 1, slots: 1, window: 16, limit: 100, spare: 0 };
+    /// let (store, mut sessions) = Store::open(rt.alloc(), config, catalogue)?;
+    ///
+    /// let answer = sessions[0].update(&rt, &store, 0, &[]);
+    /// let refused = sessions[0].update(&rt, &store, 0, &[1]);
+    /// let _closed = match store.close(sessions) { Ok(closed) => closed, Err(_) => unreachable!() };
+    /// assert_eq!(rt; answer, Ok(Answer { index: 0, reply: 5 }));
+    /// assert_eq!(rt; refused, Err(StoreRefused::ArgumentLength));
+    /// ```
     pub fn update<R: Wait>(
         &mut self,
         rt: &R,
@@ -257,27 +344,16 @@ impl Session {
     /// ```
     /// use store::{Answer, Config, Mode, ReadAnswer, Store, load_manifest};
     ///
-    /// let manifest = "map array 8 16\nprogram set update 0 five.hex\nprogram see read 0 five.hex\n";
-    /// let files = [("five.hex", "b7000000050000009500000000000000")]; // a program that replies 5
-    /// let catalogue = load_manifest(rt.alloc(), manifest, &files)?;
+    /// let catalogue = load_manifest(rt.alloc(), "map array 8 16\n", &[])?;
     /// let config = Config { nodes: 1, slots: 1, window: 16, limit: 100, spare: 1 };
     /// let (store, mut sessions) = Store::open(rt.alloc(), config, catalogue)?;
-    /// let Some(mut session) = sessions.pop() else { unreachable!() };
     ///
-    /// // The catalogue has programs 0 and 1, so the first place is number 2.
-    /// let six = [0xb7, 0, 0, 0, 6, 0, 0, 0, 0x95, 0, 0, 0, 0, 0, 0, 0];
-    /// let placed = session.install(&rt, &store, Mode::Read, 0, &six);
-    /// let seen = session.read(&rt, &store, 2, &[]);
-    ///
-    /// // `close` spends the session. The list that it came in has room for it.
-    /// sessions.push_reserved(session);
-    /// let closed = match store.close(sessions) {
-    ///     Ok(closed) => closed,
-    ///     Err(_) => unreachable!(),
-    /// };
-    /// assert_eq!(rt; placed, Ok(Answer { index: 0, reply: 2 }));
+    /// let six = [0xb7, 0, 0, 0, 6, 0, 0, 0, 0x95, 0, 0, 0, 0, 0, 0, 0]; // a program that replies 6
+    /// let placed = sessions[0].install(&rt, &store, Mode::Read, 0, &six);
+    /// let seen = sessions[0].read(&rt, &store, 0, &[]);
+    /// let _closed = match store.close(sessions) { Ok(closed) => closed, Err(_) => unreachable!() };
+    /// assert_eq!(rt; placed, Ok(Answer { index: 0, reply: 0 })); // the catalogue has no program, so the first place is number 0
     /// assert_eq!(rt; seen, Ok(ReadAnswer { point: 1, reply: 6 }));
-    /// assert_eq!(rt; closed.log().tail(), 1);
     /// ```
     pub fn install<R: Wait>(
         &mut self,
@@ -339,6 +415,22 @@ impl Session {
     /// # Errors
     ///
     /// S1 unknown program, S2 argument length, S3 not a read: nothing is done then.
+    ///
+    /// # Examples
+    ///
+    /// ```
+    /// use store::{Config, ReadAnswer, Store, load_manifest};
+    ///
+    /// let manifest = "map array 8 16\nprogram five read 0 five.hex\n";
+    /// let files = [("five.hex", "b7000000050000009500000000000000")]; // a program that replies 5
+    /// let catalogue = load_manifest(rt.alloc(), manifest, &files)?;
+    /// let config = Config { nodes: 1, slots: 1, window: 16, limit: 100, spare: 0 };
+    /// let (store, mut sessions) = Store::open(rt.alloc(), config, catalogue)?;
+    ///
+    /// let seen = sessions[0].read(&rt, &store, 0, &[]);
+    /// let _closed = match store.close(sessions) { Ok(closed) => closed, Err(_) => unreachable!() };
+    /// assert_eq!(rt; seen, Ok(ReadAnswer { point: 0, reply: 5 }));
+    /// ```
     pub fn read<R: Wait>(
         &mut self,
         rt: &R,
@@ -368,6 +460,25 @@ impl Session {
     /// # Errors
     ///
     /// The first question that [`read`](Session::read) refuses, by S1 to S3: none is answered then, and nothing is done.
+    ///
+    /// # Examples
+    ///
+    /// ```
+    /// use store::{Config, Question, Store, load_manifest};
+    ///
+    /// let manifest = "map array 8 16\nprogram five read 0 five.hex\nprogram six read 0 six.hex\n";
+    /// let files = [("five.hex", "b7000000050000009500000000000000"), ("six.hex", "b7000000060000009500000000000000")];
+    /// let catalogue = load_manifest(rt.alloc(), manifest, &files)?;
+    /// let config = Config { nodes: 1, slots: 1, window: 16, limit: 100, spare: 0 };
+    /// let (store, mut sessions) = Store::open(rt.alloc(), config, catalogue)?;
+    ///
+    /// let questions = [Question { program: 0, argument: &[] }, Question { program: 1, argument: &[] }];
+    /// let mut replies = [0u64; 2];
+    /// let point = sessions[0].read_each(&rt, &store, &questions, &mut replies);
+    /// let _closed = match store.close(sessions) { Ok(closed) => closed, Err(_) => unreachable!() };
+    /// assert_eq!(rt; point, Ok(0));
+    /// assert_eq!(rt; replies, [5, 6]);
+    /// ```
     pub fn read_each<R: Wait>(
         &mut self,
         rt: &R,
@@ -399,6 +510,26 @@ impl Session {
     /// # Errors
     ///
     /// S9 unknown map, S10 unknown place: nothing is done then.
+    ///
+    /// # Examples
+    ///
+    /// ```
+    /// use store::{Beginning, Config, Scan, Store, load_manifest};
+    ///
+    /// let manifest = "map hash 1 2 16\nprogram put update 2 put.hex\n"; // it puts its argument under the argument's first byte
+    /// let files = [("put.hex", "bf12000000000000bf1300000000000018510000000000000000000000000000b70400000000000085000000020000009500000000000000")];
+    /// let catalogue = load_manifest(rt.alloc(), manifest, &files)?;
+    /// let config = Config { nodes: 1, slots: 1, window: 16, limit: 100, spare: 0 };
+    /// let (store, mut sessions) = Store::open(rt.alloc(), config, catalogue)?;
+    ///
+    /// let answer = sessions[0].invoke(&rt, &store, 0, &[7, 9]);
+    /// let (mut keys, mut values) = ([0u8; 16], [0u8; 32]);
+    /// let scan = sessions[0].scan(&rt, &store, Beginning { map: 0, from: 0 }, &mut keys, &mut values);
+    /// let _closed = match store.close(sessions) { Ok(closed) => closed, Err(_) => unreachable!() };
+    /// assert_eq!(rt; answer.map(|it| it.reply), Ok(0));
+    /// assert_eq!(rt; scan, Ok(Scan { point: 1, count: 1, next: None }));
+    /// assert_eq!(rt; (keys[0], values[0], values[1]), (7, 7, 9));
+    /// ```
     pub fn scan<R: Wait>(
         &mut self,
         rt: &R,
@@ -437,6 +568,26 @@ impl Session {
     /// # Errors
     ///
     /// S9 unknown map, S11 key length, S12 value length: nothing is done then.
+    ///
+    /// # Examples
+    ///
+    /// ```
+    /// use store::{Config, Lookup, MapKey, Store, load_manifest};
+    ///
+    /// let manifest = "map hash 1 2 16\nprogram put update 2 put.hex\n"; // it puts its argument under the argument's first byte
+    /// let files = [("put.hex", "bf12000000000000bf1300000000000018510000000000000000000000000000b70400000000000085000000020000009500000000000000")];
+    /// let catalogue = load_manifest(rt.alloc(), manifest, &files)?;
+    /// let config = Config { nodes: 1, slots: 1, window: 16, limit: 100, spare: 0 };
+    /// let (store, mut sessions) = Store::open(rt.alloc(), config, catalogue)?;
+    ///
+    /// let answer = sessions[0].invoke(&rt, &store, 0, &[7, 9]);
+    /// let mut value = [0u8; 2];
+    /// let found = sessions[0].get(&rt, &store, MapKey { map: 0, key: &[7] }, &mut value);
+    /// let _closed = match store.close(sessions) { Ok(closed) => closed, Err(_) => unreachable!() };
+    /// assert_eq!(rt; answer.map(|it| it.reply), Ok(0));
+    /// assert_eq!(rt; found, Ok(Lookup { point: 1, found: true }));
+    /// assert_eq!(rt; value, [7, 9]);
+    /// ```
     pub fn get<R: Wait>(
         &mut self,
         rt: &R,
@@ -461,6 +612,25 @@ impl Session {
     /// these have seen everything that was completed when the call began. The state has the sizes of the store's catalogue
     /// ([`StoreState::is_sized_for`]), as one that was opened for it. Other sessions go on; those of the same node wait while the maps are copied. Takes
     /// no memory.
+    ///
+    /// # Examples
+    ///
+    /// ```
+    /// use store::{Config, Store, StoreState, load_manifest};
+    ///
+    /// let manifest = "map hash 1 2 16\nprogram put update 2 put.hex\n"; // it puts its argument under the argument's first byte
+    /// let files = [("put.hex", "bf12000000000000bf1300000000000018510000000000000000000000000000b70400000000000085000000020000009500000000000000")];
+    /// let catalogue = load_manifest(rt.alloc(), manifest, &files)?;
+    /// let mut state = StoreState::open(rt.alloc(), &catalogue)?;
+    /// let config = Config { nodes: 1, slots: 1, window: 16, limit: 100, spare: 0 };
+    /// let (store, mut sessions) = Store::open(rt.alloc(), config, catalogue)?;
+    ///
+    /// let answer = sessions[0].invoke(&rt, &store, 0, &[7, 9]);
+    /// let point = sessions[0].snapshot(&rt, &store, &mut state);
+    /// let _closed = match store.close(sessions) { Ok(closed) => closed, Err(_) => unreachable!() };
+    /// assert_eq!(rt; answer.map(|it| it.reply), Ok(0));
+    /// assert_eq!(rt; (point, state.maps().len(0)), (1, 1));
+    /// ```
     pub fn snapshot<R: Wait>(&mut self, rt: &R, store: &Store, into: &mut StoreState) -> u64
         requires own { IsOf store.now self.old }
         requires sizes { sizes_of into.old ≡ sizes_for store.now.catalogue }
