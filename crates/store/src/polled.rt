@@ -50,6 +50,23 @@ const DEEDS: usize = 16;
 ///
 /// Drop it only when it waits for no answer ([`is_waiting`](Polled::is_waiting)). An update that is on its way may have claimed the other requests
 /// of its node. If the session is dropped then, these and all later updates of the node are never answered.
+///
+/// # Examples
+///
+/// ```
+/// use store::{Answer, Config, Polled, Store, load_manifest};
+///
+/// let manifest = "map array 8 16\nprogram five update 0 five.hex\n";
+/// let files = [("five.hex", "b7000000050000009500000000000000")]; // a program that replies 5
+/// let catalogue = load_manifest(rt.alloc(), manifest, &files)?;
+/// let config = Config { nodes: 1, slots: 1, window: 16, limit: 100, spare: 0 };
+/// let (store, mut sessions) = Store::open(rt.alloc(), config, catalogue)?;
+/// let mut polled = Polled::new(sessions.remove(0));
+/// sessions.destroy_empty();
+///
+/// assert_eq!(rt; polled.try_post(&store, 0, &[])?, Some(()));
+/// assert_eq!(rt; polled.try_complete(&store), Some(Ok(Answer { index: 0, reply: 5 }))); // nobody else holds a place
+/// ```
 #[derive(Drop)]
 pub struct Polled {
     pub(crate) seat: Seat<Value>,
@@ -82,6 +99,22 @@ impl Model for Polled {
 
 impl Polled {
     /// The session, whose calls wait for nobody from now on.
+    ///
+    /// # Examples
+    ///
+    /// ```
+    /// use store::{Config, Polled, ReadAnswer, Store, load_manifest};
+    ///
+    /// let manifest = "map array 8 16\nprogram five read 0 five.hex\n";
+    /// let files = [("five.hex", "b7000000050000009500000000000000")]; // a program that replies 5
+    /// let catalogue = load_manifest(rt.alloc(), manifest, &files)?;
+    /// let config = Config { nodes: 1, slots: 1, window: 16, limit: 100, spare: 0 };
+    /// let (store, mut sessions) = Store::open(rt.alloc(), config, catalogue)?;
+    /// let mut polled = Polled::new(sessions.remove(0));
+    /// sessions.destroy_empty();
+    ///
+    /// assert_eq!(rt; polled.try_read(&store, 0, &[])?, Some(ReadAnswer { point: 0, reply: 5 }));
+    /// ```
     pub fn new(session: Session) -> Polled
         ensures same { result ≡ session }
     {
@@ -98,6 +131,24 @@ impl Polled {
     }
 
     /// The session, whose calls wait for others again, as `Store::close` wants it. No update is out.
+    ///
+    /// # Examples
+    ///
+    /// ```
+    /// use store::{Config, Polled, ReadAnswer, Store, load_manifest};
+    ///
+    /// let manifest = "map array 8 16\nprogram five read 0 five.hex\n";
+    /// let files = [("five.hex", "b7000000050000009500000000000000")]; // a program that replies 5
+    /// let catalogue = load_manifest(rt.alloc(), manifest, &files)?;
+    /// let config = Config { nodes: 1, slots: 1, window: 16, limit: 100, spare: 0 };
+    /// let (store, mut sessions) = Store::open(rt.alloc(), config, catalogue)?;
+    ///
+    /// let mut polled = Polled::new(sessions.remove(0));
+    /// let seen = polled.try_read(&store, 0, &[]);
+    /// sessions.push_reserved(polled.into_session()); // the list that it came in has room for it
+    /// let _closed = match store.close(sessions) { Ok(closed) => closed, Err(_) => unreachable!() };
+    /// assert_eq!(rt; seen, Ok(Some(ReadAnswer { point: 0, reply: 5 })));
+    /// ```
     pub fn into_session(self) -> Session
         requires idle { self.note.pending ≡ None }
         ensures same { result ≡ self }
@@ -115,6 +166,25 @@ impl Polled {
     }
 
     /// Whether it has posted an update that is not answered.
+    ///
+    /// # Examples
+    ///
+    /// ```
+    /// use store::{Config, Polled, Store, load_manifest};
+    ///
+    /// let manifest = "map array 8 16\nprogram five update 0 five.hex\n";
+    /// let files = [("five.hex", "b7000000050000009500000000000000")]; // a program that replies 5
+    /// let catalogue = load_manifest(rt.alloc(), manifest, &files)?;
+    /// let config = Config { nodes: 1, slots: 1, window: 16, limit: 100, spare: 0 };
+    /// let (store, mut sessions) = Store::open(rt.alloc(), config, catalogue)?;
+    /// let mut polled = Polled::new(sessions.remove(0));
+    /// sessions.destroy_empty();
+    ///
+    /// polled.try_post(&store, 0, &[])?;
+    /// assert!(rt; polled.is_waiting());
+    /// assert_eq!(rt; polled.try_complete(&store).map(|it| it.is_ok()), Some(true));
+    /// assert!(rt; !polled.is_waiting());
+    /// ```
     pub fn is_waiting(&self) -> bool
         ensures waiting { MatchOption self.now.note.pending (result ≡ false) (λ _. result ≡ true) }
     {
@@ -170,28 +240,17 @@ impl Polled {
     /// ```
     /// use store::{Answer, Config, Polled, Store, load_manifest};
     ///
-    /// let manifest = "map array 8 16\nprogram set update 0 five.hex\nprogram see read 0 five.hex\n";
+    /// let manifest = "map array 8 16\nprogram five update 0 five.hex\n";
     /// let files = [("five.hex", "b7000000050000009500000000000000")]; // a program that replies 5
     /// let catalogue = load_manifest(rt.alloc(), manifest, &files)?;
-    /// let config = Config { nodes: 1, slots: 1, window: 16, limit: 100, spare: 1 };
+    /// let config = Config { nodes: 1, slots: 1, window: 16, limit: 100, spare: 0 };
     /// let (store, mut sessions) = Store::open(rt.alloc(), config, catalogue)?;
-    /// let Some(mut session) = sessions.pop() else { unreachable!() };
+    /// let mut polled = Polled::new(sessions.remove(0));
+    /// sessions.destroy_empty();
     ///
-    /// let mut polled = Polled::new(session);
-    /// let posted = polled.try_post(&store, 0, &[]);
+    /// assert_eq!(rt; polled.try_post(&store, 0, &[])?, Some(()));
     /// // Nobody else holds a place, so the first try ends the update.
-    /// let answer = polled.try_complete(&store);
-    /// let session = polled.into_session();
-    ///
-    /// // `close` spends the session. The list that it came in has room for it.
-    /// sessions.push_reserved(session);
-    /// let closed = match store.close(sessions) {
-    ///     Ok(closed) => closed,
-    ///     Err(_) => unreachable!(),
-    /// };
-    /// assert_eq!(rt; posted, Ok(Some(())));
-    /// assert_eq!(rt; answer, Some(Ok(Answer { index: 0, reply: 5 })));
-    /// assert_eq!(rt; closed.log().tail(), 1);
+    /// assert_eq!(rt; polled.try_complete(&store), Some(Ok(Answer { index: 0, reply: 5 })));
     /// ```
     pub fn try_post(
         &mut self,
@@ -227,6 +286,23 @@ impl Polled {
     /// # Errors
     ///
     /// S6, S7 or S8 as with [`Session::install`]: nothing is done then.
+    ///
+    /// # Examples
+    ///
+    /// ```
+    /// use store::{Answer, Config, Mode, Polled, ReadAnswer, Store, load_manifest};
+    ///
+    /// let catalogue = load_manifest(rt.alloc(), "map array 8 16\n", &[])?;
+    /// let config = Config { nodes: 1, slots: 1, window: 16, limit: 100, spare: 1 };
+    /// let (store, mut sessions) = Store::open(rt.alloc(), config, catalogue)?;
+    /// let mut polled = Polled::new(sessions.remove(0));
+    /// sessions.destroy_empty();
+    ///
+    /// let six = [0xb7, 0, 0, 0, 6, 0, 0, 0, 0x95, 0, 0, 0, 0, 0, 0, 0]; // a program that replies 6
+    /// assert_eq!(rt; polled.try_install(&store, Mode::Read, 0, &six)?, Some(()));
+    /// assert_eq!(rt; polled.try_complete(&store), Some(Ok(Answer { index: 0, reply: 0 })));
+    /// assert_eq!(rt; polled.try_read(&store, 0, &[])?, Some(ReadAnswer { point: 1, reply: 6 }));
+    /// ```
     pub fn try_install(
         &mut self,
         store: &Store,
@@ -292,6 +368,25 @@ impl Polled {
     /// # Errors
     ///
     /// S4: the history has all its records, and this request has none.
+    ///
+    /// # Examples
+    ///
+    /// ```
+    /// use store::{Config, Polled, Store, StoreRefused, load_manifest};
+    ///
+    /// let manifest = "map array 8 16\nprogram five update 0 five.hex\n";
+    /// let files = [("five.hex", "b7000000050000009500000000000000")]; // a program that replies 5
+    /// let catalogue = load_manifest(rt.alloc(), manifest, &files)?;
+    /// let config = Config { nodes: 1, slots: 1, window: 16, limit: 1, spare: 0 };
+    /// let (store, mut sessions) = Store::open(rt.alloc(), config, catalogue)?;
+    /// let mut polled = Polled::new(sessions.remove(0));
+    /// sessions.destroy_empty();
+    ///
+    /// polled.try_post(&store, 0, &[])?;
+    /// assert_eq!(rt; polled.try_complete(&store).map(|it| it.is_ok()), Some(true));
+    /// polled.try_post(&store, 0, &[])?;
+    /// assert_eq!(rt; polled.try_complete(&store), Some(Err(StoreRefused::Ended))); // the history has one record at most
+    /// ```
     pub fn try_complete(&mut self, store: &Store) -> Option<Result<Answer, StoreRefused>>
         requires own { IsOf store.now self.old }
         requires asked { (o : Pending) × (self.old.note.pending ≡ Some o) }
@@ -352,6 +447,23 @@ impl Polled {
     /// # Errors
     ///
     /// S1 unknown program, S2 argument length, S3 not a read: nothing is done then.
+    ///
+    /// # Examples
+    ///
+    /// ```
+    /// use store::{Config, Polled, ReadAnswer, Store, load_manifest};
+    ///
+    /// let manifest = "map array 8 16\nprogram five read 0 five.hex\n";
+    /// let files = [("five.hex", "b7000000050000009500000000000000")]; // a program that replies 5
+    /// let catalogue = load_manifest(rt.alloc(), manifest, &files)?;
+    /// let config = Config { nodes: 1, slots: 1, window: 16, limit: 100, spare: 0 };
+    /// let (store, mut sessions) = Store::open(rt.alloc(), config, catalogue)?;
+    /// let mut polled = Polled::new(sessions.remove(0));
+    /// sessions.destroy_empty();
+    ///
+    /// assert_eq!(rt; polled.try_read(&store, 0, &[])?, Some(ReadAnswer { point: 0, reply: 5 }));
+    /// assert_eq!(rt; polled.try_read(&store, 1, &[]).err().map(|it| it.number()), Some(1)); // there is one program
+    /// ```
     pub fn try_read(
         &mut self,
         store: &Store,
@@ -380,6 +492,25 @@ impl Polled {
     /// # Errors
     ///
     /// The first question that [`try_read`](Polled::try_read) refuses: none is answered then, and nothing is done.
+    ///
+    /// # Examples
+    ///
+    /// ```
+    /// use store::{Config, Polled, Question, Store, load_manifest};
+    ///
+    /// let manifest = "map array 8 16\nprogram five read 0 five.hex\nprogram six read 0 six.hex\n";
+    /// let files = [("five.hex", "b7000000050000009500000000000000"), ("six.hex", "b7000000060000009500000000000000")];
+    /// let catalogue = load_manifest(rt.alloc(), manifest, &files)?;
+    /// let config = Config { nodes: 1, slots: 1, window: 16, limit: 100, spare: 0 };
+    /// let (store, mut sessions) = Store::open(rt.alloc(), config, catalogue)?;
+    /// let mut polled = Polled::new(sessions.remove(0));
+    /// sessions.destroy_empty();
+    ///
+    /// let questions = [Question { program: 0, argument: &[] }, Question { program: 1, argument: &[] }];
+    /// let mut replies = [0u64; 2];
+    /// assert_eq!(rt; polled.try_read_each(&store, &questions, &mut replies), Ok(Some(0)));
+    /// assert_eq!(rt; replies, [5, 6]);
+    /// ```
     pub fn try_read_each(
         &mut self,
         store: &Store,
@@ -411,6 +542,24 @@ impl Polled {
     /// # Errors
     ///
     /// S9 unknown map, S10 unknown place: nothing is done then.
+    ///
+    /// # Examples
+    ///
+    /// ```
+    /// use store::{Beginning, Config, Polled, Scan, Store, load_manifest};
+    ///
+    /// let catalogue = load_manifest(rt.alloc(), "map array 1 4\n", &[])?;
+    /// let config = Config { nodes: 1, slots: 1, window: 16, limit: 100, spare: 0 };
+    /// let (store, mut sessions) = Store::open(rt.alloc(), config, catalogue)?;
+    /// let mut polled = Polled::new(sessions.remove(0));
+    /// sessions.destroy_empty();
+    ///
+    /// let (mut keys, mut values) = ([9u8; 8], [9u8; 2]);
+    /// let scan = polled.try_scan(&store, Beginning { map: 0, from: 2 }, &mut keys, &mut values)?;
+    /// assert_eq!(rt; scan, Some(Scan { point: 0, count: 2, next: None }));
+    /// assert_eq!(rt; keys, [2, 0, 0, 0, 3, 0, 0, 0]);
+    /// assert_eq!(rt; values, [0, 0]);
+    /// ```
     pub fn try_scan(
         &mut self,
         store: &Store,
@@ -448,6 +597,23 @@ impl Polled {
     /// # Errors
     ///
     /// S9 unknown map, S11 key length, S12 value length: nothing is done then.
+    ///
+    /// # Examples
+    ///
+    /// ```
+    /// use store::{Config, Lookup, MapKey, Polled, Store, load_manifest};
+    ///
+    /// let catalogue = load_manifest(rt.alloc(), "map array 8 16\n", &[])?;
+    /// let config = Config { nodes: 1, slots: 1, window: 16, limit: 100, spare: 0 };
+    /// let (store, mut sessions) = Store::open(rt.alloc(), config, catalogue)?;
+    /// let mut polled = Polled::new(sessions.remove(0));
+    /// sessions.destroy_empty();
+    ///
+    /// let mut value = [9u8; 8];
+    /// let found = polled.try_get(&store, MapKey { map: 0, key: &[3, 0, 0, 0] }, &mut value)?;
+    /// assert_eq!(rt; found, Some(Lookup { point: 0, found: true }));
+    /// assert_eq!(rt; value, [0; 8]); // an array has all its entries from the start
+    /// ```
     pub fn try_get(
         &mut self,
         store: &Store,
@@ -472,6 +638,26 @@ impl Polled {
 
     /// Makes a state the store's at one point of the history, as [`Session::snapshot`] has it, if nobody holds the replica of its node, nor the log
     /// where that replica lacks something. `None` where somebody does: the state is as it was then. No update is out.
+    ///
+    /// # Examples
+    ///
+    /// ```
+    /// use store::{Config, Polled, Store, StoreState, load_manifest};
+    ///
+    /// let manifest = "map hash 1 2 16\nprogram put update 2 put.hex\n"; // it puts its argument under the argument's first byte
+    /// let files = [("put.hex", "bf12000000000000bf1300000000000018510000000000000000000000000000b70400000000000085000000020000009500000000000000")];
+    /// let catalogue = load_manifest(rt.alloc(), manifest, &files)?;
+    /// let mut state = StoreState::open(rt.alloc(), &catalogue)?;
+    /// let config = Config { nodes: 1, slots: 1, window: 16, limit: 100, spare: 0 };
+    /// let (store, mut sessions) = Store::open(rt.alloc(), config, catalogue)?;
+    /// let mut polled = Polled::new(sessions.remove(0));
+    /// sessions.destroy_empty();
+    ///
+    /// polled.try_post(&store, 0, &[7, 9])?;
+    /// assert_eq!(rt; polled.try_complete(&store).map(|it| it.is_ok()), Some(true));
+    /// assert_eq!(rt; polled.try_snapshot(&store, &mut state), Some(1));
+    /// assert_eq!(rt; state.maps().len(0), 1);
+    /// ```
     pub fn try_snapshot(&mut self, store: &Store, into: &mut StoreState) -> Option<u64>
         requires own { IsOf store.now self.old }
         requires idle { self.old.note.pending ≡ None }
