@@ -30,19 +30,12 @@ use store_steps::{Setup, Shared, Value, records_worth};
 /// let manifest = "map array 8 16\nprogram set update 0 five.hex\nprogram see read 0 five.hex\n";
 /// let files = [("five.hex", "b7000000050000009500000000000000")]; // a program that replies 5
 /// let catalogue = load_manifest(rt.alloc(), manifest, &files)?;
-/// let config = Config { nodes: 1, slots: 1, window: 16, limit: 100, spare: 1 };
+/// let config = Config { nodes: 1, slots: 1, window: 16, limit: 100, spare: 0 };
 /// let (store, mut sessions) = Store::open(rt.alloc(), config, catalogue)?;
-/// let Some(mut session) = sessions.pop() else { unreachable!() };
 ///
-/// let answer = session.invoke(&rt, &store, 0, &[]);
-/// let seen = session.read(&rt, &store, 1, &[]);
-///
-/// // `close` spends the session. The list that it came in has room for it.
-/// sessions.push_reserved(session);
-/// let closed = match store.close(sessions) {
-///     Ok(closed) => closed,
-///     Err(_) => unreachable!(),
-/// };
+/// let answer = sessions[0].invoke(&rt, &store, 0, &[]);
+/// let seen = sessions[0].read(&rt, &store, 1, &[]);
+/// let closed = match store.close(sessions) { Ok(closed) => closed, Err(_) => unreachable!() };
 /// assert_eq!(rt; answer, Ok(Answer { index: 0, reply: 5 }));
 /// assert_eq!(rt; seen, Ok(ReadAnswer { point: 1, reply: 5 }));
 /// assert_eq!(rt; closed.log().tail(), 1);
@@ -78,6 +71,21 @@ impl Store {
     /// # Errors
     ///
     /// O1 where a number of the configuration is out of its limits, O2 where there is no memory.
+    ///
+    /// # Examples
+    ///
+    /// ```
+    /// use store::{Config, Store, load_manifest};
+    ///
+    /// let catalogue = load_manifest(rt.alloc(), "map array 8 16\n", &[])?;
+    /// let config = Config { nodes: 2, slots: 3, window: 16, limit: 100, spare: 0 };
+    /// let (store, sessions) = Store::open(rt.alloc(), config, catalogue)?;
+    ///
+    /// let count = sessions.len();
+    /// let closed = match store.close(sessions) { Ok(closed) => closed, Err(_) => unreachable!() };
+    /// assert_eq!(rt; count, 6);
+    /// assert_eq!(rt; closed.log().tail(), 0);
+    /// ```
     pub fn open(
         alloc: Global,
         config: Config,
@@ -102,6 +110,22 @@ impl Store {
     /// # Errors
     ///
     /// O1 where a size is out of its limits, O2 where there is no memory.
+    ///
+    /// # Examples
+    ///
+    /// ```
+    /// use store::{Answer, ENDLESS, Sizes, Store, load_manifest};
+    ///
+    /// let manifest = "map array 8 16\nprogram five update 0 five.hex\n";
+    /// let files = [("five.hex", "b7000000050000009500000000000000")]; // a program that replies 5
+    /// let catalogue = load_manifest(rt.alloc(), manifest, &files)?;
+    /// let sizes = Sizes { nodes: 1, slots: 1, window: 16, limit: ENDLESS, spare: 0 };
+    /// let (store, mut sessions) = Store::open_sized(rt.alloc(), sizes, catalogue)?;
+    ///
+    /// let answer = sessions[0].invoke(&rt, &store, 0, &[]);
+    /// let _closed = match store.close(sessions) { Ok(closed) => closed, Err(_) => unreachable!() };
+    /// assert_eq!(rt; answer, Ok(Answer { index: 0, reply: 5 }));
+    /// ```
     pub fn open_sized(
         alloc: Global,
         sizes: Sizes,
@@ -140,26 +164,16 @@ impl Store {
     /// ```
     /// use store::{Config, ReadAnswer, Store, StoreState, load_manifest};
     ///
-    /// let manifest = "map array 8 16\nprogram see read 0 five.hex\n";
+    /// let manifest = "map array 8 16\nprogram five read 0 five.hex\n";
     /// let files = [("five.hex", "b7000000050000009500000000000000")]; // a program that replies 5
     /// let catalogue = load_manifest(rt.alloc(), manifest, &files)?;
     /// let state = StoreState::open(rt.alloc(), &catalogue)?;
-    /// let config = Config { nodes: 1, slots: 1, window: 16, limit: 100, spare: 1 };
+    /// let config = Config { nodes: 1, slots: 1, window: 16, limit: 100, spare: 0 };
     /// let (store, mut sessions) = Store::open_on(rt.alloc(), config, catalogue, &state)?;
-    /// let Some(mut session) = sessions.pop() else { unreachable!() };
     ///
-    /// // Indices and points count from 0 again.
-    /// let seen = session.read(&rt, &store, 0, &[]);
-    ///
-    /// // `close` spends the session. The list that it came in has room for it.
-    /// sessions.push_reserved(session);
-    /// let closed = match store.close(sessions) {
-    ///     Ok(closed) => closed,
-    ///     Err(_) => unreachable!(),
-    /// };
-    /// let (_, catalogue) = closed.into_state();
-    /// assert_eq!(rt; seen, Ok(ReadAnswer { point: 0, reply: 5 }));
-    /// assert_eq!(rt; catalogue.number("see"), Some(0));
+    /// let seen = sessions[0].read(&rt, &store, 0, &[]);
+    /// let _closed = match store.close(sessions) { Ok(closed) => closed, Err(_) => unreachable!() };
+    /// assert_eq!(rt; seen, Ok(ReadAnswer { point: 0, reply: 5 })); // points count from 0 again
     /// ```
     pub fn open_on(
         alloc: Global,
@@ -187,6 +201,23 @@ impl Store {
     ///
     /// O1 where a size is out of its limits, then O3 where the state has other maps than the catalogue or more programs than there are places, then
     /// O2 where there is no memory.
+    ///
+    /// # Examples
+    ///
+    /// ```
+    /// use store::{ENDLESS, ReadAnswer, Sizes, Store, StoreState, load_manifest};
+    ///
+    /// let manifest = "map array 8 16\nprogram five read 0 five.hex\n";
+    /// let files = [("five.hex", "b7000000050000009500000000000000")]; // a program that replies 5
+    /// let catalogue = load_manifest(rt.alloc(), manifest, &files)?;
+    /// let state = StoreState::open(rt.alloc(), &catalogue)?;
+    /// let sizes = Sizes { nodes: 1, slots: 1, window: 16, limit: ENDLESS, spare: 0 };
+    /// let (store, mut sessions) = Store::open_sized_on(rt.alloc(), sizes, catalogue, &state)?;
+    ///
+    /// let seen = sessions[0].read(&rt, &store, 0, &[]);
+    /// let _closed = match store.close(sessions) { Ok(closed) => closed, Err(_) => unreachable!() };
+    /// assert_eq!(rt; seen, Ok(ReadAnswer { point: 0, reply: 5 }));
+    /// ```
     pub fn open_sized_on(
         alloc: Global,
         sizes: Sizes,
@@ -255,6 +286,22 @@ impl Store {
     /// # Errors
     ///
     /// S5 where a session is missing: the store and the sessions come back.
+    ///
+    /// # Examples
+    ///
+    /// ```
+    /// use store::{Config, Store, load_manifest};
+    ///
+    /// let catalogue = load_manifest(rt.alloc(), "map array 8 16\n", &[])?;
+    /// let config = Config { nodes: 1, slots: 1, window: 16, limit: 100, spare: 0 };
+    /// let (store, sessions) = Store::open(rt.alloc(), config, catalogue)?;
+    ///
+    /// // Without its session the store comes back.
+    /// let Err((store, none)) = store.close(Vec::new(rt.alloc())) else { unreachable!() };
+    /// none.destroy_empty();
+    /// let closed = match store.close(sessions) { Ok(closed) => closed, Err(_) => unreachable!() };
+    /// assert_eq!(rt; closed.log().tail(), 0);
+    /// ```
     pub fn close(self, sessions: Vec<Session>) -> Result<Closed, (Store, Vec<Session>)>
         requires own { AreOf self sessions.items }
         ensures whole { MatchResult result (λ _. length sessions.items ≡ sessions_of self.config) (λ _. length sessions.items ≢ sessions_of self.config) }
@@ -293,6 +340,21 @@ impl Store {
     }
 
     /// What its sessions share, for who makes the steps of a session one by one.
+    ///
+    /// # Examples
+    ///
+    /// ```
+    /// use store::{Config, Store, load_manifest};
+    ///
+    /// let catalogue = load_manifest(rt.alloc(), "map array 8 16\n", &[])?;
+    /// let config = Config { nodes: 2, slots: 3, window: 16, limit: 100, spare: 0 };
+    /// let (store, sessions) = Store::open(rt.alloc(), config, catalogue)?;
+    ///
+    /// let shared = store.shared();
+    /// let (nodes, slots) = (shared.nodes, shared.slots);
+    /// let _closed = match store.close(sessions) { Ok(closed) => closed, Err(_) => unreachable!() };
+    /// assert_eq!(rt; (nodes, slots), (2, 3));
+    /// ```
     pub fn shared(&self) -> Shared<'_>
         ensures shelf { result.shelf.now.id ≡ self.now.id }
         ensures places { result.shelf.now.places ≡ 1 + self.now.config.nodes + self.now.config.nodes }
@@ -310,6 +372,23 @@ impl Store {
     }
 
     /// The maps and programs of the store, and how many places come after them.
+    ///
+    /// # Examples
+    ///
+    /// ```
+    /// use store::{Config, Store, load_manifest};
+    ///
+    /// let manifest = "map array 8 16\nprogram five update 0 five.hex\n";
+    /// let files = [("five.hex", "b7000000050000009500000000000000")]; // a program that replies 5
+    /// let catalogue = load_manifest(rt.alloc(), manifest, &files)?;
+    /// let config = Config { nodes: 1, slots: 1, window: 16, limit: 100, spare: 4 };
+    /// let (store, sessions) = Store::open(rt.alloc(), config, catalogue)?;
+    ///
+    /// let number = store.catalogue().number("five");
+    /// let places = store.catalogue().places();
+    /// let _closed = match store.close(sessions) { Ok(closed) => closed, Err(_) => unreachable!() };
+    /// assert_eq!(rt; (number, places), (Some(0), 4));
+    /// ```
     pub fn catalogue(&self) -> &Catalogue
         ensures catalogue { result.now ≡ self.now.catalogue }
     {
