@@ -185,8 +185,10 @@ impl Sizes {
 /// ```
 /// use oplog::OpenError;
 ///
-/// assert_eq!(rt; OpenError::OutOfLimits.number(), 1);
-/// assert!(rt; OpenError::NoMemory != OpenError::OtherState);
+/// let error = OpenError::NoMemory;
+/// let text = format!(in rt.alloc(); "{error}")?;
+/// assert_eq!(rt; text.as_str(), "O2: no memory");
+/// assert_eq!(rt; error.number(), 2);
 /// ```
 #[derive(Clone, Copy, Debug, PartialEq, Eq, Error)]
 pub enum OpenError {
