@@ -121,7 +121,7 @@ impl Session {
     /// let refused = sessions[0].install_within(&rt, &store, wanted);
     /// let placed = sessions[0].install_within(&rt, &store, Confined { maps: 0b10, ..wanted });
     /// let _closed = match store.close(sessions) { Ok(closed) => closed, Err(_) => unreachable!() };
-    /// assert_eq!(rt; refused.err().map(|it| it.number()), Some(8));
+    /// assert_eq!(rt; refused.err().map(|it| it.number()), Some(8)); // map 1 is not among its maps
     /// assert_eq!(rt; placed, Ok(Answer { index: 0, reply: 0 }));
     /// ```
     pub fn install_within<R: Wait>(
@@ -166,8 +166,7 @@ impl Polled {
     /// // ldmap r1, 1; mov64 r0, 0; exit
     /// let program = [0x18, 0x51, 0, 0, 1, 0, 0, 0, 0, 0, 0, 0, 0, 0, 0, 0, 0xb7, 0, 0, 0, 0, 0, 0, 0, 0x95, 0, 0, 0, 0, 0, 0, 0];
     /// let wanted = Confined { maps: 0b01, mode: Mode::Read, arg_len: 0, bytes: &program };
-    /// let refused = polled.try_install_within(&store, wanted).err();
-    /// assert_eq!(rt; refused.map(|it| it.number()), Some(8));
+    /// assert_eq!(rt; polled.try_install_within(&store, wanted).err().map(|it| it.number()), Some(8)); // map 1 is not among its maps
     /// assert_eq!(rt; polled.try_install_within(&store, Confined { maps: 0b10, ..wanted })?, Some(()));
     /// assert_eq!(rt; polled.try_complete(&store), Some(Ok(Answer { index: 0, reply: 0 })));
     /// ```
