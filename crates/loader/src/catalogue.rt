@@ -55,6 +55,19 @@ impl NamedProgram {
 /// manifest's order. Names are distinct, and there are at most 256 programs. Behind them a number of places stands for programs
 /// that may be installed while the store runs. A store of a catalogue opens on a new state, or on one that the catalogue was said to open
 /// on ([`Catalogue::on`]); of that no copy is kept.
+///
+/// # Examples
+///
+/// ```
+/// use loader::load_manifest;
+///
+/// let files = [("seven.hex", "b7000000070000009500000000000000")]; // mov64 r0, 7; exit
+/// let manifest = "map array 8 16\nprogram see read 0 seven.hex\nprogram set update 4 seven.hex\n";
+/// let catalogue = load_manifest(rt.alloc(), manifest, &files)?;
+/// assert_eq!(rt; (catalogue.shapes().len(), catalogue.len()), (1, 2));
+/// assert_eq!(rt; catalogue.number("set"), Some(1));
+/// assert_eq!(rt; catalogue.program(1).map(|program| program.arg_len()), Some(4));
+/// ```
 #[derive(Drop)]
 pub struct Catalogue {
     shapes: Vec<Shape>,
@@ -101,6 +114,16 @@ impl Catalogue {
     }
 
     /// How many programs there are.
+    ///
+    /// # Examples
+    ///
+    /// ```
+    /// use loader::load_manifest;
+    ///
+    /// let files = [("seven.hex", "b7000000070000009500000000000000")]; // mov64 r0, 7; exit
+    /// let catalogue = load_manifest(rt.alloc(), "map array 8 16\nprogram seven read 0 seven.hex\n", &files)?;
+    /// assert_eq!(rt; catalogue.len(), 1);
+    /// ```
     pub fn len(&self) -> usize
         ensures count { result ≡ length self.now.programs }
         ensures few { result ≤ MAX_PROGRAMS }
@@ -109,6 +132,16 @@ impl Catalogue {
     }
 
     /// How many programs may be installed behind these: a manifest has none.
+    ///
+    /// # Examples
+    ///
+    /// ```
+    /// use loader::load_manifest;
+    ///
+    /// let catalogue = load_manifest(rt.alloc(), "map array 8 16\n", &[])?;
+    /// assert_eq!(rt; catalogue.places(), 0);
+    /// assert_eq!(rt; catalogue.with_places(3).places(), 3);
+    /// ```
     pub fn places(&self) -> usize
         ensures places { result ≡ self.now.places }
         ensures few { result ≤ MOST_SPARE }
@@ -118,6 +151,16 @@ impl Catalogue {
     }
 
     /// Gives the catalogue `places` places for programs to be installed. Its stores open on a new state.
+    ///
+    /// # Examples
+    ///
+    /// ```
+    /// use loader::{StoreState, load_manifest};
+    ///
+    /// let catalogue = load_manifest(rt.alloc(), "map array 8 16\n", &[])?.with_places(3);
+    /// let state = StoreState::open(rt.alloc(), &catalogue)?;
+    /// assert_eq!(rt; state.programs().places(), 3);
+    /// ```
     pub fn with_places(mut self, places: usize) -> Catalogue
         requires few { places ≤ MOST_SPARE }
         ensures places { result ≡ with_places self places }
@@ -129,6 +172,18 @@ impl Catalogue {
 
     /// Whether a store of this catalogue may open on a state: the state has the catalogue's maps, and no more installed programs than there
     /// may be.
+    ///
+    /// # Examples
+    ///
+    /// ```
+    /// use loader::{StoreState, load_manifest};
+    ///
+    /// let catalogue = load_manifest(rt.alloc(), "map array 8 16\n", &[])?;
+    /// let state = StoreState::open(rt.alloc(), &catalogue)?;
+    /// assert!(rt; catalogue.may_open_on(&state));
+    /// let smaller = load_manifest(rt.alloc(), "map array 8 15\n", &[])?;
+    /// assert!(rt; !smaller.may_open_on(&state));
+    /// ```
     pub fn may_open_on(&self, state: &StoreState) -> bool
         ensures decides { IsTrue result ↔ MayOpenOn self.now state.now }
     {
@@ -137,6 +192,20 @@ impl Catalogue {
 
     /// Makes the stores of the catalogue open on `state`. What such a store explains begins with the state as it is now; no copy of it is
     /// kept.
+    ///
+    /// # Examples
+    ///
+    /// ```
+    /// use loader::{StoreState, load_manifest};
+    ///
+    /// let catalogue = load_manifest(rt.alloc(), "map array 8 16\n", &[])?;
+    /// let (mut maps, programs) = StoreState::open(rt.alloc(), &catalogue)?.into_parts();
+    /// maps.update(0, &[0, 0, 0, 0], &[7, 0, 0, 0, 0, 0, 0, 0]);
+    /// let state = StoreState::of(maps, programs);
+    /// let catalogue = catalogue.on(&state);
+    /// let opened = StoreState::opening(rt.alloc(), &catalogue, Some(&state))?;
+    /// assert_eq!(rt; opened.maps().block(0)[0], 7);
+    /// ```
     pub fn on(mut self, state: &StoreState) -> Catalogue
         requires fits { MayOpenOn self state.now }
         ensures opens { result ≡ opened_on self state.now }
@@ -146,6 +215,17 @@ impl Catalogue {
     }
 
     /// The number of the program of this name, which is found in a sorted map.
+    ///
+    /// # Examples
+    ///
+    /// ```
+    /// use loader::load_manifest;
+    ///
+    /// let files = [("seven.hex", "b7000000070000009500000000000000")]; // mov64 r0, 7; exit
+    /// let catalogue = load_manifest(rt.alloc(), "map array 8 16\nprogram seven read 0 seven.hex\n", &files)?;
+    /// assert_eq!(rt; catalogue.number("seven"), Some(0));
+    /// assert_eq!(rt; catalogue.number("seven.hex"), None);
+    /// ```
     pub fn number(&self, name: &str) -> Option<u16>
         ensures number { result ≡ number_named self.now.programs name.now }
     {
@@ -153,6 +233,17 @@ impl Catalogue {
     }
 
     /// The name of program k.
+    ///
+    /// # Examples
+    ///
+    /// ```
+    /// use loader::load_manifest;
+    ///
+    /// let files = [("seven.hex", "b7000000070000009500000000000000")]; // mov64 r0, 7; exit
+    /// let catalogue = load_manifest(rt.alloc(), "map array 8 16\nprogram seven read 0 seven.hex\n", &files)?;
+    /// assert_eq!(rt; catalogue.name(0), Some("seven"));
+    /// assert_eq!(rt; catalogue.name(1), None);
+    /// ```
     pub fn name(&self, k: u16) -> Option<&str>
         ensures name { option_map (λ t. t.now) result ≡ option_map (λ e. e.name) (slice_get self.now.programs k) }
     {
@@ -163,6 +254,17 @@ impl Catalogue {
     }
 
     /// Program k.
+    ///
+    /// # Examples
+    ///
+    /// ```
+    /// use loader::load_manifest;
+    ///
+    /// let files = [("seven.hex", "b7000000070000009500000000000000")]; // mov64 r0, 7; exit
+    /// let catalogue = load_manifest(rt.alloc(), "map array 8 16\nprogram seven read 0 seven.hex\n", &files)?;
+    /// assert_eq!(rt; catalogue.program(0).map(|program| program.instructions()), Some(2));
+    /// assert!(rt; catalogue.program(1).is_none());
+    /// ```
     pub fn program(&self, k: u16) -> Option<&Accepted>
         ensures program { option_map (λ a. a.now) result ≡ option_map (λ e. e.checked) (slice_get self.now.programs k) }
         ensures accepted { IfSome result (λ a. a.now.shapes ≡ self.now.shapes) }
@@ -174,6 +276,17 @@ impl Catalogue {
     }
 
     /// The maps' sizes, in order. A store may have these maps.
+    ///
+    /// # Examples
+    ///
+    /// ```
+    /// use loader::load_manifest;
+    /// use maps::Shape;
+    ///
+    /// let catalogue = load_manifest(rt.alloc(), "map array 8 16\nmap hash 4 8 100\n", &[])?;
+    /// let shapes = [Shape::Array { value: 8, entries: 16 }, Shape::Hash { key: 4, value: 8, entries: 100 }];
+    /// assert!(rt; catalogue.shapes() == shapes.as_slice());
+    /// ```
     pub fn shapes(&self) -> &[Shape]
         ensures shapes { result.now ≡ self.now.shapes }
         ensures good { AreShapesSupported result.now }

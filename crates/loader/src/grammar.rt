@@ -11,6 +11,18 @@ use text::{LineKind, is_name, kind_of, number_within, split_at_space};
 use verifier::Mode;
 
 /// What a line says of a program.
+///
+/// # Examples
+///
+/// ```
+/// use loader::{Line, read_line};
+/// use maps::MapLimits;
+/// use verifier::Mode;
+///
+/// let Some(Line::Program(bump)) = read_line(&MapLimits::standard(), "program bump update 4 bump.hex") else { unreachable!() };
+/// assert_eq!(rt; (bump.name, bump.file), ("bump", "bump.hex"));
+/// assert_eq!(rt; (bump.mode, bump.arg_len), (Mode::Update, 4));
+/// ```
 #[derive(Clone, Copy)]
 pub struct ProgramLine<'a> {
     /// The program's name.
@@ -32,6 +44,18 @@ pub(crate) enum FirstWord {
 }
 
 /// What a line of a manifest means, by itself.
+///
+/// # Examples
+///
+/// ```
+/// use loader::{Line, read_line};
+/// use maps::{MapLimits, Shape};
+///
+/// let limits = MapLimits::standard();
+/// assert!(rt; matches!(read_line(&limits, "# counters"), Some(Line::Comment)));
+/// let Some(Line::Map(shape)) = read_line(&limits, "map hash 4 8 100") else { unreachable!() };
+/// assert_eq!(rt; shape, Shape::Hash { key: 4, value: 8, entries: 100 });
+/// ```
 #[derive(Clone, Copy)]
 pub enum Line<'a> {
     /// The line is empty, or begins with `#`.
@@ -95,6 +119,17 @@ fn map_line<'a>(limits: &MapLimits, text: &'a str) -> Option<Line<'a>>
 }
 
 /// The mode that a word says.
+///
+/// # Examples
+///
+/// ```
+/// use loader::mode;
+/// use verifier::Mode;
+///
+/// assert_eq!(rt; mode("update"), Some(Mode::Update));
+/// assert_eq!(rt; mode("read"), Some(Mode::Read));
+/// assert_eq!(rt; mode("Read"), None);
+/// ```
 pub fn mode(text: &str) -> Option<Mode>
     ensures mode { result ≡ mode_of text.now }
 {
@@ -165,6 +200,19 @@ fn words_line<'a>(limits: &MapLimits, text: &'a str) -> Option<Line<'a>>
 }
 
 /// What a line of a manifest means, whatever stands before it; `None` where it is bad.
+///
+/// # Examples
+///
+/// ```
+/// use loader::{Line, read_line};
+/// use maps::{MapLimits, Shape};
+///
+/// let limits = MapLimits::standard();
+/// let Some(Line::Map(shape)) = read_line(&limits, "map array 8 16") else { unreachable!() };
+/// assert_eq!(rt; shape, Shape::Array { value: 8, entries: 16 });
+/// // An array of no entry is bad.
+/// assert!(rt; read_line(&limits, "map array 8 0").is_none());
+/// ```
 #[tactic(auto, unfolding(crate::specs::Grammar::line_meaning))]
 pub fn read_line<'a>(limits: &MapLimits, line: &'a str) -> Option<Line<'a>>
     requires limits { AreLimits limits.now }

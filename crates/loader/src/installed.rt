@@ -22,6 +22,22 @@ pub const MAX_SPARE: usize = 16;
 pub const MOST_SPARE: usize = 4_096;
 
 /// Why bytes can't be installed as a program.
+///
+/// # Examples
+///
+/// ```
+/// use loader::{InstallRefusal, Installed};
+/// use maps::Shape;
+/// use verifier::Mode;
+///
+/// let shapes = [Shape::Array { value: 8, entries: 16 }];
+/// let mut installed = Installed::open(rt.alloc(), &shapes, 1)?;
+/// match installed.install(Mode::Read, 0, &[0x95, 0, 0, 0, 0, 0, 0, 0]) {
+///     // `exit` replies R0, which nothing wrote.
+///     Err(InstallRefusal::Verify(refused)) => assert_eq!(rt; refused.why.number(), 6),
+///     Err(InstallRefusal::Decode(_)) | Ok(()) => unreachable!(),
+/// }
+/// ```
 #[derive(Clone, Copy, Debug, Error)]
 pub enum InstallRefusal {
     /// The bytes are no program.
@@ -34,6 +50,22 @@ pub enum InstallRefusal {
 
 /// Programs that were installed behind a catalogue's, in order, for maps of given shapes. Each is accepted for these maps, and of
 /// at most [`MAX_INSTALLED_SLOTS`] slots. The room of all that there may be is taken when it is opened; no later call takes memory.
+///
+/// # Examples
+///
+/// ```
+/// use loader::Installed;
+/// use maps::Shape;
+/// use verifier::Mode;
+///
+/// let shapes = [Shape::Array { value: 8, entries: 16 }];
+/// let mut installed = Installed::open(rt.alloc(), &shapes, 4)?;
+/// let seven = [0xb7, 0, 0, 0, 7, 0, 0, 0, 0x95, 0, 0, 0, 0, 0, 0, 0]; // mov64 r0, 7; exit
+/// installed.install(Mode::Read, 0, &seven)?;
+/// installed.install(Mode::Update, 8, &seven)?;
+/// assert_eq!(rt; (installed.len(), installed.places()), (2, 4));
+/// assert_eq!(rt; installed.program(1).map(|program| program.arg_len()), Some(8));
+/// ```
 #[derive(Drop)]
 pub struct Installed {
     shapes: Vec<Shape>,
@@ -65,6 +97,17 @@ impl Installed {
     /// # Errors
     ///
     /// The system has no memory left.
+    ///
+    /// # Examples
+    ///
+    /// ```
+    /// use loader::Installed;
+    /// use maps::Shape;
+    ///
+    /// let shapes = [Shape::Array { value: 8, entries: 16 }];
+    /// let installed = Installed::open(rt.alloc(), &shapes, 4)?;
+    /// assert_eq!(rt; (installed.len(), installed.places()), (0, 4));
+    /// ```
     pub fn open(alloc: Global, shapes: &[Shape], places: usize) -> Result<Installed, AllocError>
         requires shapes { AreShapesSupported shapes.now }
         requires places { places ≤ MOST_SPARE }
@@ -84,6 +127,20 @@ impl Installed {
     /// # Errors
     ///
     /// The system has no memory left.
+    ///
+    /// # Examples
+    ///
+    /// ```
+    /// use loader::Installed;
+    /// use maps::Shape;
+    /// use verifier::Mode;
+    ///
+    /// let shapes = [Shape::Array { value: 8, entries: 16 }];
+    /// let mut installed = Installed::open(rt.alloc(), &shapes, 1)?;
+    /// installed.install(Mode::Read, 0, &[0xb7, 0, 0, 0, 7, 0, 0, 0, 0x95, 0, 0, 0, 0, 0, 0, 0])?; // mov64 r0, 7; exit
+    /// let copy = Installed::copy_of(rt.alloc(), &installed, 3)?;
+    /// assert_eq!(rt; (copy.len(), copy.places()), (1, 3));
+    /// ```
     pub fn copy_of(alloc: Global, from: &Installed, places: usize) -> Result<Installed, AllocError>
         requires few { length from.now.programs ≤ places }
         requires places { places ≤ MOST_SPARE }
@@ -101,6 +158,17 @@ impl Installed {
     }
 
     /// The maps' sizes that the programs are for.
+    ///
+    /// # Examples
+    ///
+    /// ```
+    /// use loader::Installed;
+    /// use maps::Shape;
+    ///
+    /// let shapes = [Shape::Array { value: 8, entries: 16 }];
+    /// let installed = Installed::open(rt.alloc(), &shapes, 1)?;
+    /// assert!(rt; installed.shapes() == shapes.as_slice());
+    /// ```
     pub fn shapes(&self) -> &[Shape]
         ensures shapes { result.now ≡ self.now.shapes }
     {
@@ -108,6 +176,20 @@ impl Installed {
     }
 
     /// How many programs were installed.
+    ///
+    /// # Examples
+    ///
+    /// ```
+    /// use loader::Installed;
+    /// use maps::Shape;
+    /// use verifier::Mode;
+    ///
+    /// let shapes = [Shape::Array { value: 8, entries: 16 }];
+    /// let mut installed = Installed::open(rt.alloc(), &shapes, 4)?;
+    /// assert_eq!(rt; installed.len(), 0);
+    /// installed.install(Mode::Read, 0, &[0xb7, 0, 0, 0, 7, 0, 0, 0, 0x95, 0, 0, 0, 0, 0, 0, 0])?; // mov64 r0, 7; exit
+    /// assert_eq!(rt; installed.len(), 1);
+    /// ```
     pub fn len(&self) -> usize
         ensures count { result ≡ length self.now.programs }
         ensures few { result ≤ self.now.places }
@@ -116,6 +198,17 @@ impl Installed {
     }
 
     /// How many there may be.
+    ///
+    /// # Examples
+    ///
+    /// ```
+    /// use loader::Installed;
+    /// use maps::Shape;
+    ///
+    /// let shapes = [Shape::Array { value: 8, entries: 16 }];
+    /// let installed = Installed::open(rt.alloc(), &shapes, 4)?;
+    /// assert_eq!(rt; installed.places(), 4);
+    /// ```
     pub fn places(&self) -> usize
         ensures places { result ≡ self.now.places }
         ensures limit { result ≤ MOST_SPARE }
@@ -125,6 +218,20 @@ impl Installed {
     }
 
     /// The program that was installed as number `k`, from 0.
+    ///
+    /// # Examples
+    ///
+    /// ```
+    /// use loader::Installed;
+    /// use maps::Shape;
+    /// use verifier::Mode;
+    ///
+    /// let shapes = [Shape::Array { value: 8, entries: 16 }];
+    /// let mut installed = Installed::open(rt.alloc(), &shapes, 4)?;
+    /// installed.install(Mode::Read, 0, &[0xb7, 0, 0, 0, 7, 0, 0, 0, 0x95, 0, 0, 0, 0, 0, 0, 0])?; // mov64 r0, 7; exit
+    /// assert_eq!(rt; installed.program(0).map(|program| program.instructions()), Some(2));
+    /// assert!(rt; installed.program(1).is_none());
+    /// ```
     pub fn program(&self, k: usize) -> Option<&Accepted>
         ensures program { option_map (λ a. a.now) result ≡ slice_get self.now.programs k }
         ensures accepted { IfSome result (λ a. a.now.shapes ≡ self.now.shapes) }
@@ -137,6 +244,20 @@ impl Installed {
     }
 
     /// None is installed any more.
+    ///
+    /// # Examples
+    ///
+    /// ```
+    /// use loader::Installed;
+    /// use maps::Shape;
+    /// use verifier::Mode;
+    ///
+    /// let shapes = [Shape::Array { value: 8, entries: 16 }];
+    /// let mut installed = Installed::open(rt.alloc(), &shapes, 4)?;
+    /// installed.install(Mode::Read, 0, &[0xb7, 0, 0, 0, 7, 0, 0, 0, 0x95, 0, 0, 0, 0, 0, 0, 0])?; // mov64 r0, 7; exit
+    /// installed.clear();
+    /// assert_eq!(rt; (installed.len(), installed.places()), (0, 4));
+    /// ```
     pub fn clear(&mut self)
         ensures none { self.new ≡ no_programs self.old.shapes self.old.places }
     {
@@ -149,6 +270,22 @@ impl Installed {
     /// # Errors
     ///
     /// The first thing that keeps the bytes from being such a program.
+    ///
+    /// # Examples
+    ///
+    /// ```
+    /// use loader::Installed;
+    /// use maps::Shape;
+    /// use verifier::Mode;
+    ///
+    /// let shapes = [Shape::Array { value: 8, entries: 16 }];
+    /// let mut installed = Installed::open(rt.alloc(), &shapes, 1)?;
+    /// // `exit` alone replies R0, which nothing wrote.
+    /// assert!(rt; installed.install(Mode::Read, 0, &[0x95, 0, 0, 0, 0, 0, 0, 0]).is_err());
+    /// assert_eq!(rt; installed.len(), 0);
+    /// installed.install(Mode::Read, 0, &[0xb7, 0, 0, 0, 7, 0, 0, 0, 0x95, 0, 0, 0, 0, 0, 0, 0])?; // mov64 r0, 7; exit
+    /// assert_eq!(rt; installed.len(), 1);
+    /// ```
     pub fn install(
         &mut self,
         mode: Mode,
@@ -172,6 +309,21 @@ impl Installed {
     }
 
     /// Becomes the same list as another one for as many programs and for the same maps.
+    ///
+    /// # Examples
+    ///
+    /// ```
+    /// use loader::Installed;
+    /// use maps::Shape;
+    /// use verifier::Mode;
+    ///
+    /// let shapes = [Shape::Array { value: 8, entries: 16 }];
+    /// let mut installed = Installed::open(rt.alloc(), &shapes, 1)?;
+    /// installed.install(Mode::Read, 0, &[0xb7, 0, 0, 0, 7, 0, 0, 0, 0x95, 0, 0, 0, 0, 0, 0, 0])?; // mov64 r0, 7; exit
+    /// let mut copy = Installed::open(rt.alloc(), &shapes, 1)?;
+    /// copy.copy_from(&installed);
+    /// assert_eq!(rt; copy.len(), 1);
+    /// ```
     pub fn copy_from(&mut self, from: &Installed)
         requires shapes { self.old.shapes ≡ from.now.shapes }
         requires places { self.old.places ≡ from.now.places }

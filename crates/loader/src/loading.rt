@@ -149,6 +149,19 @@ pub fn load_manifest(
 /// # Errors
 ///
 /// The manifest is refused, or the system has no memory left.
+///
+/// # Examples
+///
+/// ```
+/// use loader::{load_manifest, load_manifest_within};
+/// use maps::MapLimits;
+///
+/// // The standard limits have at most 65,536 entries in a map.
+/// let manifest = "map array 8 1000000\n";
+/// assert!(rt; load_manifest(rt.alloc(), manifest, &[]).is_err());
+/// let catalogue = load_manifest_within(rt.alloc(), &MapLimits::widest(), manifest, &[])?;
+/// assert_eq!(rt; catalogue.shapes()[0].entry_count(), 1_000_000);
+/// ```
 pub fn load_manifest_within(
     alloc: Global,
     limits: &MapLimits,

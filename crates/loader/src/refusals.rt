@@ -11,6 +11,16 @@ use thiserror::Error;
 use verifier::Refused;
 
 /// What is wrong with a line of a manifest. Its texts name the number that the program `nrbpf` writes.
+///
+/// # Examples
+///
+/// ```
+/// use loader::{LoadError, LoadFault, LoadRefusal, load_manifest};
+///
+/// // Three hexadecimal digits are no pairs.
+/// let refused = load_manifest(rt.alloc(), "map array 8 16\nprogram odd read 0 odd.hex\n", &[("odd.hex", "b70")]).err();
+/// assert_eq!(rt; refused, Some(LoadError::Refused(LoadRefusal { line: 2, why: LoadFault::BadHex })));
+/// ```
 #[derive(Clone, Copy, Debug, PartialEq, Eq, Error)]
 pub enum LoadFault {
     /// The line is none of a manifest, or not where it may stand, or its file was not handed in.
@@ -32,6 +42,15 @@ pub enum LoadFault {
 
 impl LoadFault {
     /// The number n of Cn.
+    ///
+    /// # Examples
+    ///
+    /// ```
+    /// use loader::LoadFault;
+    ///
+    /// assert_eq!(rt; LoadFault::BadLine.number(), 1);
+    /// assert_eq!(rt; LoadFault::TooMany.number(), 5);
+    /// ```
     pub fn number(self) -> u8
         ensures number { result ≡ fault_number self }
     {
@@ -46,6 +65,16 @@ impl LoadFault {
 }
 
 /// The first bad line, counted from 1, and what is wrong with it.
+///
+/// # Examples
+///
+/// ```
+/// use loader::{LoadFault, LoadRefusal};
+///
+/// let refused = LoadRefusal { line: 2, why: LoadFault::BadHex };
+/// let text = format!(in rt.alloc(); "{refused}")?;
+/// assert_eq!(rt; text.as_str(), "line 2: C2: the program file holds something else than pairs of hexadecimal digits");
+/// ```
 #[derive(Clone, Copy, Debug, PartialEq, Eq, Error)]
 #[error("line {line}: {why}")]
 pub struct LoadRefusal {
@@ -56,6 +85,18 @@ pub struct LoadRefusal {
 }
 
 /// Why there is no catalogue.
+///
+/// # Examples
+///
+/// ```
+/// use loader::{LoadError, LoadFault, load_manifest};
+///
+/// // The second line names a file that was not handed in.
+/// match load_manifest(rt.alloc(), "map array 8 16\nprogram five read 0 five.hex\n", &[]) {
+///     Err(LoadError::Refused(refused)) => assert_eq!(rt; (refused.line, refused.why), (2, LoadFault::BadLine)),
+///     Err(LoadError::NoMemory) | Ok(_) => unreachable!(),
+/// }
+/// ```
 #[derive(Clone, Copy, Debug, PartialEq, Eq, Error)]
 pub enum LoadError {
     /// There is no memory left, which says nothing of the manifest.
@@ -68,6 +109,16 @@ pub enum LoadError {
 
 impl LoadError {
     /// The number n of Cn; 6 where there is no memory left.
+    ///
+    /// # Examples
+    ///
+    /// ```
+    /// use loader::{LoadError, LoadFault, LoadRefusal};
+    ///
+    /// let refused = LoadError::Refused(LoadRefusal { line: 2, why: LoadFault::BadHex });
+    /// assert_eq!(rt; refused.number(), 2);
+    /// assert_eq!(rt; LoadError::NoMemory.number(), 6);
+    /// ```
     pub fn number(self) -> u8
         ensures number { result ≡ number_of self }
     {
@@ -78,6 +129,16 @@ impl LoadError {
     }
 
     /// The line that is refused, from 1; 0 where there is no memory left.
+    ///
+    /// # Examples
+    ///
+    /// ```
+    /// use loader::{LoadError, LoadFault, LoadRefusal};
+    ///
+    /// let refused = LoadError::Refused(LoadRefusal { line: 7, why: LoadFault::BadHex });
+    /// assert_eq!(rt; refused.line(), 7);
+    /// assert_eq!(rt; LoadError::NoMemory.line(), 0);
+    /// ```
     pub fn line(self) -> u32
         ensures line { result ≡ line_of self }
     {

@@ -17,6 +17,18 @@ use std::marker::Model;
 
 /// The maps of a store, and the programs that were installed while it ran, which were accepted for these maps. All their room is taken
 /// when the state is made; no operation on them takes memory.
+///
+/// # Examples
+///
+/// ```
+/// use loader::{StoreState, load_manifest};
+///
+/// let catalogue = load_manifest(rt.alloc(), "map array 8 16\nmap hash 4 8 100\n", &[])?.with_places(3);
+/// let state = StoreState::open(rt.alloc(), &catalogue)?;
+/// // An array has all its entries, a hash none yet.
+/// assert_eq!(rt; (state.maps().len(0), state.maps().len(1)), (16, 0));
+/// assert_eq!(rt; (state.programs().len(), state.programs().places()), (0, 3));
+/// ```
 #[derive(Drop)]
 pub struct StoreState {
     maps: MapSet,
@@ -48,6 +60,17 @@ impl StoreState {
     /// # Errors
     ///
     /// The system has no memory left.
+    ///
+    /// # Examples
+    ///
+    /// ```
+    /// use loader::{StoreState, load_manifest};
+    ///
+    /// let catalogue = load_manifest(rt.alloc(), "map array 8 16\n", &[])?;
+    /// let state = StoreState::open(rt.alloc(), &catalogue)?;
+    /// assert!(rt; state.is_sized_for(&catalogue));
+    /// assert_eq!(rt; state.maps().block(0)[0], 0);
+    /// ```
     pub fn open(alloc: Global, catalogue: &Catalogue) -> Result<StoreState, AllocError>
         ensures opened { IfOk result (λ s. s ≡ opened_state (sizes_for catalogue.now)) }
         ensures sizes { IfOk result (λ s. sizes_of s ≡ sizes_for catalogue.now) }
@@ -63,6 +86,19 @@ impl StoreState {
     /// # Errors
     ///
     /// The system has no memory left.
+    ///
+    /// # Examples
+    ///
+    /// ```
+    /// use loader::{StoreState, load_manifest};
+    ///
+    /// let catalogue = load_manifest(rt.alloc(), "map array 8 16\n", &[])?.with_places(3);
+    /// let fresh = StoreState::opening(rt.alloc(), &catalogue, None)?;
+    /// assert!(rt; fresh.is_sized_for(&catalogue));
+    /// let catalogue = catalogue.on(&fresh);
+    /// let copy = StoreState::opening(rt.alloc(), &catalogue, Some(&fresh))?;
+    /// assert!(rt; copy.is_sized_for(&catalogue));
+    /// ```
     pub fn opening(
         alloc: Global,
         catalogue: &Catalogue,
@@ -78,6 +114,19 @@ impl StoreState {
     }
 
     /// A state of these maps and of these programs, which were accepted for them.
+    ///
+    /// # Examples
+    ///
+    /// ```
+    /// use loader::{Installed, StoreState};
+    /// use maps::{MapSet, Shape};
+    ///
+    /// let shapes = [Shape::Array { value: 8, entries: 16 }];
+    /// let maps = MapSet::open(rt.alloc(), &shapes)?;
+    /// let programs = Installed::open(rt.alloc(), &shapes, 3)?;
+    /// let state = StoreState::of(maps, programs);
+    /// assert_eq!(rt; (state.maps().count(), state.programs().places()), (1, 3));
+    /// ```
     pub fn of(maps: MapSet, installed: Installed) -> StoreState
         requires shapes { HasShapes (shapes_of (maps_of maps)) (maps_of maps) }
         requires programs { installed.shapes ≡ shapes_of (maps_of maps) }
@@ -91,6 +140,20 @@ impl StoreState {
     /// # Errors
     ///
     /// The system has no memory left.
+    ///
+    /// # Examples
+    ///
+    /// ```
+    /// use loader::{StoreState, load_manifest};
+    ///
+    /// let catalogue = load_manifest(rt.alloc(), "map array 8 16\n", &[])?;
+    /// let (mut maps, programs) = StoreState::open(rt.alloc(), &catalogue)?.into_parts();
+    /// maps.update(0, &[0, 0, 0, 0], &[7, 0, 0, 0, 0, 0, 0, 0]);
+    /// let state = StoreState::of(maps, programs);
+    /// let copy = StoreState::copy_of(rt.alloc(), &state, 3)?;
+    /// assert_eq!(rt; copy.maps().block(0)[0], 7);
+    /// assert_eq!(rt; copy.programs().places(), 3);
+    /// ```
     pub fn copy_of(
         alloc: Global,
         from: &StoreState,
@@ -106,6 +169,16 @@ impl StoreState {
     }
 
     /// The maps.
+    ///
+    /// # Examples
+    ///
+    /// ```
+    /// use loader::{StoreState, load_manifest};
+    ///
+    /// let catalogue = load_manifest(rt.alloc(), "map array 8 16\nmap hash 4 8 100\n", &[])?;
+    /// let state = StoreState::open(rt.alloc(), &catalogue)?;
+    /// assert_eq!(rt; state.maps().count(), 2);
+    /// ```
     pub fn maps(&self) -> &MapSet
         ensures maps { maps_of result.now ≡ self.now.maps }
         ensures shapes { HasShapes (shapes_of self.now.maps) self.now.maps }
@@ -114,6 +187,16 @@ impl StoreState {
     }
 
     /// The programs that were installed.
+    ///
+    /// # Examples
+    ///
+    /// ```
+    /// use loader::{StoreState, load_manifest};
+    ///
+    /// let catalogue = load_manifest(rt.alloc(), "map array 8 16\n", &[])?.with_places(3);
+    /// let state = StoreState::open(rt.alloc(), &catalogue)?;
+    /// assert_eq!(rt; (state.programs().len(), state.programs().places()), (0, 3));
+    /// ```
     pub fn programs(&self) -> &Installed
         ensures programs { result.now ≡ installed_in self.now }
     {
@@ -121,6 +204,17 @@ impl StoreState {
     }
 
     /// Whether it has the maps of a catalogue, and as many places for programs.
+    ///
+    /// # Examples
+    ///
+    /// ```
+    /// use loader::{StoreState, load_manifest};
+    ///
+    /// let catalogue = load_manifest(rt.alloc(), "map array 8 16\n", &[])?;
+    /// let state = StoreState::open(rt.alloc(), &catalogue)?;
+    /// assert!(rt; state.is_sized_for(&catalogue));
+    /// assert!(rt; !state.is_sized_for(&catalogue.with_places(3)));
+    /// ```
     pub fn is_sized_for(&self, catalogue: &Catalogue) -> bool
         ensures sizes { IsTrue result ↔ (sizes_of self.now ≡ sizes_for catalogue.now) }
     {
@@ -146,6 +240,19 @@ impl StoreState {
     }
 
     /// Becomes a copy of these maps and programs, which have its sizes. Takes time in proportion to them, and no memory.
+    ///
+    /// # Examples
+    ///
+    /// ```
+    /// use loader::{StoreState, load_manifest};
+    ///
+    /// let catalogue = load_manifest(rt.alloc(), "map array 8 16\n", &[])?;
+    /// let (mut maps, programs) = StoreState::open(rt.alloc(), &catalogue)?.into_parts();
+    /// maps.update(0, &[0, 0, 0, 0], &[7, 0, 0, 0, 0, 0, 0, 0]);
+    /// let mut state = StoreState::open(rt.alloc(), &catalogue)?;
+    /// state.copy_parts(&maps, &programs);
+    /// assert_eq!(rt; state.maps().block(0)[0], 7);
+    /// ```
     pub fn copy_parts(&mut self, maps: &MapSet, programs: &Installed)
         requires shapes { HasShapes (shapes_of self.old.maps) (maps_of maps.now) }
         requires programs { programs.now.shapes ≡ shapes_of (maps_of maps.now) }
@@ -157,6 +264,17 @@ impl StoreState {
     }
 
     /// The maps and the programs, to be changed and put together again.
+    ///
+    /// # Examples
+    ///
+    /// ```
+    /// use loader::{StoreState, load_manifest};
+    ///
+    /// let catalogue = load_manifest(rt.alloc(), "map array 8 16\n", &[])?.with_places(3);
+    /// let state = StoreState::open(rt.alloc(), &catalogue)?;
+    /// let (maps, programs) = state.into_parts();
+    /// assert_eq!(rt; (maps.count(), programs.places()), (1, 3));
+    /// ```
     pub fn into_parts(self) -> (MapSet, Installed)
         ensures maps { maps_of result.0 ≡ self.maps }
         ensures programs { result.1 ≡ installed_in self }

@@ -36,6 +36,19 @@ pub fn alu(w64: bool, op: Operation, a: u64, b: u64) -> u64
 }
 
 /// Whether the condition of a jump holds of dst and the second operand.
+///
+/// # Examples
+///
+/// ```
+/// use insn::Condition;
+/// use machine::holds;
+///
+/// // All bits set is the greatest number, and -1 where it has a sign.
+/// assert!(rt; holds(true, Condition::Jgt, u64::MAX, 0));
+/// assert!(rt; !holds(true, Condition::Jsgt, u64::MAX, 0));
+/// // The low 32 bits alone are compared.
+/// assert!(rt; holds(false, Condition::Jeq, 0x1_0000_0005, 5));
+/// ```
 #[inline(always)]
 pub fn holds(w64: bool, condition: Condition, a: u64, b: u64) -> bool
     ensures { result ≡ holds condition (bits_of w64) a b }
@@ -48,6 +61,15 @@ pub fn holds(w64: bool, condition: Condition, a: u64, b: u64) -> bool
 }
 
 /// NEG: the low bits from zero. A result of 32 bits has zeros above.
+///
+/// # Examples
+///
+/// ```
+/// use machine::negate;
+///
+/// assert_eq!(rt; negate(true, 1), 0xffff_ffff_ffff_ffff);
+/// assert_eq!(rt; negate(false, 1), 0xffff_ffff);
+/// ```
 #[inline(always)]
 pub fn negate(w64: bool, a: u64) -> u64
     ensures { result ≡ negated (bits_of w64) a }
@@ -61,6 +83,16 @@ pub fn negate(w64: bool, a: u64) -> u64
 
 /// MOVSX: the low 8, 16 or 32 bits, sign-extended to 64, or to 32 with zeros above. The same is done to the bytes that a
 /// sign-extending load reads (RFC 9669, section 5.2).
+///
+/// # Examples
+///
+/// ```
+/// use machine::sign_extend;
+///
+/// assert_eq!(rt; sign_extend(true, 8, 0x80), 0xffff_ffff_ffff_ff80);
+/// assert_eq!(rt; sign_extend(false, 8, 0x80), 0xffff_ff80);
+/// assert_eq!(rt; sign_extend(true, 16, 0x1_7fff), 0x7fff);
+/// ```
 #[inline(always)]
 pub fn sign_extend(w64: bool, bits: u8, n: u64) -> u64
     requires { MayExtend w64 bits }

@@ -23,6 +23,21 @@ use regkind::Frame;
 use std::alloc::{AllocError, Global};
 
 /// What is known of a program, for tools that tell an author why it is refused.
+///
+/// # Examples
+///
+/// ```
+/// use insn::decode;
+/// use maps::Shape;
+/// use verifier::{Mode, explain};
+///
+/// let shapes = [Shape::Array { value: 8, entries: 16 }];
+/// let endless = decode(rt.alloc(), &[0xb7, 0, 0, 0, 7, 0, 0, 0])?; // mov64 r0, 7
+/// let known = explain(rt.alloc(), &endless, &shapes, 0, Mode::Read)?;
+/// // The program runs off its end (V4), and breaks no rule of kinds.
+/// assert_eq!(rt; known.refused.map(|refused| (refused.slot, refused.why.number())), Some((0, 4)));
+/// assert_eq!(rt; known.kinds, None);
+/// ```
 #[derive(Drop)]
 pub struct Explained {
     /// For each slot what is known before its instruction; `None` where nothing leads to it. What stands behind the slot of
@@ -40,6 +55,22 @@ pub struct Explained {
 /// # Errors
 ///
 /// The system has no memory left.
+///
+/// # Examples
+///
+/// ```
+/// use insn::decode;
+/// use maps::Shape;
+/// use regkind::Kind;
+/// use verifier::{Mode, explain};
+///
+/// let shapes = [Shape::Array { value: 8, entries: 16 }];
+/// let seven = decode(rt.alloc(), &[0xb7, 0, 0, 0, 7, 0, 0, 0, 0x95, 0, 0, 0, 0, 0, 0, 0])?; // mov64 r0, 7; exit
+/// let known = explain(rt.alloc(), &seven, &shapes, 0, Mode::Read)?;
+/// assert_eq!(rt; known.refused, None);
+/// // Before `exit`, R0 has a number.
+/// assert_eq!(rt; known.frames[1].map(|frame| frame.kind(0)), Some(Kind::Scalar));
+/// ```
 pub fn explain(
     alloc: Global,
     program: &[Insn],
@@ -98,6 +129,23 @@ fn explain_kinds(alloc: Global, program: &[Insn], l: &Signature) -> Result<Expla
 }
 
 /// What goes along an edge of an instruction, of the frame before it. Nothing does where it breaks a rule of kinds there.
+///
+/// # Examples
+///
+/// ```
+/// use insn::{Edge, decode};
+/// use maps::Shape;
+/// use regkind::{Frame, Kind};
+/// use verifier::{Mode, Signature, frame_on_edge};
+///
+/// let shapes = [Shape::Array { value: 8, entries: 16 }];
+/// let signature = Signature::new(&shapes, 0, Mode::Read);
+/// let seven = decode(rt.alloc(), &[0xb7, 0, 0, 0, 7, 0, 0, 0, 0x95, 0, 0, 0, 0, 0, 0, 0])?; // mov64 r0, 7; exit
+/// let after = frame_on_edge(&seven[0], &Frame::entry(), &signature, Edge::Fall);
+/// assert_eq!(rt; after.map(|frame| frame.kind(0)), Some(Kind::Scalar));
+/// // At the entry `exit` breaks a rule: R0 has no value.
+/// assert_eq!(rt; frame_on_edge(&seven[1], &Frame::entry(), &signature, Edge::Fall), None);
+/// ```
 pub fn frame_on_edge(
     insn: &Insn,
     before: &Frame,

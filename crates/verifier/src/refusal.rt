@@ -9,6 +9,24 @@ use std::fmt;
 use thiserror::Error;
 
 /// Whether a program may change maps.
+///
+/// # Examples
+///
+/// ```
+/// use insn::decode;
+/// use maps::Shape;
+/// use verifier::{Mode, verify};
+///
+/// // r1 = map 0; *(u32 *)(r10 - 4) = 0; r2 = r10; r2 += -4; call 3 (a deletion); exit
+/// let bytes = [
+///     0x18, 0x51, 0, 0, 0, 0, 0, 0, 0, 0, 0, 0, 0, 0, 0, 0, 0x62, 0x0a, 0xfc, 0xff, 0, 0, 0, 0, 0xbf, 0xa2, 0, 0, 0, 0, 0, 0,
+///     0x07, 0x02, 0, 0, 0xfc, 0xff, 0xff, 0xff, 0x85, 0, 0, 0, 3, 0, 0, 0, 0x95, 0, 0, 0, 0, 0, 0, 0,
+/// ];
+/// let shapes = [Shape::Hash { key: 4, value: 8, entries: 16 }];
+/// assert!(rt; verify(rt.alloc(), decode(rt.alloc(), &bytes)?, &shapes, 0, Mode::Update).is_ok());
+/// let refused = verify(rt.alloc(), decode(rt.alloc(), &bytes)?, &shapes, 0, Mode::Read).err();
+/// assert_eq!(rt; refused.map(|e| e.number()), Some(18));
+/// ```
 #[derive(Clone, Copy, PartialEq, Eq, Debug)]
 pub enum Mode {
     Update,
@@ -17,6 +35,20 @@ pub enum Mode {
 
 /// Why a program is refused. Structure is decided for the whole program first, then kinds. Each rule has its number, from
 /// 1 to 18.
+///
+/// # Examples
+///
+/// ```
+/// use insn::decode;
+/// use maps::Shape;
+/// use verifier::{Mode, Refused, VerifyError, VerifyFault, verify};
+///
+/// let shapes = [Shape::Array { value: 8, entries: 16 }];
+/// let exit = decode(rt.alloc(), &[0x95, 0, 0, 0, 0, 0, 0, 0])?;
+/// // Nothing wrote R0, which `exit` replies.
+/// let unwritten = Refused { slot: 0, why: VerifyFault::UnreadableRegister };
+/// assert_eq!(rt; verify(rt.alloc(), exit, &shapes, 0, Mode::Read).err(), Some(VerifyError::Refused(unwritten)));
+/// ```
 #[derive(Clone, Copy, PartialEq, Eq, Debug)]
 pub enum VerifyFault {
     /// A jump leads below slot 0 or behind the last slot.
@@ -59,6 +91,15 @@ pub enum VerifyFault {
 
 impl VerifyFault {
     /// The number after the `V`.
+    ///
+    /// # Examples
+    ///
+    /// ```
+    /// use verifier::VerifyFault;
+    ///
+    /// assert_eq!(rt; VerifyFault::TargetOutside.number(), 1);
+    /// assert_eq!(rt; VerifyFault::WriteInReadMode.number(), 18);
+    /// ```
     pub fn number(self) -> u8
         ensures number { result ≡ fault_number self }
     {
@@ -111,6 +152,16 @@ impl fmt::Display for VerifyFault {
 impl Error for VerifyFault {}
 
 /// A refusal, with the slot of the instruction that breaks the rule, from 0.
+///
+/// # Examples
+///
+/// ```
+/// use verifier::{Refused, VerifyFault};
+///
+/// let refused = Refused { slot: 3, why: VerifyFault::TargetOutside };
+/// let text = format!(in rt.alloc(); "{refused}")?;
+/// assert_eq!(rt; text.as_str(), "slot 3: V1: the jump leads outside the program");
+/// ```
 #[derive(Clone, Copy, PartialEq, Eq, Debug, Error)]
 #[error("slot {slot}: {why}")]
 pub struct Refused {
@@ -119,6 +170,22 @@ pub struct Refused {
 }
 
 /// Why a program is not accepted.
+///
+/// # Examples
+///
+/// ```
+/// use insn::decode;
+/// use maps::Shape;
+/// use verifier::{Mode, VerifyError, verify};
+///
+/// let shapes = [Shape::Array { value: 8, entries: 16 }];
+/// let exit = decode(rt.alloc(), &[0x95, 0, 0, 0, 0, 0, 0, 0])?;
+/// match verify(rt.alloc(), exit, &shapes, 0, Mode::Read) {
+///     // `exit` replies R0, which nothing wrote.
+///     Err(VerifyError::Refused(refused)) => assert_eq!(rt; refused.why.number(), 6),
+///     Err(VerifyError::NoMemory) | Ok(_) => unreachable!(),
+/// }
+/// ```
 #[derive(Clone, Copy, PartialEq, Eq, Debug, Error)]
 pub enum VerifyError {
     /// There is no memory left, which says nothing of the program.
@@ -131,6 +198,16 @@ pub enum VerifyError {
 
 impl VerifyError {
     /// The number after the `V`: 0 where there is no memory left.
+    ///
+    /// # Examples
+    ///
+    /// ```
+    /// use verifier::{Refused, VerifyError, VerifyFault};
+    ///
+    /// let refused = VerifyError::Refused(Refused { slot: 3, why: VerifyFault::TargetOutside });
+    /// assert_eq!(rt; refused.number(), 1);
+    /// assert_eq!(rt; VerifyError::NoMemory.number(), 0);
+    /// ```
     pub fn number(self) -> u8
         ensures number { result ≡ error_number self }
     {
@@ -141,6 +218,16 @@ impl VerifyError {
     }
 
     /// The slot of the instruction that breaks the rule: 0 where there is no memory left.
+    ///
+    /// # Examples
+    ///
+    /// ```
+    /// use verifier::{Refused, VerifyError, VerifyFault};
+    ///
+    /// let refused = VerifyError::Refused(Refused { slot: 3, why: VerifyFault::TargetOutside });
+    /// assert_eq!(rt; refused.slot(), 3);
+    /// assert_eq!(rt; VerifyError::NoMemory.slot(), 0);
+    /// ```
     pub fn slot(self) -> u32
         ensures slot { result ≡ error_slot self }
     {

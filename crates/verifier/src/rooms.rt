@@ -16,6 +16,23 @@ use std::marker::Model;
 
 /// Room to verify a program of at most [`MAX_INSTALLED_SLOTS`] slots in: the frames before its instructions, and what else a
 /// pass needs. What stands there between two calls means nothing.
+///
+/// # Examples
+///
+/// ```
+/// use insn::decode;
+/// use maps::Shape;
+/// use verifier::{Accepted, Mode, Scratch, Signature, verify_into};
+///
+/// let shapes = [Shape::Array { value: 8, entries: 16 }];
+/// let signature = Signature::new(&shapes, 0, Mode::Read);
+/// let (mut scratch, mut room) = (Scratch::open(rt.alloc())?, Accepted::room(rt.alloc(), &shapes)?);
+/// let exit = decode(rt.alloc(), &[0x95, 0, 0, 0, 0, 0, 0, 0])?;
+/// assert!(rt; verify_into(&exit, &signature, &mut scratch, &mut room).is_err());
+/// // The same room serves the next program.
+/// let seven = decode(rt.alloc(), &[0xb7, 0, 0, 0, 7, 0, 0, 0, 0x95, 0, 0, 0, 0, 0, 0, 0])?; // mov64 r0, 7; exit
+/// assert!(rt; verify_into(&seven, &signature, &mut scratch, &mut room).is_ok());
+/// ```
 #[derive(Drop)]
 pub struct Scratch {
     pub(crate) frames: Vec<Option<Frame>>,
@@ -41,6 +58,21 @@ impl Scratch {
     /// # Errors
     ///
     /// The system has no memory left.
+    ///
+    /// # Examples
+    ///
+    /// ```
+    /// use insn::decode;
+    /// use maps::Shape;
+    /// use verifier::{Accepted, Mode, Scratch, Signature, verify_into};
+    ///
+    /// let shapes = [Shape::Array { value: 8, entries: 16 }];
+    /// let mut scratch = Scratch::open(rt.alloc())?;
+    /// let mut room = Accepted::room(rt.alloc(), &shapes)?;
+    /// let seven = decode(rt.alloc(), &[0xb7, 0, 0, 0, 7, 0, 0, 0, 0x95, 0, 0, 0, 0, 0, 0, 0])?; // mov64 r0, 7; exit
+    /// let answer = verify_into(&seven, &Signature::new(&shapes, 0, Mode::Read), &mut scratch, &mut room);
+    /// assert_eq!(rt; answer, Ok(()));
+    /// ```
     pub fn open(alloc: Global) -> Result<Scratch, AllocError> {
         Ok(Scratch {
             frames: Vec::with_capacity(alloc, MAX_INSTALLED_SLOTS)?,
@@ -56,6 +88,19 @@ impl Accepted {
     /// # Errors
     ///
     /// The system has no memory left.
+    ///
+    /// # Examples
+    ///
+    /// ```
+    /// use insn::{Form, Operation, Source};
+    /// use maps::Shape;
+    /// use verifier::Accepted;
+    ///
+    /// let shapes = [Shape::Array { value: 8, entries: 16 }];
+    /// let room = Accepted::room(rt.alloc(), &shapes)?;
+    /// assert_eq!(rt; room.program()[0].form(), Form::Alu { w64: true, op: Operation::Mov, dst: 0, src: Source::Imm(0) });
+    /// assert_eq!(rt; room.program()[1].form(), Form::Exit);
+    /// ```
     pub fn room(alloc: Global, shapes: &[Shape]) -> Result<Accepted, AllocError>
         requires shapes { AreShapesSupported shapes.now }
         ensures empty { IfOk result (λ a. a ≡ empty_room shapes.now) }

@@ -12,6 +12,23 @@ use regkind::Kind;
 use std::marker::Model;
 
 /// What a program is checked for: the shapes of its maps, the length of its argument in bytes, and its mode.
+///
+/// # Examples
+///
+/// ```
+/// use insn::decode;
+/// use maps::Shape;
+/// use verifier::{Accepted, Mode, Scratch, Signature, verify_into};
+///
+/// let shapes = [Shape::Array { value: 8, entries: 16 }];
+/// let (mut scratch, mut room) = (Scratch::open(rt.alloc())?, Accepted::room(rt.alloc(), &shapes)?);
+/// // r0 = *(u64 *)(r1 + 0), the first 8 bytes of the argument; exit
+/// let program = decode(rt.alloc(), &[0x79, 0x10, 0, 0, 0, 0, 0, 0, 0x95, 0, 0, 0, 0, 0, 0, 0])?;
+/// let seven_bytes = Signature::new(&shapes, 7, Mode::Read);
+/// assert!(rt; verify_into(&program, &seven_bytes, &mut scratch, &mut room).is_err());
+/// let eight_bytes = Signature::new(&shapes, 8, Mode::Read);
+/// assert!(rt; verify_into(&program, &eight_bytes, &mut scratch, &mut room).is_ok());
+/// ```
 #[derive(Drop)]
 pub struct Signature<'a> {
     shapes: &'a [Shape],
@@ -29,6 +46,20 @@ impl<'a> Model for Signature<'a> {
 
 impl<'a> Signature<'a> {
     /// Makes a signature of shapes, an argument length and a mode, as a caller gives them.
+    ///
+    /// # Examples
+    ///
+    /// ```
+    /// use insn::{Edge, decode};
+    /// use maps::Shape;
+    /// use regkind::Frame;
+    /// use verifier::{Mode, Signature, frame_on_edge};
+    ///
+    /// let shapes = [Shape::Array { value: 8, entries: 16 }];
+    /// let signature = Signature::new(&shapes, 8, Mode::Read);
+    /// let load = decode(rt.alloc(), &[0x79, 0x10, 0, 0, 0, 0, 0, 0])?; // r0 = *(u64 *)(r1 + 0)
+    /// assert!(rt; frame_on_edge(&load[0], &Frame::entry(), &signature, Edge::Fall).is_some());
+    /// ```
     pub fn new(shapes: &'a [Shape], arg_len: usize, mode: Mode) -> Self
         ensures { result ≡ signature shapes.now arg_len mode }
     {

@@ -79,6 +79,21 @@ pub fn verify(
 
 /// What `verify` answers of a program of at most [`MAX_INSTALLED_SLOTS`] slots, in room that is lent. No memory is taken. An accepted program
 /// takes the place of the one that was there; where it is refused, that one stays.
+///
+/// # Examples
+///
+/// ```
+/// use insn::decode;
+/// use maps::Shape;
+/// use verifier::{Accepted, Mode, Scratch, Signature, verify_into};
+///
+/// let shapes = [Shape::Array { value: 8, entries: 16 }];
+/// let (mut scratch, mut room) = (Scratch::open(rt.alloc())?, Accepted::room(rt.alloc(), &shapes)?);
+/// let seven = decode(rt.alloc(), &[0xb7, 0, 0, 0, 7, 0, 0, 0, 0x95, 0, 0, 0, 0, 0, 0, 0])?; // mov64 r0, 7; exit
+/// let answer = verify_into(&seven, &Signature::new(&shapes, 0, Mode::Update), &mut scratch, &mut room);
+/// assert_eq!(rt; answer, Ok(()));
+/// assert_eq!(rt; (room.instructions(), room.mode()), (2, Mode::Update));
+/// ```
 pub fn verify_into(
     program: &[Insn],
     signature: &Signature,
