@@ -57,7 +57,7 @@ pub record WholeCombine (m : Opening) : Type 0 where
 -- the steps of a whole combine
 abbrev pub CombinesInOrder : (m : Opening) → ℕ → List (Option BegunRead) → WholeCombine m → Type 0
 CombinesInOrder m n reads w = let c = w.by in
-    SeenInOrder m n reads (sees c.from c.log c.own (Held w.batch) c.desk) (combine_steps c.low c.full c.next c.later c.more c.ahead)
+    SeenInOrder m n reads (sees c.from c.log c.own (Held w.batch) c.desk) (combine_steps c.course)
     (sees w.after.progress c.back c.left Absent (replied (answered_batch c.kept w.batch) c.desk))
 
 -- the read of the slot s is answered so on that log and node

@@ -236,30 +236,32 @@ module _ (node : ℕ) (k t a r f : K) (b : BatchView) (n v m : NodeReplica) (old
 
   pub answers_by : AnswersBy node k f b new
   answers_by = record {
-    ends = record {
-      logs = record {
-        from = first.from;
-        since = store_laws.extends_on k.progress t.progress first.from took first.since;
-        log = first.log;
-        back = later f.progress then.log;
-        log_is = first.log_is;
-        back_is = later_is r.progress f.progress then.log then.log_is back low_f;
+    combined = record {
+      ends = record {
+        logs = record {
+          from = first.from;
+          since = store_laws.extends_on k.progress t.progress first.from took first.since;
+          log = first.log;
+          back = later f.progress then.log;
+          log_is = first.log_is;
+          back_is = later_is r.progress f.progress then.log then.log_is back low_f;
+        };
+        own = n;
+        left = m;
+        own_is = agrees_on t.progress first.from n first.since (let tail = found.0.tail in let low = stands.accounts.completed in omega (arith, tail, low)) found;
+        left_is = agrees_on r.progress f.progress m back within agrees;
       };
-      own = n;
-      left = m;
-      own_is = agrees_on t.progress first.from n first.since (let tail = found.0.tail in let low = stands.accounts.completed in omega (arith, tail, low)) found;
-      left_is = agrees_on r.progress f.progress m back within agrees;
+      course = record { low = first.low; full = first.full; next = first.next; later = first.later; more = then.more; ahead = then.ahead };
+      due = first.due;
+      base = first.base;
+      put = first.back;
+      put_is = first.is;
+      tries = [];
+      nothing = Nothing;
     };
-    course = record { low = first.low; full = first.full; next = first.next; later = first.later; more = then.more; ahead = then.ahead };
     goes = λ d. goes_on (under t.progress.catalogue c0 (sym took.catalogue) (first.goes d))
         (then_others c0 _ _ _ (replay_steps then.more then.ahead) (under a.progress.catalogue c0 (sym to_a) (then.goes b d))
         (others r.progress f.progress then.log then.log_is back low_f c0 m (InLog (record { batch = b; replies = new })) d));
-    due = first.due;
-    base = first.base;
-    put = first.back;
-    put_is = first.is;
-    tries = [];
-    nothing = Nothing;
     did = answers_did;
   }
 
@@ -290,34 +292,36 @@ module _ (node : ℕ) (k f z : K) (b : BatchView) (kept : RepliesView) (first : 
   pub combines_by : (answered : BatchView) → answered ≡ answered_batch kept b → k.note.batch ≡ unplaced b.records → f.session ≡ k.session → CombinesBy k z b answered
   combines_by answered answers noted same = record {
     noted = noted;
-    ends = record {
-      logs = record {
-        from = first.from;
-        since = first.since;
-        log = first.log;
-        back = over.0;
-        log_is = first.log_is;
-        back_is = over.1;
+    combined = record {
+      ends = record {
+        logs = record {
+          from = first.from;
+          since = first.since;
+          log = first.log;
+          back = over.0;
+          log_is = first.log_is;
+          back_is = over.1;
+        };
+        own = first.own;
+        left = first.left;
+        own_is = first.own_is;
+        left_is = agrees_on f.progress z.progress first.left end within_f first.left_is;
       };
-      own = first.own;
-      left = first.left;
-      own_is = first.own_is;
-      left_is = agrees_on f.progress z.progress first.left end within_f first.left_is;
+      course = first.course;
+      due = first.due;
+      base = first.base;
+      put = first.put;
+      put_is = first.put_is;
+      tries = first.tries;
+      nothing = first.nothing;
     };
     kept = kept;
     answers = answers;
     desk = last.desk;
     mine = subst (λ (z : Sizes × ℕ). IsSessionOf z.0 last.desk.node z.1) (λ i. (sym on.config i, same i)) last.mine;
     claimed = last.claimed;
-    course = first.course;
     goes = subst (λ xs. Goes k.progress.catalogue began xs ended) (append_assoc (append_steps first.low first.full first.next first.later) (replay_steps first.more first.ahead) (Replies ∷ []))
         (goes_on (first.goes last.desk) (under f.progress.catalogue k.progress.catalogue (sym on.catalogue) over.2));
-    due = first.due;
-    base = first.base;
-    put = first.put;
-    put_is = first.put_is;
-    tries = first.tries;
-    nothing = first.nothing;
     did = combines_did;
   }
 
@@ -400,9 +404,7 @@ module _ (k t r f : K) (p : L) (done : ℕ) (n m : NodeReplica) (point : ℕ) (g
   looks_by read at =
       let tail = agrees.0.tail in let rise = back.completed in let rise_t = took.completed in let rise_s = first.since.completed in (
         record {
-          seen = done;
-          more = [];
-          read = read;
+          loads = record { seen = done; more = []; read = read };
           ends = record {
             logs = record {
               from = first.from;
@@ -425,12 +427,14 @@ module _ (k t r f : K) (p : L) (done : ℕ) (n m : NodeReplica) (point : ℕ) (g
               (others r.progress f.progress first.back first.back_is back stands_f.accounts.completed c2 m Absent d);
           may = ap (λ z. z && nat_le m.replica.tail f.progress.completed) (le-leb done m.replica.tail reached) ∙ le-leb m.replica.tail f.progress.completed (omega (arith, tail, rise));
           at = at;
-          node = h.node;
-          mine = subst (λ (z : Sizes × ℕ). IsSessionOf z.0 h.node z.1) (λ i. (sym all_config i, same i)) h.own;
-          tries = [];
-          nothing = Nothing;
-          loaded = done;
-          did = looks_did;
+          shelf = record {
+            node = h.node;
+            mine = subst (λ (z : Sizes × ℕ). IsSessionOf z.0 h.node z.1) (λ i. (sym all_config i, same i)) h.own;
+            tries = [];
+            nothing = Nothing;
+            loaded = done;
+            did = looks_did;
+          };
         },
         refl,
       )

@@ -137,15 +137,17 @@ ends_since k m f s e = record {
 
 pub answers_since : (node : ℕ) (k m f : K) (b : BatchView) (kept : RepliesView) → IsStill k m → AnswersBy node m f b kept → AnswersBy node k f b kept
 answers_since node k m f b kept s a = record {
-  ends = ends_since k m f s a.ends;
-  course = a.course;
+  combined = record {
+    ends = ends_since k m f s a.ends;
+    course = a.course;
+    due = a.due;
+    base = a.base;
+    put = a.put;
+    put_is = a.put_is;
+    tries = s.tries ++ a.tries;
+    nothing = nothing_on s.nothing a.nothing;
+  };
   goes = λ d. under m.progress.catalogue k.progress.catalogue (sym s.extends.catalogue) (a.goes d);
-  due = a.due;
-  base = a.base;
-  put = a.put;
-  put_is = a.put_is;
-  tries = s.tries ++ a.tries;
-  nothing = nothing_on s.nothing a.nothing;
   did = tried_then k m f s.tries a.tries (answer_deeds (1 + node) a.full a.log a.put a.own a.left) s.did a.did;
 }
 
@@ -203,9 +205,7 @@ module _ (k m f : K) (s : IsStill k m) where
       let low = leb-true r.seen r.left.replica.tail may.0 in
       let at = r.at in (
         record {
-          seen = first_read s.more r.seen;
-          more = later_reads s.more r.seen r.more;
-          read = reads k m f s r.seen r.more r.read;
+          loads = record { seen = first_read s.more r.seen; more = later_reads s.more r.seen r.more; read = reads k m f s r.seen r.more r.read };
           ends = ends_since k m f s r.ends;
           begun = first_below s.more r.seen m.progress.completed r.from.completed s.below r.since.completed r.begun;
           low = r.low;
@@ -214,12 +214,14 @@ module _ (k m f : K) (s : IsStill k m) where
           goes = λ d. under m.progress.catalogue k.progress.catalogue (sym s.extends.catalogue) (r.goes d);
           may = and_from _ _ (le-leb (first_read s.more r.seen) r.left.replica.tail (first_below s.more r.seen m.progress.completed r.left.replica.tail s.below (omega (arith, far, at)) low)) may.1;
           at = at;
-          node = r.node;
-          mine = subst (λ (z : Sizes × ℕ). IsSessionOf z.0 r.node z.1) (λ i. (sym s.extends.config i, s.session i)) r.mine;
-          tries = s.tries ++ r.tries;
-          nothing = nothing_on s.nothing r.nothing;
-          loaded = r.loaded;
-          did = tried_then k m f s.tries r.tries (Read r.loaded ∷ look_deeds (1 + r.node) (nat_lt r.own.replica.tail r.loaded) r.log r.own r.left) s.did r.did;
+          shelf = record {
+            node = r.node;
+            mine = subst (λ (z : Sizes × ℕ). IsSessionOf z.0 r.node z.1) (λ i. (sym s.extends.config i, s.session i)) r.mine;
+            tries = s.tries ++ r.tries;
+            nothing = nothing_on s.nothing r.nothing;
+            loaded = r.loaded;
+            did = tried_then k m f s.tries r.tries (Read r.loaded ∷ look_deeds (1 + r.node) (nat_lt r.own.replica.tail r.loaded) r.log r.own r.left) s.did r.did;
+          };
         },
         refl,
       )

@@ -49,9 +49,23 @@ room_steps low full next later = if_any low (Rebases ∷ []) ++ if_any full (rep
 abbrev pub append_steps : (low full next later : Bool) → List NodeStep
 append_steps low full next later = room_steps low full next later ++ Appends ∷ []
 
--- and what was copied is applied and completed, and the answers are handed over
-abbrev pub combine_steps : (low full next later more ahead : Bool) → List NodeStep
-combine_steps low full next later more ahead = append_steps low full next later ++ (replay_steps more ahead ++ Replies ∷ [])
+-- which steps a combine has taken: the replica was below the log's base (low); another base was due (full), and what the replica lacked then was
+-- applied (next), and completed (later); what it lacked of the batch was applied (more), and completed (ahead)
+pub record Course : Type 0 where
+  pub low : Bool
+  pub full : Bool
+  pub next : Bool
+  pub later : Bool
+  pub more : Bool
+  pub ahead : Bool
+
+-- room is made, the batch is appended, and what was copied is applied and completed
+abbrev pub answer_steps : Course → List NodeStep
+answer_steps c = append_steps c.low c.full c.next c.later ++ replay_steps c.more c.ahead
+
+-- `answer_steps`, and then the answers are handed over
+abbrev pub combine_steps : Course → List NodeStep
+combine_steps c = append_steps c.low c.full c.next c.later ++ (replay_steps c.more c.ahead ++ Replies ∷ [])
 
 -- the replica comes up with the log
 abbrev pub read_steps : (low next later : Bool) → List NodeStep
@@ -176,65 +190,67 @@ pub record FollowsBy (lacks : Bool) (k after : SessionKnown) (n m : NodeReplica)
 
 -- ---- what the whole calls do
 
--- the steps that a combine has taken, in their order: the replica was below the log's base; another base was due, and what the replica lacked
--- then was applied, and completed; and so was what it lacked of the batch
-pub record Course : Type 0 where
-  pub low : Bool
-  pub full : Bool
-  pub next : Bool
-  pub later : Bool
-  pub more : Bool
-  pub ahead : Bool
-
--- a combine as far as its answers, with the replica of this node: the batch b is appended, and replayed and completed, and the replica that
--- did it is put back
-pub record AnswersBy (node : ℕ) (k after : SessionKnown) (b : BatchView) (kept : RepliesView) : Type 0 where
+-- what a combine found, did and left as far as its answers: the log and the replica as the session took them and put them back
+pub record Combined (k after : SessionKnown) (b : BatchView) : Type 0 where
   pub ends : BetweenReplicas k after
   pub open ends use *
   pub course : Course
   pub open course use *
-  pub goes : (d : DeskView) → Goes k.progress.catalogue (sees from log own (Held b) d) (append_steps low full next later ++ replay_steps more ahead)
-      (sees after.progress back left (InLog (record { batch = b; replies = kept })) d)
   pub due : full ≡ true → IsBaseDue (length b.records) log own
+  -- the log was put back with the batch, and with another base only if that was due
   pub base : NodeReplica
   pub put : LogView
   pub put_is : put ≡ grown b.records (with_room full base log)
+  -- the tries in vain of the session
   pub tries : List (ShelfStep Part)
   pub nothing : ChangesNothing tries
+
+-- a combine as far as its answers, with the replica of this node: the batch b is appended, replayed and completed, and the replica that did it is
+-- put back; except for tries in vain the session took, put back and completed nothing else
+pub record AnswersBy (node : ℕ) (k after : SessionKnown) (b : BatchView) (kept : RepliesView) : Type 0 where
+  pub combined : Combined k after b
+  pub open combined use *
+  pub goes : (d : DeskView) → Goes k.progress.catalogue (sees from log own (Held b) d) (answer_steps course)
+      (sees after.progress back left (InLog (record { batch = b; replies = kept })) d)
   pub did : Did k after (tries ++ answer_deeds (replica_place k.progress.config node) full log put own left)
 
--- a combine of the batch b, whose requests the session had claimed: from the log and the replica as the session took
--- them, to its answers at the desk of the session's own node, as it took that, where just these requests are claimed
+-- a combine of the batch b, whose requests the session had claimed: from the log and the replica as the session took them, to its answers at the
+-- desk of the session's own node, as it took that desk; just these requests are claimed there. Except for tries in vain the session took, put
+-- back and completed nothing else.
 pub record CombinesBy (k after : SessionKnown) (b answered : BatchView) : Type 0 where
   pub noted : k.note.batch ≡ unplaced b.records
-  pub ends : BetweenReplicas k after
-  pub open ends use *
+  pub combined : Combined k after b
+  pub open combined use *
   pub kept : RepliesView
   pub answers : answered ≡ answered_batch kept b
   pub desk : DeskView
   pub mine : IsSessionOf k.progress.config desk.node k.session
   pub claimed : IsBatchOf desk b
-  pub course : Course
-  pub open course use *
-  pub due : full ≡ true → IsBaseDue (length b.records) log own
-  pub goes : Goes k.progress.catalogue (sees from log own (Held b) desk) (combine_steps low full next later more ahead)
-      (sees after.progress back left Absent (replied (answered_batch kept b) desk))
-  -- the log as it was put back: with the batch, and with another base only where that was due
-  pub base : NodeReplica
-  pub put : LogView
-  pub put_is : put ≡ grown b.records (with_room full base log)
-  -- but for tries in vain the session took and put back nothing else, and completed nothing else
-  pub tries : List (ShelfStep Part)
-  pub nothing : ChangesNothing tries
+  pub goes : Goes k.progress.catalogue (sees from log own (Held b) desk) (combine_steps course) (sees after.progress back left Absent (replied (answered_batch kept b) desk))
   pub did : Did k after (tries ++ (answer_deeds (replica_place k.progress.config desk.node) full log put own left
       ++ takes_and_puts (desk_place k.progress.config desk.node) (ADesk desk) (ADesk (replied (answered_batch kept b) desk))))
 
--- a look at its node's replica, at this point of the history: the completed tail is loaded, and a replica below it comes up with the log; then
--- a read may be answered there, at the replica's own tail
-pub record LooksBy (k after : SessionKnown) (point : ℕ) : Type 0 where
+-- of all completed tails that the session loaded in the meantime, `seen` is the first
+pub record LoadsFirst (k after : SessionKnown) : Type 0 where
   pub seen : ℕ
   pub more : List ℕ
   pub read : tails_in after.steps ≡ tails_in k.steps ++ seen ∷ more
+
+-- what a look does on the shelf: after tries in vain the session loads the completed tail, and takes the replica of its own node. It takes the log if
+-- and only if that replica is below the loaded tail.
+pub record LooksOnShelf (k after : SessionKnown) (log : LogView) (own left : NodeReplica) : Type 0 where
+  pub node : ℕ
+  pub mine : IsSessionOf k.progress.config node k.session
+  pub tries : List (ShelfStep Part)
+  pub nothing : ChangesNothing tries
+  pub loaded : ℕ
+  pub did : Did k after (tries ++ Read loaded ∷ look_deeds (replica_place k.progress.config node) (nat_lt own.replica.tail loaded) log own left)
+
+-- a look at its node's replica, at this point of the history: the completed tail is loaded, and a replica below it catches up with the log; then
+-- a read may be answered there, at the replica's own tail
+pub record LooksBy (k after : SessionKnown) (point : ℕ) : Type 0 where
+  pub loads : LoadsFirst k after
+  pub open loads use *
   pub ends : BetweenReplicas k after
   pub open ends use *
   pub begun : seen ≤ from.completed
@@ -244,13 +260,8 @@ pub record LooksBy (k after : SessionKnown) (point : ℕ) : Type 0 where
   pub goes : (d : DeskView) → Goes k.progress.catalogue (sees from log own Absent d) (read_steps low next later) (sees after.progress back left Absent d)
   pub may : may_answer seen after.progress.completed left ≡ true
   pub at : point ≡ left.replica.tail
-  -- after tries in vain the session loaded the tail `loaded`, and took its replica; it took the log if and only if the replica was below that tail
-  pub node : ℕ
-  pub mine : IsSessionOf k.progress.config node k.session
-  pub tries : List (ShelfStep Part)
-  pub nothing : ChangesNothing tries
-  pub loaded : ℕ
-  pub did : Did k after (tries ++ Read loaded ∷ look_deeds (replica_place k.progress.config node) (nat_lt own.replica.tail loaded) log own left)
+  pub shelf : LooksOnShelf k after log own left
+  pub open shelf use *
 
 -- a read: it looks, and answers with the reply of there
 abbrev pub ReadsBy : (k after : SessionKnown) → Operation → ReadAnswer → Type 0
