@@ -1,6 +1,6 @@
 //! Stores whose history has no end, or as good as none.
 
-use crate::single_store::{ZERO, close, counter};
+use crate::store::single_store::{ZERO, close, counter};
 use loader::Catalogue;
 use oplog::{Config, ENDLESS, OpenError, Sizes};
 use std::alloc::Global;

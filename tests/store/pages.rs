@@ -1,7 +1,7 @@
 //! Scans of a hash, page by page. At one point they give each key once. A removal between two pages may move a key, which is passed by then, or
 //! given twice: the pages tell by their points that they are of two states.
 
-use crate::single_store::{close, open_one, single};
+use crate::store::single_store::{close, open_one, single};
 use loader::{Catalogue, load_manifest};
 use std::alloc::Global;
 use std::sync::Wait;

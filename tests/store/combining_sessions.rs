@@ -1,8 +1,8 @@
 //! A session that is answered by another of its node.
 
-use crate::held_places::opened;
-use crate::single_store::ZERO;
-use crate::two_nodes::last_of;
+use crate::store::held_places::opened;
+use crate::store::single_store::ZERO;
+use crate::store::two_nodes::last_of;
 use std::sync::Wait;
 use store::{Answer, Polled, Session, Store, StoreRefused};
 

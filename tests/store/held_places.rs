@@ -1,7 +1,7 @@
 //! What goes on while a session holds the log, or the replica of another node.
 
-use crate::single_store::{ZERO, counter};
-use crate::two_nodes::last_of;
+use crate::store::single_store::{ZERO, counter};
+use crate::store::two_nodes::last_of;
 use crossbeam_utils::Backoff;
 use oplog::Config;
 use ownlock::{LEADER, Seat};

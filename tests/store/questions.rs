@@ -1,6 +1,6 @@
 //! Several reads of a store at one point.
 
-use crate::single_store::{ZERO, close, counter, open_one, single};
+use crate::store::single_store::{ZERO, close, counter, open_one, single};
 use store::{Question, QuestionRefused, StoreRefused};
 
 const ONE: [u8; 4] = [1, 0, 0, 0];

@@ -1,6 +1,6 @@
 //! The log with its window, and the hands that its records are copied into.
 
-use crate::replicas::{SHAPES, new_state};
+use crate::replica::replicas::{SHAPES, new_state};
 use loader::Installed;
 use maps::{MapSet, shapes_ok};
 use oplog::{

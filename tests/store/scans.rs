@@ -1,6 +1,6 @@
 //! Scans of a store's map, page by page.
 
-use crate::single_store::{ZERO, close, counter, open_one, single};
+use crate::store::single_store::{ZERO, close, counter, open_one, single};
 use store::{Beginning, Scan, ScanRefused};
 
 fn from(map: usize, from: u32) -> Beginning {

@@ -1,6 +1,6 @@
 //! A store of every schedule, by its calls, of what no row of tests/rows can say.
 
-use crate::single_store;
+use crate::store::single_store;
 use combiner::Reply;
 use oplog::{Config, CopyAnswer, Hand, LogState};
 use readpath::ReadAnswer;

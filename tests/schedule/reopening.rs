@@ -1,6 +1,6 @@
 //! A store that is to open on the state of another.
 
-use crate::single_store::{counter, single};
+use crate::store::single_store::{counter, single};
 use loader::{StoreState, load_manifest};
 use oplog::OpenError;
 use schedule::World;

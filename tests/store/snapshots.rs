@@ -1,8 +1,8 @@
 //! States that are taken while a store runs, and the value under one key.
 
-use crate::held_places::opened;
-use crate::single_store::{ZERO, counter, single};
-use crate::two_nodes::last_of;
+use crate::store::held_places::opened;
+use crate::store::single_store::{ZERO, counter, single};
+use crate::store::two_nodes::last_of;
 use loader::{StoreState, load_manifest};
 use std::alloc::Global;
 use std::sync::Wait;

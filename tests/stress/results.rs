@@ -1,6 +1,6 @@
 //! What a run of `stress` leaves beside its transcript: the history of its calls in real time, the state that it ends in, and its counts.
 
-use crate::stress_sessions::{Programs, given};
+use crate::stress::sessions::{Programs, given};
 use dumps::dump;
 use oplog::Config;
 use std::alloc::Global;

@@ -1,6 +1,6 @@
 //! A store of two nodes of one slot each, call by call.
 
-use crate::single_store::{ZERO, counter};
+use crate::store::single_store::{ZERO, counter};
 use oplog::Config;
 use readpath::ReadAnswer;
 use store::{Answer, Closed, Session, Store};
