@@ -15,7 +15,7 @@
 //
 // A call writes its answer only if it succeeds. It copies its arguments, keys
 // and questions first, so an answer may overwrite them. It keeps no pointer.
-// Two results of one call may not overlap.
+// The memory of two results of one call must not overlap.
 //
 // Only nrbpf_open, nrbpf_open_on, nrbpf_close_into, nrbpf_state_new,
 // nrbpf_state_dump and nrbpf_state_load take memory. The library starts no
@@ -24,9 +24,9 @@
 //
 // All updates of a store are its history. An install is an update too. A point
 // of the history is a number of updates. The point of an update is its index:
-// how many updates come before it. The point of anything else is how many
-// updates the maps had seen. If call A returned before call B began, A comes
-// before B.
+// how many updates come before it. The point of any other answer is how many
+// updates are in the maps that it was read from. If call A returned before call
+// B began, A comes before B.
 //
 // Each function says in brackets when it may be called:
 //     [any]      At any time, by any number of threads, until the store ends.
@@ -72,12 +72,13 @@ uint32_t nrbpf_version(void);
 
 // ---- Statuses
 
-// 0, or why a call did not do what it should: a letter and a number of
-// docs/REFUSALS.md, `status >> 8` and `status & 255`. If several refusals
+// 0, or a refusal: why a call did not do what it should. `status >> 8` is its
+// letter and `status & 255` its number in docs/REFUSALS.md. If several refusals
 // apply, a call answers the first in this order: H7, H8, H2, H3 or H11, H5,
 // then the others. A refused call changes nothing, except that after S4 other
 // updates may have gone in. The statuses 1 and 2 have no letter and are no
-// refusals: a call with `try_` in its name has no answer yet.
+// refusals. By these a call with `try_` in its name, or nrbpf_poll, says that
+// it has no answer yet.
 typedef uint32_t nrbpf_status;
 #define NRBPF_REFUSAL(letter, number) ((nrbpf_status)(letter) << 8 | (nrbpf_status)(number))
 
@@ -92,9 +93,10 @@ enum {
 
     // A manifest
 
-    // A line is no line of a manifest, or nobody gave its program file.
+    // A line is bad, or `files` lacks its program file.
     NRBPF_C1 = 'C' << 8 | 1, NRBPF_BAD_LINE = NRBPF_C1,
-    // A program file has something else than hexadecimal digits.
+    // A program file has more than digits and white space, or an odd number of
+    // digits.
     NRBPF_C2, NRBPF_BAD_DIGITS = NRBPF_C2,
     // A program file is no program. The inner refusal has the letter D.
     NRBPF_C3, NRBPF_FILE_NOT_DECODED = NRBPF_C3,
@@ -123,8 +125,8 @@ enum {
     NRBPF_E6, NRBPF_BAD_DUMP_ZEROS = NRBPF_E6,
     // The map has no room for the key.
     NRBPF_E7, NRBPF_DUMP_TOO_MANY_KEYS = NRBPF_E7,
-    // A program is none, or is not accepted. The inner refusal has the letter D
-    // or V.
+    // The bytes are no program, or the program is not accepted. The inner
+    // refusal has the letter D or V.
     NRBPF_E8, NRBPF_DUMP_BAD_PROGRAM = NRBPF_E8,
     // There is no place for the program.
     NRBPF_E9, NRBPF_DUMP_TOO_MANY_PROGRAMS = NRBPF_E9,
@@ -178,7 +180,8 @@ enum {
     // install: the mode is neither of the two. read_each: there are more than
     // 16 questions.
     NRBPF_H5, NRBPF_BAD_CALL = NRBPF_H5,
-    // The session is of another store. No call below answers this.
+    // Of a raw call: the session is of another store, or a part of the store is
+    // missing. No call below answers this.
     NRBPF_H6, NRBPF_OTHER_STORE = NRBPF_H6,
     // A pointer is null.
     NRBPF_H7, NRBPF_NULL_POINTER = NRBPF_H7,
@@ -193,18 +196,18 @@ enum {
     NRBPF_H11, NRBPF_NOTHING_POSTED = NRBPF_H11
 };
 
-// Why a call refused, if it can say more than a status. What does not apply is
-// 0.
+// Why a call refused, with more than the status. A member that does not apply
+// is 0.
 typedef struct nrbpf_error {
     nrbpf_status status;
-    // With C3, C4, E8, S7 and S8: what is wrong with the program, by the letter
-    // D or V.
+    // With C3, C4, E8, S7 and S8: the refusal of the program, with the letter D
+    // or V.
     nrbpf_status inner;
-    // With the letter C a line of the manifest, with E a line of the dump. The
-    // first line is 1.
+    // The line of the manifest (letter C) or of the dump (letter E). The first
+    // line is 1.
     uint32_t line;
-    // With `inner` a slot of the program. Of read_each the question's number.
-    // The first is 0.
+    // With `inner`: the slot of the program. Of read_each: the question's
+    // number. The first is 0.
     uint32_t slot;
 } nrbpf_error;
 
@@ -219,16 +222,16 @@ size_t nrbpf_error_text(const nrbpf_error *why, char *text, size_t room);
 
 // ---- A store
 
-// How large the maps of a manifest may be. A number that is 0 is the standard
-// one. A host that loads manifests of others may set smaller ones.
+// How large the maps of a manifest may be. If a number is 0, the standard one
+// holds. A host that loads the manifests of others may set smaller ones.
 typedef struct nrbpf_limits {
     // The most bytes of a key: 4 to 64.
     uint32_t key;
-    // The most bytes of a value: to 256.
+    // The most bytes of a value: at most 256.
     uint32_t value;
-    // The most entries of a map: to 2147483648.
+    // The most entries of a map: at most 2147483648.
     uint64_t entries;
-    // The most bytes of all maps: to 1099511627776.
+    // The most bytes of all maps: at most 1099511627776.
     uint64_t bytes;
 } nrbpf_limits;
 #define NRBPF_STANDARD {64, 256, 65536, 16777216}
@@ -243,10 +246,10 @@ typedef struct nrbpf_config {
     uint32_t slots;
     // 16 to 1048576: how many updates the log keeps.
     uint32_t window;
-    // How many updates the whole history may have; after that S4. NRBPF_ENDLESS
-    // sets no limit.
+    // How many updates the whole history may have. Later ones get S4.
+    // NRBPF_ENDLESS sets no limit.
     uint32_t limit;
-    // 0 to 4096: how many programs may be installed later.
+    // 0 to 4096: the spare places, for programs that are installed later.
     uint32_t spare;
     // How large the maps may be. The library reads it if `version` is 2001 or
     // more.
@@ -255,8 +258,9 @@ typedef struct nrbpf_config {
 #define NRBPF_ENDLESS 0
 #define NRBPF_CONFIG(nodes, slots) {NRBPF_VERSION, (nodes), (slots), 4096, NRBPF_ENDLESS, 0, {0, 0, 0, 0}}
 
-// Does what NRBPF_CONFIG does, for languages without macros. `version` is that
-// of the header that the host was made for. Refuses with H7. [any]
+// Does what NRBPF_CONFIG does, for languages without macros. `version` is the
+// NRBPF_VERSION of the header that the host was made for. Refuses with H7.
+// [any]
 nrbpf_status nrbpf_config_init(
     nrbpf_config *config, uint32_t version, uint32_t nodes, uint32_t slots);
 
@@ -268,29 +272,30 @@ typedef struct nrbpf_file {
     size_t text_len;
 } nrbpf_file;
 
-// Loads the programs of a manifest, verifies each, and opens a store of them.
-// Refuses with C1 to C6, O1, O2, H4, H7 and H8. Then *why says where, unless
-// `why` is null. [any]
+// Loads the maps and programs of a manifest, verifies each program, and opens a
+// store of them. Refuses with C1 to C6, O1, O2, H4, H7 and H8. Then *why says
+// where, unless `why` is null. [any]
 NRBPF_MUST_LOOK nrbpf_status nrbpf_open(
     const nrbpf_config *config, const char *manifest, size_t manifest_len,
     const nrbpf_file *files, size_t count, nrbpf_store **out, nrbpf_error *why);
 
 // Opens a store as nrbpf_open does, but on a state. The state stays the host's,
 // and other stores may open on it too. The new history begins at point 0.
-// Refuses as nrbpf_open does, and with O3 if the manifest has other maps than
-// the state, or the configuration fewer spare places than the state has
-// installed programs. [any], with no other call on this state at the same time.
+// Refuses as nrbpf_open does. Also refuses with O3 if the manifest has other
+// maps than the state. So it does if the configuration has fewer spare places
+// than the state has programs. [any], with no other call on this state at the
+// same time.
 NRBPF_MUST_LOOK nrbpf_status nrbpf_open_on(
     const nrbpf_config *config, const char *manifest, size_t manifest_len,
     const nrbpf_file *files, size_t count, const nrbpf_state *state,
     nrbpf_store **out, nrbpf_error *why);
 
-// Ends a store and gives its memory back. Refuses with S5 and H7. Then the
-// store is as it was. [end]
+// Ends a store and gives its memory back. If it refuses (S5, H7), the store is
+// as it was. [end]
 NRBPF_MUST_LOOK nrbpf_status nrbpf_close(nrbpf_store *store);
 
-// Ends a store and gives its last state. Refuses with S5, O2 and H7. Then the
-// store is as it was. [end]
+// Ends a store and gives its last state. If it refuses (S5, O2, H7), the store
+// is as it was. [end]
 NRBPF_MUST_LOOK nrbpf_status nrbpf_close_into(
     nrbpf_store *store, nrbpf_state **out);
 
@@ -305,15 +310,15 @@ NRBPF_MUST_LOOK nrbpf_status nrbpf_attach(
     nrbpf_store *store, uint32_t node, nrbpf_session **out);
 
 // Gives a session back. From then on all calls refuse its handle (H2), while
-// the store is open and at least while the next 511 sessions are attached.
-// Refuses with H2, H3 and H7. [session]
+// the store is open. None of the next 511 sessions that are attached gets the
+// same handle. Refuses with H2, H3 and H7. [session]
 NRBPF_MUST_LOOK nrbpf_status nrbpf_detach(nrbpf_session *session);
 
 // ---- Calls: each is one operation, at one point of the store's history
 
 typedef struct nrbpf_answer {
     // Of an update: its index, how many updates come before it. Of a read: how
-    // many it has seen.
+    // many updates it has seen.
     uint64_t point;
     // What the program left in R0.
     uint64_t reply;
@@ -328,10 +333,10 @@ typedef struct nrbpf_answer {
 
 enum { NRBPF_MODE_UPDATE = 0, NRBPF_MODE_READ = 1 };
 
-// Run a program on an argument of `len` bytes. They wait while other sessions
-// of the store are in the way: first they spin, then they call sched_yield
-// between two tries. Refuse with S1, S2, S3, H2, H3 and H7, an update also with
-// S4. [session]
+// Run a program on an argument of `len` bytes. Both calls wait while other
+// sessions of the store are in the way. First they spin, then they call
+// sched_yield between two tries. Refuse with S1, S2, S3, H2, H3 and H7, an
+// update also with S4. [session]
 NRBPF_MUST_LOOK nrbpf_status nrbpf_update(
     nrbpf_session *session, uint16_t program, const void *argument, size_t len,
     nrbpf_answer *out);
@@ -347,12 +352,12 @@ NRBPF_MUST_LOOK nrbpf_status nrbpf_install(
     const void *bytes, size_t len, nrbpf_answer *out, nrbpf_error *why);
 
 // Do what nrbpf_update, nrbpf_read and nrbpf_install do, but wait for nobody.
-// Each may also answer BUSY, an update or an install also POSTED. After POSTED
-// the update will happen exactly once, and until its answer the session takes
-// nrbpf_poll alone (H3). Poll soon: the session may have taken other updates of
-// its node along, and they wait until it is polled. If it is never polled
-// again, these and all later updates of its node may wait for ever, and the
-// store can't be closed (S5). [session]
+// Each may also answer BUSY. An update or an install may also answer POSTED.
+// After POSTED the update will happen exactly once, unless nrbpf_poll refuses
+// it with S4. Until its answer the session takes only nrbpf_poll (H3). Poll
+// soon: the session may have taken other updates of its node along. They wait
+// until it is polled. If it is never polled again, these and all later updates
+// of its node may wait for ever, and the store can't be closed (S5). [session]
 NRBPF_MUST_LOOK nrbpf_status nrbpf_try_update(
     nrbpf_session *session, uint16_t program, const void *argument, size_t len,
     nrbpf_answer *out);
@@ -365,8 +370,8 @@ NRBPF_MUST_LOOK nrbpf_status nrbpf_try_install(
 
 // A program to install, and the maps that it may name.
 typedef struct nrbpf_confined {
-    // Bit m stands for map m, as the manifest counts the maps from 0. Bits of
-    // maps that the store doesn't have say nothing.
+    // Bit m is for map m, as the manifest counts its maps from 0. Bits for maps
+    // that the store doesn't have say nothing.
     uint16_t maps;
     uint32_t mode;          // NRBPF_MODE_UPDATE or NRBPF_MODE_READ
     uint32_t argument_len;  // how many bytes its arguments have
@@ -375,11 +380,11 @@ typedef struct nrbpf_confined {
 } nrbpf_confined;
 
 // Do what nrbpf_install and nrbpf_try_install do, for a program that may name
-// some maps alone. So who lets others install programs says which maps each of
-// them may read and change. A program that names another map is refused with
-// S8: then *why has V16 and the first slot that names such a map. What is
-// posted doesn't depend on `maps`. Refuse with S4, S6 to S8, H2, H3, H5 and H7.
-// [session]
+// only the maps in `maps`. So a host that lets others install programs says
+// which maps each may read and change. If the program names another map, the
+// call refuses with S8. Then *why has V16 and the first slot that names such a
+// map. What is posted does not depend on `maps`. Refuse with S4, S6 to S8, H2,
+// H3, H5 and H7. [session]
 NRBPF_MUST_LOOK nrbpf_status nrbpf_install_within(
     nrbpf_session *session, const nrbpf_confined *program, nrbpf_answer *out,
     nrbpf_error *why);
@@ -387,21 +392,21 @@ NRBPF_MUST_LOOK nrbpf_status nrbpf_try_install_within(
     nrbpf_session *session, const nrbpf_confined *program, nrbpf_answer *out,
     nrbpf_error *why);
 
-// Continues the update or the install that is posted, and waits for nobody. It
-// answers POSTED again, or gives the answer, or refuses with S4: then the
+// Continues the update or the install that is posted, and waits for nobody.
+// Answers POSTED again, or gives the answer, or refuses with S4. With S4 the
 // update is over and did nothing. Also refuses with H2, H7 and H11. [session]
 NRBPF_MUST_LOOK nrbpf_status nrbpf_poll(
     nrbpf_session *session, nrbpf_answer *out);
 
 // ---- More reads: each at one point of the history
 //
-// The function with `try_` in its name waits for nobody, and may answer BUSY.
+// Each function with `try_` in its name waits for nobody, and may answer BUSY.
 
 typedef struct nrbpf_found {
     // How many updates the map had seen.
     uint64_t point;
-    // 1 if the key is there; then its value is written. Else 0, and the value's
-    // bytes are as they were.
+    // 1 if the key is there, and its value is written. Else 0, and the bytes at
+    // `value` are as they were.
     uint32_t is_there;
 } nrbpf_found;
 
@@ -424,14 +429,15 @@ typedef struct nrbpf_scanned {
 } nrbpf_scanned;
 #define NRBPF_END UINT32_MAX
 
-// Gives a page of a map's entries, from the place `from` on. Begin with 0.
-// Writes keys one after another, and values likewise, as many as both buffers
-// hold. Reads at most 1,024 places of the map, and 16 more for each entry that
-// the buffers hold. So a page may have no entry and yet a place from which to
-// continue. Two pages may be of different points, and a deletion may move a key
-// to another page; a snapshot is of one point. It is tested, not proved, that
-// the pages of one session at one point give each key once. Refuses with S9,
-// S10, H2, H3 and H7. [session]
+// Gives a page of a map's entries, from the place `from` on. A map has a place
+// for each of its ENTRIES, from 0 on. Begin with 0. Writes keys one after
+// another, and values likewise, as many as both buffers hold. Reads at most
+// 1,024 places of the map, and 16 more for each entry that the buffers hold. So
+// a page may have no entry and yet a place from which to continue. Two pages
+// may be of different points, and a deletion may move a key to another page. A
+// snapshot is of one point. It is tested, not proved, that the pages of one
+// session at one point give each key once. Refuses with S9, S10, H2, H3 and H7.
+// [session]
 NRBPF_MUST_LOOK nrbpf_status nrbpf_scan(
     nrbpf_session *session, uint32_t map, uint32_t from, void *keys,
     size_t keys_room, void *values, size_t values_room, nrbpf_scanned *out);
@@ -448,8 +454,8 @@ typedef struct nrbpf_question {
 #define NRBPF_MOST_QUESTIONS 16
 
 // Answers up to 16 reads at one point. replies[i] is the reply of questions[i].
-// Without questions it brings the session's node up to date. Refuses with S1 to
-// S3, H2, H3, H5 and H7. With S1 to S3 the slot of *why is the question's
+// Without questions the call brings the session's node up to date. Refuses with
+// S1 to S3, H2, H3, H5 and H7. With S1 to S3 the slot of *why is the question's
 // number, unless `why` is null. [session]
 NRBPF_MUST_LOOK nrbpf_status nrbpf_read_each(
     nrbpf_session *session, const nrbpf_question *questions, size_t count,
@@ -461,31 +467,31 @@ NRBPF_MUST_LOOK nrbpf_status nrbpf_try_read_each(
 // ---- States: from a running store, as text, and from a text
 
 // Makes a state for any number of snapshots of this store. Before the first
-// snapshot it is the state of a new store. It takes as much memory as one
+// snapshot it is the state of a new store. A state takes as much memory as one
 // node's maps. Refuses with O2 and H7. [any]
 NRBPF_MUST_LOOK nrbpf_status nrbpf_state_new(
     nrbpf_store *store, nrbpf_state **out);
 
-// Copies the store's state at one point of the history into `into`. It has all
-// updates that were answered when the call began. Other nodes go on. Sessions
-// of this node wait while the maps are copied (0.3 ms a MiB), so use a node
-// with few calls. Takes no memory. Refuses with H2, H3, H7 and H9. The function
-// with `try_` in its name waits for nobody; if it answers BUSY, `into` is as it
-// was. [session], with no other call on this state at the same time.
+// Copies the store's state at one point of the history into `into`. The copy
+// has all updates that were answered when the call began. Other nodes go on.
+// Sessions of this node wait while the maps are copied (0.3 ms a MiB), so use a
+// node with few calls. Takes no memory. Refuses with H2, H3, H7 and H9.
+// nrbpf_try_snapshot waits for nobody. If it answers BUSY, `into` is as it was.
+// [session], with no other call on this state at the same time.
 NRBPF_MUST_LOOK nrbpf_status nrbpf_snapshot(
     nrbpf_session *session, nrbpf_state *into, uint64_t *point);
 NRBPF_MUST_LOOK nrbpf_status nrbpf_try_snapshot(
     nrbpf_session *session, nrbpf_state *into, uint64_t *point);
 
-// Takes bytes of a dump. Answers 0 to get more.
+// A function of the host that takes bytes of a dump. It answers 0 to get more.
 typedef int nrbpf_writer(void *to, const char *bytes, size_t len);
 
 // Dumps a state as the text that `nrbpf --dump` writes and `nrbpf --load`
 // takes. Hands it to `write` in parts of at most 16,384 bytes. The whole text
-// is made before the first part. No store is blocked, and `write` may make
-// calls, but none on this state. Refuses with E0 if there is no memory for the
-// text, with H10 as soon as `write` answers something else than 0, and with H7.
-// [any], with no other call on this state at the same time.
+// is made before the first part. No store is blocked. `write` may make calls,
+// but none on this state. Refuses with E0 if there is no memory for the text,
+// and with H7. As soon as `write` does not answer 0, refuses with H10. [any],
+// with no other call on this state at the same time.
 NRBPF_MUST_LOOK nrbpf_status nrbpf_state_dump(
     const nrbpf_state *state, nrbpf_writer *write, void *to);
 
