@@ -4,7 +4,7 @@ use Rattle.loader.specs.CatalogueView.{CatalogueView}
 use Rattle.oplog.specs.History.{History, after}
 use Rattle.oplog.specs.Logs.{Log, tail_of}
 use Rattle.combiner.specs.Desks.{first_author, claimed_from}
-use Rattle.replica.specs.StoreMeaning.{store_meaning}
+use Rattle.replica.specs.StoreMeaning.{store_meaning, AreUpdates}
 use Rattle.node.specs.Steps.{NodeStep, Seen, may, next}
 
 -- the log as it is seen together with the completed tail of the word, which the log itself may not have been told
@@ -17,10 +17,12 @@ moved_on c adds base done g =
     let records = g.records ++ adds in
     record g { base = base; base_state = after store_meaning c g.base_state (take (base - g.base) records); records = drop (base - g.base) records; done = done }
 
--- what others do between a thread's steps: they add records, complete more, and move the base; at the desk they claim nothing, and answer
--- nothing that is claimed. The replica and the batch are the thread's
+-- what others do between a thread's steps: they add updates, no more than the history may have, complete more, and move the base; at the
+-- desk they claim nothing, and answer nothing that is claimed. The replica and the batch are the thread's
 pub record OthersDo (c : CatalogueView) (s t : Seen) : Type 0 where
   pub adds : History
+  pub updates : AreUpdates c adds
+  pub within : tail_of t.log ≤ t.log.limit
   pub base : s.log.base ≤ t.log.base
   pub done : s.log.done ≤ t.log.done
   pub log : t.log ≡ moved_on c adds t.log.base t.log.done s.log

@@ -49,8 +49,8 @@ pub fn desks_are_steps()
 /// whole read, several reads at one point and a scan are such a list without a batch (rebase, replay, finish), and then
 /// each read of the schedule that was begun with the completed tail that the call loaded may be answered, with what the
 /// call answers. Each step may be taken when it is, on the log as it is seen together with the completed tail. Between
-/// two steps others may append, complete and reclaim. Of all that a whole combine takes from the shelf the log is taken
-/// once.
+/// two steps others may append updates, as many as the limit allows, complete and reclaim. Of all that a whole combine
+/// takes from the shelf the log is taken once.
 pub fn whole_calls_are_steps()
     ensures combine { (m : Opening) (n : ℕ) (reads : List (Option BegunRead)) (w : WholeCombine m) → CombinesInOrder m n reads w }
     ensures read { (m : Opening) (n s : ℕ) (reads : List (Option BegunRead)) (w : WholeLook m) (d : DeskView) → ReadsInOrder m n s reads w d }

@@ -15,9 +15,10 @@ use Rattle.oplog.specs.declared.configuration.Sizes.{Sizes}
 use Rattle.oplog.specs.Sessions.{IsSessionOf}
 use Rattle.combiner.specs.Desks.{BatchView, DeskView, IsBatchOf, replied}
 use Rattle.accounts.specs.Moves.{unplaced}
+use Rattle.replica.specs.StoreMeaning.{store_meaning}
 use Rattle.replica.specs.Views.{RepliesView}
 use Rattle.accounts.specs.declared.sessions.Progress.{Progress}
-use Rattle.accounts.specs.Accounts.{Extends}
+use Rattle.accounts.specs.Accounts.{Extends, IsWellFormed}
 use Rattle.node.specs.Answering.{answered_batch}
 use Rattle.node.specs.Following.{copied, grown, has_next, may_append, may_rebase, no_records, rebased, reclaimed, replayed, replies_after, replies_for, told}
 use Rattle.node.specs.Seen.{Goes, Ends, Meets, OthersDo}
@@ -35,6 +36,7 @@ use Rattle.store_steps.specs.declared.values.Value.{Value}
 use Rattle.store_steps.proofs.Doing.{did_both, did_none, did_one, did_then, log_part, replica_part, with_log_part, with_replica_part}
 use Rattle.store_steps.proofs.StoreLaws.{store_laws}
 use Rattle.store_steps.proofs.Followed.{above, kept_up}
+use Rattle.store_steps.proofs.Taken.{well_formed}
 use Rattle.store_steps.proofs.Whole.{agrees_on, append_step, finish_step, follow_step, later, later_is, log_from, log_from_is, others, others_complete, rebase_step, reclaim_step, replay_step, reply_step, still_log}
 
 abbrev K : Type 0
@@ -58,6 +60,10 @@ module _ {s : Seen} {t : Seen} {xs : List NodeStep} where
 then_others : (c : CatalogueView) (s t u : Seen) (xs : List NodeStep) → Goes c s xs t → OthersDo c t u → Goes c s xs u
 then_others c s t u xs goes others = subst (λ z. Goes c s z u) (append-nil xs) (goes_on goes (Meets t u u [] others (Ends u)))
 
+-- what a session knows that stands is well formed
+well_of : (k : K) → Stands k → IsWellFormed store_meaning k.progress
+well_of k s = well_formed k.progress s.notes s.accounts
+
 -- ---- a raise
 
 -- the session saw the log g with the progress l; then it knew k, raised the completed tail, and is after
@@ -72,16 +78,21 @@ module _ (l : L) (k after : K) (g : LogView) (n : NodeReplica) (is : IsLogOf l g
   grows = store_laws.extends_on l k.progress after.progress on up.goes.extends
 
   pub raised_log : IsLogOf after.progress (later after.progress g)
-  raised_log = later_is l after.progress g is grows up.stands.accounts.completed
+  raised_log = later_is l after.progress g is grows
+
+  -- what stood just before the raise differs in the completed tail alone
+  well_before : IsWellFormed store_meaning up.before
+  well_before = let w = subst (IsWellFormed store_meaning) up.is (well_of after up.stands) in record { allowed = w.allowed; completed = long_before; limit = w.limit }
 
   then_is : later up.before g ≡ later after.progress g
   then_is = ap (λ z. later z g) (sym up.is)
 
-  pub raise_part : (c : CatalogueView) (b : NodeBatch) (d : DeskView) → Goes c (sees l g n b d) (if_any (nat_lt up.before.completed n.replica.tail) (Finishes ∷ [])) (sees after.progress (later after.progress g) n b d)
-  raise_part c b d =
-      Meets (sees l g n b d) (sees up.before (later up.before g) n b d) _ _ (others l up.before g is (store_laws.extends_on l k.progress up.before on up.was) long_before c n b d)
-      (subst (λ z. Goes c (sees up.before (later up.before g) n b d) (if_any (nat_lt up.before.completed n.replica.tail) (Finishes ∷ [])) (sees after.progress z n b d)) then_is
-      (finish_step c up.before after.progress (later up.before g) n b d up.is))
+  pub raise_part : (b : NodeBatch) (d : DeskView) → Goes l.catalogue (sees l g n b d) (if_any (nat_lt up.before.completed n.replica.tail) (Finishes ∷ [])) (sees after.progress (later after.progress g) n b d)
+  raise_part b d =
+      let grown = store_laws.extends_on l k.progress up.before on up.was in
+      Meets (sees l g n b d) (sees up.before (later up.before g) n b d) _ _ (others l up.before g is grown well_before l.catalogue grown.catalogue n b d)
+      (subst (λ z. Goes l.catalogue (sees up.before (later up.before g) n b d) (if_any (nat_lt up.before.completed n.replica.tail) (Finishes ∷ [])) (sees after.progress z n b d)) then_is
+      (finish_step l.catalogue up.before after.progress (later up.before g) n b d up.is))
 
 -- ---- room is made
 
@@ -120,10 +131,10 @@ module _ (k : K) (g : LogView) (n u : NodeReplica) (is : IsLogOf k.progress g) (
     ahead = nat_lt up.before.completed m.replica.tail
 
     same_log : later after.progress g ≡ g
-    same_log = still_log k.progress after.progress g is up.goes.extends up.stands.accounts.completed (up.still holds)
+    same_log = still_log k.progress after.progress g is up.goes.extends (up.still holds)
 
     raises : (b : BatchView) (d : DeskView) → Goes c (sees k.progress g m (Held b) d) (if_any ahead (Finishes ∷ [])) (sees after.progress g m (Held b) d)
-    raises b d = subst (λ z. Goes c (sees k.progress g m (Held b) d) (if_any ahead (Finishes ∷ [])) (sees after.progress z m (Held b) d)) same_log (raise_part k.progress k after g m is (store_laws.extends_self k.progress) up c (Held b) d)
+    raises b d = subst (λ z. Goes c (sees k.progress g m (Held b) d) (if_any ahead (Finishes ∷ [])) (sees after.progress z m (Held b) d)) same_log (raise_part k.progress k after g m is (store_laws.extends_self k.progress) up (Held b) d)
 
     pub makes_room : MakesRoom want k after g h n m
     unfolding Comes
@@ -144,7 +155,7 @@ module _ (k : K) (g : LogView) (n u : NodeReplica) (is : IsLogOf k.progress g) (
 
 -- the session k took the log g, and is t then, m once there is room in h, and f once it has put it back
 module _ (k t m f : K) (g h h2 : LogView) (n v v2 : NodeReplica) (rs : History) (kept : RepliesView) (took : Extends k.progress t.progress) (log_is : IsLogOf t.progress g) (room : MakesRoom (length rs) t m g h n v) (may : may_append rs h v ≡ true)
-    (log : h2 ≡ grown rs h) (node : v2 ≡ copied h2 v) (replies : kept ≡ replies_for rs h) (back_is : IsLogOf f.progress h2) (rise : m.progress.completed ≤ f.progress.completed) (low : f.progress.completed ≤ length f.progress.history)
+    (log : h2 ≡ grown rs h) (node : v2 ≡ copied h2 v) (replies : kept ≡ replies_for rs h) (back_is : IsLogOf f.progress h2) (rise : m.progress.completed ≤ f.progress.completed) (stands : Stands f)
     (x : Value) (x_is : log_of x ≡ Some g) (took_it : HasStepped k (Took leader x) t) (q : ℕ) (there : q ≡ leader) (put_it : HasStepped m (Put q (with_log x h2)) f) where
   room_did : (full : Bool) → Did t m (room_deeds full h) → Did t m (room_deeds full h2)
   room_did true d = subst (λ z. Did t m (Raised z ∷ [])) (ap (λ (z : LogView). z.base) (sym log)) d
@@ -173,7 +184,7 @@ module _ (k t m f : K) (g h h2 : LogView) (n v v2 : NodeReplica) (rs : History) 
     goes = λ d. under t.progress.catalogue k.progress.catalogue (sym took.catalogue)
         (goes_on (room.goes b d)
         (goes_on (append_step t.progress.catalogue m.progress h h2 v v2 b kept rs d same may log node replies)
-        (Meets _ _ _ [] (others_complete t.progress.catalogue m.progress f.progress h2 v2 (InLog (record { batch = b; replies = kept })) d rise back_is low) (Ends _))));
+        (Meets _ _ _ [] (others_complete t.progress.catalogue m.progress f.progress h2 v2 (InLog (record { batch = b; replies = kept })) d rise back_is (well_of f stands)) (Ends _))));
     due = λ e. subst (λ (z : History). IsBaseDue (length z) g n) (sym same) (room.due e);
     base = v;
     is = log ∙ (λ i. grown (sym same i) (room.is i));
@@ -190,16 +201,16 @@ module _ (k after : K) (g : LogView) (n m : NodeReplica) (old new : RepliesView)
     more = not (no_records n.hand.records);
     ahead = nat_lt up.before.completed m.replica.tail;
     goes = λ b d. goes_on (replay_step k.progress.catalogue k.progress g n m b old new d begins own kept)
-        (raise_part k.progress k after g m is (store_laws.extends_self k.progress) up k.progress.catalogue (InLog (record { batch = b; replies = new })) d);
+        (raise_part k.progress k after g m is (store_laws.extends_self k.progress) up (InLog (record { batch = b; replies = new })) d);
     did = up.did;
   }
 
 -- ---- the answers are handed over
 
-pub hands_over : (node : ℕ) (k after : K) (b : BatchView) (kept : RepliesView) (d : DeskView) → Extends k.progress after.progress → after.progress.completed ≤ length after.progress.history
+pub hands_over : (node : ℕ) (k after : K) (b : BatchView) (kept : RepliesView) (d : DeskView) → Extends k.progress after.progress → Stands after
     → IsSessionOf k.progress.config d.node k.session → IsBatchOf d b → d.node ≡ node → Did k after (takes_and_puts (desk_place k.progress.config node) (ADesk d) (ADesk (replied (answered_batch kept b) d)))
     → HandsOver node k after b kept
-hands_over node k after b kept d grown low mine claimed there did = record {
+hands_over node k after b kept d grown stands mine claimed there did = record {
   desk = d;
   there = there;
   mine = mine;
@@ -208,8 +219,8 @@ hands_over node k after b kept d grown low mine claimed there did = record {
   goes = λ g n is a.
       let tail = a.0.tail in let rise = grown.completed in (
         later after.progress g,
-        later_is k.progress after.progress g is grown low,
-        Meets _ _ _ _ (others k.progress after.progress g is grown low k.progress.catalogue n (InLog (record { batch = b; replies = kept })) d)
+        later_is k.progress after.progress g is grown,
+        Meets _ _ _ _ (others k.progress after.progress g is grown (well_of after stands) k.progress.catalogue grown.catalogue n (InLog (record { batch = b; replies = kept })) d)
             (reply_step k.progress.catalogue after.progress (later after.progress g) n b kept d (ap (λ (z : HandView). z.records) a.1.1) (omega (arith, tail, rise))),
       );
 }
@@ -228,9 +239,6 @@ module _ (node : ℕ) (k t a r f : K) (b : BatchView) (n v m : NodeReplica) (old
   abbrev c0 : CatalogueView
   c0 = k.progress.catalogue
 
-  low_f : f.progress.completed ≤ length f.progress.history
-  low_f = stands_f.accounts.completed
-
   to_a : k.progress.catalogue ≡ a.progress.catalogue
   to_a = took.catalogue ∙ since.catalogue
 
@@ -244,7 +252,7 @@ module _ (node : ℕ) (k t a r f : K) (b : BatchView) (n v m : NodeReplica) (old
           log = first.log;
           back = later f.progress then.log;
           log_is = first.log_is;
-          back_is = later_is r.progress f.progress then.log then.log_is back low_f;
+          back_is = later_is r.progress f.progress then.log then.log_is back;
         };
         own = n;
         left = m;
@@ -261,7 +269,7 @@ module _ (node : ℕ) (k t a r f : K) (b : BatchView) (n v m : NodeReplica) (old
     };
     goes = λ d. goes_on (under t.progress.catalogue c0 (sym took.catalogue) (first.goes d))
         (then_others c0 _ _ _ (replay_steps then.more then.ahead) (under a.progress.catalogue c0 (sym to_a) (then.goes b d))
-        (others r.progress f.progress then.log then.log_is back low_f c0 m (InLog (record { batch = b; replies = new })) d));
+        (others r.progress f.progress then.log then.log_is back (well_of f stands_f) c0 (to_a ∙ (up.catalogue ∙ back.catalogue)) m (InLog (record { batch = b; replies = new })) d));
     did = answers_did;
   }
 
@@ -370,7 +378,7 @@ module _ (k t f after : K) (g : LogView) (n u m : NodeReplica) (took : Extends k
     later = nat_lt up.before.completed m.replica.tail;
     goes = λ d. under c1 k.progress.catalogue (sym took.catalogue)
         (goes_on (rebase_step c1 t.progress g n u Absent d behind stays)
-        (goes_on (follow_step c1 t.progress g u m (above t.progress g u is keeps_up.0 keeps_up.1) keeps_up.0 ran Absent d (λ x. refl)) (raise_part t.progress f after g m is on up c1 Absent d)));
+        (goes_on (follow_step c1 t.progress g u m (above t.progress g u is keeps_up.0 keeps_up.1) keeps_up.0 ran Absent d (λ x. refl)) (raise_part t.progress f after g m is on up Absent d)));
     did = did_then k f after (Took leader (ALog g) ∷ Put leader (ALog g) ∷ []) (Raised m.replica.tail ∷ [])
         (did_both k t f leader q leader x x (ALog g) (ALog g) took_it put_it refl there (log_part x g x_is) (log_part x g x_is)) up.did;
   }
@@ -412,7 +420,7 @@ module _ (k t r f : K) (p : L) (done : ℕ) (n m : NodeReplica) (point : ℕ) (g
               log = first.log;
               back = later f.progress first.back;
               log_is = first.log_is;
-              back_is = later_is r.progress f.progress first.back first.back_is back stands_f.accounts.completed;
+              back_is = later_is r.progress f.progress first.back first.back_is back;
             };
             own = n;
             left = m;
@@ -424,7 +432,7 @@ module _ (k t r f : K) (p : L) (done : ℕ) (n m : NodeReplica) (point : ℕ) (g
           next = first.next;
           later = first.later;
           goes = λ d. then_others c2 _ _ _ (read_steps first.low first.next first.later) (under t.progress.catalogue c2 (sym to_t) (first.goes d))
-              (others r.progress f.progress first.back first.back_is back stands_f.accounts.completed c2 m Absent d);
+              (others r.progress f.progress first.back first.back_is back (well_of f stands_f) c2 (to_t ∙ (up.catalogue ∙ back.catalogue)) m Absent d);
           may = ap (λ z. z && nat_le m.replica.tail f.progress.completed) (le-leb done m.replica.tail reached) ∙ le-leb m.replica.tail f.progress.completed (omega (arith, tail, rise));
           at = at;
           shelf = record {

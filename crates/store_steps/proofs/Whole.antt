@@ -4,17 +4,19 @@ use Rattle.std.specs.Prelude.{nat_le, nat_lt}
 use Rattle.std.proofs.Math.Nat.{max-eq_left}
 use Rattle.std.proofs.lemmas.Bool.{le-leb, ltb-false}
 use Rattle.std.proofs.lemmas.List.{append-nil, drop-append-le}
+use Rattle.std.proofs.lemmas.Option.{none-some}
 use Rattle.loader.specs.CatalogueView.{CatalogueView, sizes_for}
 use Rattle.oplog.specs.History.{History, after}
 use Rattle.oplog.specs.Logs.{Log as LogView, tail_of}
 use Rattle.oplog.specs.declared.configuration.Sizes.{Sizes}
+use Rattle.ownlock.specs.Seats.{At}
 use Rattle.combiner.specs.Desks.{BatchView, DeskView, replied}
-use Rattle.replica.specs.StoreMeaning.{store_meaning}
+use Rattle.replica.specs.StoreMeaning.{store_meaning, AreUpdates}
 use Rattle.replica.specs.Views.{RepliesView}
 use Rattle.accounts.specs.declared.sessions.Progress.{Progress}
-use Rattle.accounts.specs.Accounts.{Extends}
+use Rattle.accounts.specs.Accounts.{Extends, IsWellFormed}
 use Rattle.accounts.specs.Moves.{raised}
-use Rattle.accounts.proofs.Export.{state_on}
+use Rattle.accounts.proofs.Export.{at_behind, at_of, state_on}
 use Rattle.node.specs.Answering.{answered_batch}
 use Rattle.node.specs.Following.{copied, grown, has_next, is_above, may_append, may_rebase, no_records, rebased, reclaimed, replayed, replies_after, replies_for, to_run, told}
 use Rattle.node.specs.Seen.{Goes, Ends, Does, OthersDo, moved_on}
@@ -42,7 +44,11 @@ no_more b = omega arith
 stays : (c : CatalogueView) (g : LogView) (adds : History) (done : ℕ) → moved_on c adds g.base done g ≡ record g { records = g.records ++ adds; done = done }
 stays c g adds done = ap (λ z. (let rs = g.records ++ adds in let moved : LogView = record g { base_state = after store_meaning c g.base_state (take z rs); records = drop z rs; done = done } in moved)) (no_more g.base)
 
-module _ (l m : L) (g : LogView) (is : IsLogOf l g) (grows : Extends l m) (low : m.completed ≤ length m.history) where
+-- the log of a progress keeps within the limit that the progress keeps within
+within_limit : (l : L) (g : LogView) → IsLogOf l g → IsWellFormed store_meaning l → tail_of g ≤ g.limit
+within_limit l g is well = let tail = is.tail in let limit = is.sizes.1 in let few = well.limit in omega (arith, tail, limit, few)
+
+module _ (l m : L) (g : LogView) (is : IsLogOf l g) (grows : Extends l m) where
   base_low : g.base ≤ length l.history
   base_low = let t = is.tail in omega (arith, t)
 
@@ -69,12 +75,18 @@ module _ (l m : L) (g : LogView) (is : IsLogOf l g) (grows : Extends l m) (low :
         sizes = (is.sizes.0 ∙ ap (λ (z : Sizes). z.window) grows.config, is.sizes.1 ∙ ap (λ (z : Sizes). z.limit) grows.config, is.sizes.2 ∙ ap sizes_for grows.catalogue);
       }
 
-  pub others : (c : CatalogueView) (n : NodeReplica) (b : NodeBatch) (d : DeskView) → OthersDo c (sees l g n b d) (sees m (later m g) n b d)
-  others c n b d =
-      let done = is.agrees.done in let base = is.agrees.base in let rise = grows.completed in let tail = later_tail in record {
+  -- what was added to the history are updates
+  adds_updates : IsWellFormed store_meaning m → AreUpdates m.catalogue grows.history.0
+  adds_updates well k r e = well.allowed (length l.history + k) r (subst (At (length l.history + k) r) (sym grows.history.1) (at_behind l.history grows.history.0 k r (at_of grows.history.0 k r e)))
+
+  pub others : IsWellFormed store_meaning m → (c : CatalogueView) → c ≡ m.catalogue → (n : NodeReplica) (b : NodeBatch) (d : DeskView) → OthersDo c (sees l g n b d) (sees m (later m g) n b d)
+  others well c same n b d =
+      let done = is.agrees.done in let base = is.agrees.base in let rise = grows.completed in let tail = later_tail in let low = well.completed in record {
         adds = grows.history.0;
+        updates = subst (λ z. AreUpdates z grows.history.0) (sym same) (adds_updates well);
         base = omega arith;
         done = rise;
+        within = within_limit m (later m g) later_is well;
         log = ap (λ z. (let h : LogView = record g { records = z; done = m.completed } in h)) later_records ∙ sym (stays c (record g { done = l.completed }) grows.history.0 m.completed);
         reclaimed = omega (arith, base, done, rise);
         completed = omega (arith, low, tail);
@@ -185,12 +197,14 @@ reply_step c l g n b kept d empty done = one_step c Replies (sees l g n (InLog (
 -- ---- what stays
 
 -- the log that the session put back stays, while others complete more
-pub others_complete : (c : CatalogueView) (l m : L) (g : LogView) (n : NodeReplica) (b : NodeBatch) (d : DeskView) → l.completed ≤ m.completed → IsLogOf m g → m.completed ≤ length m.history → OthersDo c (sees l g n b d) (sees m g n b d)
-others_complete c l m g n b d rise is low =
-    let done = is.agrees.done in let base = is.agrees.base in let tail = is.tail in record {
+pub others_complete : (c : CatalogueView) (l m : L) (g : LogView) (n : NodeReplica) (b : NodeBatch) (d : DeskView) → l.completed ≤ m.completed → IsLogOf m g → IsWellFormed store_meaning m → OthersDo c (sees l g n b d) (sees m g n b d)
+others_complete c l m g n b d rise is well =
+    let done = is.agrees.done in let base = is.agrees.base in let tail = is.tail in let low = well.completed in record {
       adds = [];
+      updates = λ k r e. absurd (none-some r e);
       base = omega arith;
       done = rise;
+      within = within_limit m g is well;
       log = sym (stays c (record g { done = l.completed }) [] m.completed ∙ ap (λ z. (let h : LogView = record g { records = z; done = m.completed } in h)) (append-nil g.records));
       reclaimed = omega (arith, base, done);
       completed = omega (arith, low, tail);

@@ -140,7 +140,7 @@ returns-clause-turned c k o is waits =
     record {
       combined = mid;
       has = has;
-      gives = hands_over c.args.here.caller.node k mid c.args.batch.now c.args.replies.now x has.extends has.stands.accounts.completed
+      gives = hands_over c.args.here.caller.node k mid c.args.batch.now c.args.replies.now x has.extends has.stands
           (subst (λ (z : Sizes × ℕ). IsSessionOf z.0 x.node z.1) (λ j. (sym b.extends.config j, b.session j)) (c.args.here.caller.slot, at.within, at.own, at.near))
           (is_batch t.0 c.args.batch.now c.args.replies.now ready c.args.here.caller.slot x at)
           (desk_node c.args.here.caller k t.0 place v b x c.desk_mut.ensures.desk)

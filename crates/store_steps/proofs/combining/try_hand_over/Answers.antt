@@ -83,7 +83,7 @@ returns-clause-handed c k after is now =
     let becomes : y ≡ y' = c.reply.ensures.replied ∙ ap (λ z. replied z x) c.reply.ensures.answered in
     let p = c.put.ensures.put t.0 t.2 in
     subst (λ z. HandsOver c.args.here.caller.node k z c.args.batch.now c.args.replies.now) (one_known c.put.new.seat _ after done.1 now)
-    (hands_over c.args.here.caller.node k _ c.args.batch.now c.args.replies.now x f.extends f.stands.accounts.completed
+    (hands_over c.args.here.caller.node k _ c.args.batch.now c.args.replies.now x f.extends f.stands
     (subst (λ (z : Sizes × ℕ). IsSessionOf z.0 x.node z.1) (λ j. (sym b.extends.config j, b.session j)) (c.args.here.caller.slot, at.within, at.own, at.near))
     (is_batch t.0 c.args.batch.now c.args.replies.now ready c.args.here.caller.slot x at)
     (desk_node c.args.here.caller k t.0 place v b x c.desk_mut.ensures.desk)

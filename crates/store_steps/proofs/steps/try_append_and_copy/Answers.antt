@@ -94,5 +94,5 @@ returns-clause-goes c k after is now batch same =
     let room = o.ensures.goes t.0 m.0 t.2 m.1 in
     subst (λ z. AppendsBy k z batch n c.come_back.new.node c.append_only.new.replies) (one_known c.put.new.seat _ after p.2 now)
     (appends_by k t.0 m.0 _ f h c.append_only.new.log n v c.come_back.new.node c.args.records.now c.append_only.new.replies b.extends (b.log f c.log_mut-log.ensures.log) room
-    (may t.0 m.0 f h v c.args.records.now m.2) a.log there a.replies back.0 back.1.completed done.stands.accounts.completed
+    (may t.0 m.0 f h v c.args.records.now m.2) a.log there a.replies back.0 back.1.completed done.stands
     x c.log_mut-log.ensures.log b.steps _ c.in-Some.ensures.place (refl, adds_on m.0 _ _ _ _ p.3) batch same)
