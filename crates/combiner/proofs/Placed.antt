@@ -22,7 +22,7 @@ abbrev desk_of : ℕ → List Slot → DeskView
 desk_of node xs = record { node = node; slots = xs }
 
 -- the desk whose slots lie in these places
-abbrev desk_in : Inside → DeskView
+abbrev pub desk_in : Inside → DeskView
 desk_in a = desk_of a.node (map slot_in (take a.count a.places))
 
 -- a test of slots, asked of the places where they lie
