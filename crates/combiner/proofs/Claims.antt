@@ -1,15 +1,17 @@
 -- Claiming slot by slot.
-use Rattle.std.proofs.Common.{◌≡◌, ℕ, zero, suc, ◌+◌, ◌*◌, ◌<◌, ◌≤◌, List, [], ◌∷◌, ◌++◌, length, map, Option, Some, None, refl, sym, ap, ◌∙◌, subst, arith}
+use Rattle.std.proofs.Common.{◌≡◌, ℕ, zero, suc, ◌+◌, ◌*◌, ◌<◌, ◌≤◌, List, [], ◌∷◌, ◌++◌, length, map, Bool, true, false, ◌||◌, Option, Some, None, refl, sym, ap, ap₂, ◌∙◌, subst, arith}
 use Rattle.std.specs.Prelude.{slice_get, slice_set}
+use Rattle.std.specs.List.{list_any}
 use Rattle.std.proofs.lemmas.Option.{none-some, same_Some}
 use Rattle.std.proofs.lemmas.List.{map-append}
+use Rattle.std.proofs.lemmas.Bool.{false≢true}
 use Rattle.oplog.specs.declared.records.Record.{Record}
 use Rattle.combiner.specs.declared.slots.Stage.{Stage}
 use Rattle.combiner.specs.declared.slots.Stage.TheVariants.{Empty, Posted, Claimed, Answered}
 use Rattle.combiner.specs.declared.slots.Slot.{Slot}
-use Rattle.combiner.specs.Slots.{claimed_slot, requested, requests_from}
+use Rattle.combiner.specs.Slots.{slot, is_posted, claimed_slot, requested, requests_from}
 use Rattle.combiner.specs.declared.slots.Reply.{Reply}
-use Rattle.combiner.specs.Desks.{DeskView, BatchView, first_author, with_slot, claimed, batch_of}
+use Rattle.combiner.specs.Desks.{DeskView, BatchView, first_author, with_slot, has_request, claimed, batch_of}
 use Rattle.combiner.specs.Claiming.{ClaimsSlot, claimed_up_to, requests_up_to, claimed_to}
 
 abbrev desk_of : ℕ → List Slot → DeskView
@@ -127,6 +129,10 @@ answers_turn old now before after n lt is claims answers =
     ∙ sym (map-append (λ r. None) before.records more)
     ∙ ap (map (λ r. None)) (sym t.2.records)
 
+-- what a turn tells of a place, of the slot that lies there
+pub claims_there : (x y : Slot) (a k : ℕ) (before after : BatchView) → ClaimsSlot y a before after → a ≡ k → y ≡ x → ClaimsSlot x k before after
+claims_there x y a k before after claims author same = subst (λ z. ClaimsSlot z k before after) same (subst (λ b. ClaimsSlot y b before after) author claims)
+
 -- ---- all turns
 
 pub claimed_whole : (old now : DeskView) (n : ℕ) → n ≡ length old.slots → now ≡ claimed_to n old → now ≡ claimed old
@@ -137,4 +143,52 @@ pub batch_whole : (old : DeskView) (b : BatchView) (n : ℕ) → n ≡ length ol
 batch_whole old b n all records answers =
     let whole : b.records ≡ requests_from (first_author old) old.slots =
     records ∙ ap (λ k. requests_up_to (first_author old) k old.slots) all ∙ all_requests (first_author old) old.slots in
+    ap (batch_with b.records) answers ∙ ap (λ rs. batch_with rs (map (λ r. None) rs)) whole
+
+-- ---- all turns that are left would find nothing
+
+pub neither : (b any : Bool) → (b || any) ≡ false → (b ≡ false) × (any ≡ false)
+neither true any h = absurd (false≢true (sym h))
+neither false any h = (refl, h)
+
+quiet_slot : (stage : Stage) (count : ℕ) → is_posted stage ≡ false → slot stage count ≡ claimed_slot (slot stage count)
+quiet_slot Empty count h = refl
+quiet_slot (Posted op) count h = absurd (false≢true (sym h))
+quiet_slot Claimed count h = refl
+quiet_slot (Answered reply) count h = refl
+
+quiet_request : (a count : ℕ) (stage : Stage) (rs : List Record) → is_posted stage ≡ false → rs ≡ requested a count stage rs
+quiet_request a count Empty rs h = refl
+quiet_request a count (Posted op) rs h = absurd (false≢true (sym h))
+quiet_request a count Claimed rs h = refl
+quiet_request a count (Answered reply) rs h = refl
+
+claimed_early : (n : ℕ) (xs : List Slot) → list_any (λ x. is_posted x.stage) (claimed_up_to n xs) ≡ false → claimed_up_to n xs ≡ map claimed_slot xs
+claimed_early zero [] none = refl
+claimed_early zero (x ∷ xs) none =
+    let each = neither (is_posted x.stage) (list_any (λ y. is_posted y.stage) xs) none in
+    ap₂ (λ y ys. y ∷ ys) (quiet_slot x.stage x.count each.0) (claimed_early zero xs each.1)
+claimed_early (suc n) [] none = refl
+claimed_early (suc n) (x ∷ xs) none =
+    let each = neither (is_posted (claimed_slot x).stage) (list_any (λ y. is_posted y.stage) (claimed_up_to n xs)) none in
+    ap (λ zs. claimed_slot x ∷ zs) (claimed_early n xs each.1)
+
+requests_early : (a n : ℕ) (xs : List Slot) → list_any (λ x. is_posted x.stage) (claimed_up_to n xs) ≡ false → requests_up_to a n xs ≡ requests_from a xs
+requests_early a zero [] none = refl
+requests_early a zero (x ∷ xs) none =
+    let each = neither (is_posted x.stage) (list_any (λ y. is_posted y.stage) xs) none in
+    requests_early (suc a) zero xs each.1 ∙ quiet_request a x.count x.stage (requests_from (suc a) xs) each.0
+requests_early a (suc n) [] none = refl
+requests_early a (suc n) (x ∷ xs) none =
+    let each = neither (is_posted (claimed_slot x).stage) (list_any (λ y. is_posted y.stage) (claimed_up_to n xs)) none in
+    ap (requested a x.count x.stage) (requests_early (suc a) n xs each.1)
+
+pub claimed_then : (old now : DeskView) (n : ℕ) → now ≡ claimed_to n old → has_request now ≡ false → now ≡ claimed old
+claimed_then old now n is none = is ∙ ap (desk_of old.node) (claimed_early n old.slots (sym (ap has_request is) ∙ none))
+
+pub batch_then : (old now : DeskView) (b : BatchView) (n : ℕ) → now ≡ claimed_to n old → has_request now ≡ false → b.records ≡ requests_up_to (first_author old) n old.slots
+    → b.answers ≡ map (λ r. None) b.records → b ≡ batch_of old
+batch_then old now b n is none records answers =
+    let whole : b.records ≡ requests_from (first_author old) old.slots =
+    records ∙ requests_early (first_author old) n old.slots (sym (ap has_request is) ∙ none) in
     ap (batch_with b.records) answers ∙ ap (λ rs. batch_with rs (map (λ r. None) rs)) whole

@@ -1,3 +1,4 @@
 mod Placed
 mod Claims
+mod Counts
 mod Replies

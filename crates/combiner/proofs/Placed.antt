@@ -1,20 +1,17 @@
 -- Slots as they lie in memory.
-use Rattle.std.proofs.Common.{◌≡◌, ℕ, zero, suc, ◌<◌, ◌≤◌, Bool, true, false, List, [], ◌∷◌, ◌++◌, length, map, take, replicate, Option, Some, None, refl, sym, ap, ap₂, ◌∙◌, subst, arith, ◌||◌, if◌then◌else◌}
+use Rattle.std.proofs.Common.{◌≡◌, ℕ, zero, suc, ◌<◌, ◌≤◌, Bool, true, false, List, [], ◌∷◌, ◌++◌, length, map, take, replicate, Option, Some, None, refl, sym, ap, ap₂, ◌∙◌, subst, arith, if◌then◌else◌}
 use Rattle.std.specs.Prelude.{slice_get, slice_set, slice_index_or, MatchOption}
-use Rattle.std.specs.List.{list_any}
 use Rattle.std.specs.Option.{option_and_then, option_map}
 use Rattle.std.proofs.lemmas.Option.{none-some, same_Some}
 use Rattle.std.proofs.lemmas.List.{map-set, length-set, length-take-le, take_at}
 use Rattle.oplog.specs.Operations.{Operation}
 use Rattle.combiner.specs.declared.slots.Reply.{Reply}
 use Rattle.combiner.specs.declared.slots.Stage.TheVariants.{Empty, Posted}
-use Rattle.combiner.specs.declared.slots.DeskRefused.{DeskRefused}
-use Rattle.combiner.specs.declared.slots.DeskRefused.TheVariants.{NothingPosted, CombinerAtWork}
 use Rattle.combiner.specs.declared.slots.Slot.{Slot}
 use Rattle.combiner.specs.declared.places.Place.{Place}
 use Rattle.combiner.specs.declared.desks.Desk.TheInside.{Inside}
-use Rattle.combiner.specs.Slots.{slot, is_empty, is_posted, is_claimed, counted}
-use Rattle.combiner.specs.Desks.{DeskView, Collection, with_slot, posted, claim_refusal, answer_in, collected, TakesAnswer}
+use Rattle.combiner.specs.Slots.{slot, is_empty, counted}
+use Rattle.combiner.specs.Desks.{DeskView, Collection, with_slot, posted, answer_in, collected, TakesAnswer}
 use Rattle.combiner.specs.Places.{slot_in, posted_slot}
 use Rattle.combiner.proofs.Claims.{put_same}
 
@@ -22,13 +19,8 @@ abbrev desk_of : ℕ → List Slot → DeskView
 desk_of node xs = record { node = node; slots = xs }
 
 -- the desk whose slots lie in these places
-abbrev desk_in : Inside → DeskView
+abbrev pub desk_in : Inside → DeskView
 desk_in a = desk_of a.node (map slot_in (take a.count a.places))
-
--- a test of slots, asked of the places where they lie
-pub any_in : (test : Slot → Bool) (ps : List Place) → list_any test (map slot_in ps) ≡ list_any (λ p. test (slot_in p)) ps
-any_in test [] = refl
-any_in test (p ∷ ps) = ap (λ b. test (slot_in p) || b) (any_in test ps)
 
 slot_there : (ps : List Place) (s : ℕ) (o : Place) → s < length (map slot_in ps) → slice_get (map slot_in ps) s ≡ Some (slot_in (slice_index_or ps s o))
 slot_there [] s o h = absurd (omega arith)
@@ -62,10 +54,6 @@ post_at : (b : Bool) (d : DeskView) (s : ℕ) (x y : Slot) → (if b then Some x
 post_at true d s x y h = ap (λ z. Some (with_slot d s z)) (same_Some x y h)
 post_at false d s x y h = absurd (none-some y h)
 
-busy_at : (b : Bool) (d : DeskView) (s : ℕ) (x : Slot) → (if b then Some x else None) ≡ None → (if b then Some (with_slot d s x) else None) ≡ None
-busy_at true d s x h = absurd (none-some x (sym h))
-busy_at false d s x h = refl
-
 abbrev posts : DeskView → ℕ → Operation → Slot → Option DeskView
 posts d s op x = if is_empty x.stage then Some (with_slot d s (slot (Posted op) x.count)) else None
 
@@ -73,22 +61,6 @@ posts d s op x = if is_empty x.stage then Some (with_slot d s (slot (Posted op) 
 pub posts_there : (d new : DeskView) (s : ℕ) (op : Operation) (x y : Slot) → slice_get d.slots s ≡ Some x → new ≡ with_slot d s y → posted_slot op x ≡ Some y → posted s op d ≡ Some new
 posts_there d new s op x y at is h =
     ap (option_and_then (posts d s op)) at ∙ post_at (is_empty x.stage) d s (slot (Posted op) x.count) y h ∙ ap Some (sym is)
-
--- the slot has a request already
-pub busy_there : (d : DeskView) (s : ℕ) (op : Operation) (x : Slot) → slice_get d.slots s ≡ Some x → posted_slot op x ≡ None → posted s op d ≡ None
-busy_there d s op x at h = ap (option_and_then (posts d s op)) at ∙ busy_at (is_empty x.stage) d s (slot (Posted op) x.count) h
-
--- ---- claim
-
-abbrev refusal_by : Bool → Bool → Option DeskRefused
-refusal_by combiner request = if combiner then Some CombinerAtWork else if request then None else Some NothingPosted
-
--- why nothing can be claimed, by what lies in the places
-pub refusal_there : (a : Inside) (d : DeskView) (combiner request : Bool) → desk_in a ≡ d → list_any (λ p. is_claimed (slot_in p).stage) (take a.count a.places) ≡ combiner
-    → list_any (λ p. is_posted (slot_in p).stage) (take a.count a.places) ≡ request → claim_refusal d ≡ refusal_by combiner request
-refusal_there a d combiner request is claimed waits =
-    let ps : List Place = take a.count a.places in
-    ap claim_refusal (sym is) ∙ ap₂ refusal_by (any_in (λ x. is_claimed x.stage) ps ∙ claimed) (any_in (λ x. is_posted x.stage) ps ∙ waits)
 
 -- ---- collect
 

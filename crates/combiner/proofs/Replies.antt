@@ -1,6 +1,7 @@
 -- Answering slot by slot.
 use Rattle.std.proofs.Common.{◌≡◌, ◌≢◌, ℕ, zero, suc, ◌+◌, ◌<◌, ◌≤◌, true, false, List, [], ◌∷◌, length, map, Option, Some, refl, sym, ap, ap₂, ◌∙◌, eq-eqb, nat_eq, ⊎_elim, subst, arith, if◌then◌else◌}
 use Rattle.std.specs.Prelude.{slice_get, slice_set}
+use Rattle.std.specs.List.{list_any}
 use Rattle.std.proofs.lemmas.Option.{none-some, same_Some}
 use Rattle.std.proofs.lemmas.List.{length-map}
 use Rattle.std.proofs.lemmas.Bool.{false≢true}
@@ -11,9 +12,9 @@ use Rattle.combiner.specs.declared.slots.Stage.{Stage}
 use Rattle.combiner.specs.declared.slots.Stage.TheVariants.{Empty, Posted, Claimed, Answered}
 use Rattle.combiner.specs.declared.slots.Slot.{Slot}
 use Rattle.combiner.specs.Slots.{slot, is_claimed, answered_slot}
-use Rattle.combiner.specs.Desks.{DeskView, BatchView, first_author, with_slot, claimed_from, answer_for, answered_from, replied, IsBatchOf, IsAnswered}
+use Rattle.combiner.specs.Desks.{DeskView, BatchView, first_author, with_slot, has_combiner, claimed_from, answer_for, answered_from, replied, IsBatchOf, IsAnswered}
 use Rattle.combiner.specs.Answering.{answer_no, uses, behind, used_by, answered_up_to, answered_to}
-use Rattle.combiner.proofs.Claims.{some_at}
+use Rattle.combiner.proofs.Claims.{some_at, neither}
 
 abbrev desk_of : ℕ → List Slot → DeskView
 desk_of node xs = record { node = node; slots = xs }
@@ -178,3 +179,37 @@ by_order a rs answers (x ∷ xs) has own = by_stage x.stage x.count a rs answers
 pub replied_whole : (old now : DeskView) (b : BatchView) (n : ℕ) → n ≡ length old.slots → now ≡ answered_to n b.answers old → IsBatchOf old b → IsAnswered b → now ≡ replied b old
 replied_whole old now b n all is own answered =
     is ∙ ap (λ k. answered_to k b.answers old) all ∙ ap (desk_of old.node) (by_order (first_author old) b.records b.answers old.slots answered own)
+
+-- ---- all turns that are left would find nothing
+
+quiet_slot : (answer : Option Reply) (stage : Stage) (count : ℕ) → is_claimed stage ≡ false → slot stage count ≡ answered_slot answer (slot stage count)
+quiet_slot answer Empty count h = refl
+quiet_slot answer (Posted op) count h = refl
+quiet_slot answer Claimed count h = absurd (false≢true (sym h))
+quiet_slot answer (Answered reply) count h = refl
+
+quiet_behind : (stage : Stage) (answers : List (Option Reply)) → is_claimed stage ≡ false → answers ≡ behind stage answers
+quiet_behind Empty answers h = refl
+quiet_behind (Posted op) answers h = refl
+quiet_behind Claimed answers h = absurd (false≢true (sym h))
+quiet_behind (Answered reply) answers h = refl
+
+answered_early : (n : ℕ) (answers : List (Option Reply)) (xs : List Slot) → list_any (λ x. is_claimed x.stage) (answered_up_to n answers xs) ≡ false
+    → answered_up_to n answers xs ≡ answered_up_to (length xs) answers xs
+answered_early zero answers [] none = refl
+answered_early zero answers (x ∷ xs) none =
+    let each = neither (is_claimed x.stage) (list_any (λ y. is_claimed y.stage) xs) none in
+    ap₂ (λ y ys. y ∷ ys) (quiet_slot (answer_no 0 answers) x.stage x.count each.0)
+    (answered_early zero answers xs each.1 ∙ ap (λ others. answered_up_to (length xs) others xs) (quiet_behind x.stage answers each.0))
+answered_early (suc n) answers [] none = refl
+answered_early (suc n) answers (x ∷ xs) none =
+    let first : Slot = answered_slot (answer_no 0 answers) x in
+    let others : List (Option Reply) = behind x.stage answers in
+    let each = neither (is_claimed first.stage) (list_any (λ y. is_claimed y.stage) (answered_up_to n others xs)) none in
+    ap (λ zs. first ∷ zs) (answered_early n others xs each.1)
+
+pub replied_then : (old now : DeskView) (b : BatchView) (n : ℕ) → now ≡ answered_to n b.answers old → has_combiner now ≡ false → IsBatchOf old b → IsAnswered b → now ≡ replied b old
+replied_then old now b n is none own answered =
+    let whole : answered_up_to n b.answers old.slots ≡ answered_up_to (length old.slots) b.answers old.slots =
+    answered_early n b.answers old.slots (sym (ap has_combiner is) ∙ none) in
+    is ∙ ap (desk_of old.node) (whole ∙ by_order (first_author old) b.records b.answers old.slots answered own)

@@ -1,5 +1,5 @@
 -- The slot that is in a place. No public clause cites this module.
-use Rattle.std.specs.Prelude.{Option, Some, None, if◌then◌else◌}
+use Rattle.std.specs.Prelude.{ℕ, ◌+◌, Bool, List, [], ◌∷◌, Option, Some, None, if◌then◌else◌}
 use Rattle.oplog.specs.Operations.{Operation}
 use Rattle.combiner.specs.declared.slots.Reply.{Reply}
 use Rattle.combiner.specs.declared.slots.Stage.{Stage}
@@ -23,3 +23,12 @@ slot_in p = slot (stage_in p.stage p.op p.reply) p.count
 -- the slot once this operation is posted there, where it is empty
 abbrev pub posted_slot : Operation → Slot → Option Slot
 posted_slot op x = if is_empty x.stage then Some (slot (stages.Posted op) x.count) else None
+
+-- 1 for yes, 0 for no
+abbrev pub as_number : Bool → ℕ
+as_number b = if b then 1 else 0
+
+-- how many of these slots are at a stage that passes the test
+abbrev pub how_many : (Stage → Bool) → List Slot → ℕ
+how_many test [] = 0
+how_many test (x ∷ xs) = as_number (test x.stage) + how_many test xs

@@ -19,22 +19,29 @@ use std::marker::Model;
 #[derive(Drop)]
 pub struct Desk {
     node: u16,
+    // How many slots have a request that no combiner has, and of how many a combiner has it: so no loop looks for more.
+    posted_count: u16,
+    claimed_count: u16,
     count: usize,
     places: [Place; 16],
 }
 
 impl Model for Desk {
-    ghost use Rattle.std.specs.Prelude.{◌<◌, ◌≤◌, take, map};
+    ghost use Rattle.std.specs.Prelude.{◌≡◌, ◌<◌, ◌≤◌, take, map};
     ghost use Rattle.oplog.specs.declared.configuration.TheConstants.{MAX_NODES, MAX_NODE_SLOTS};
     ghost use Rattle.combiner.specs.Desks.{DeskView};
 
     ghost Value = { DeskView };
 
-    ghost use Rattle.combiner.specs.Places.{slot_in};
+    ghost use Rattle.combiner.specs.Slots.{is_posted, is_claimed};
+    ghost use Rattle.combiner.specs.Places.{slot_in, how_many};
 
     ghost view = { λ d. record { node = d.node; slots = map slot_in (take d.count d.places) } };
 
-    ghost invariant = { λ d. (d.node < MAX_NODES) × (d.count ≤ MAX_NODE_SLOTS) };
+    ghost invariant = { λ d. (d.node < MAX_NODES)
+        × (d.count ≤ MAX_NODE_SLOTS)
+        × (d.posted_count ≡ how_many is_posted (map slot_in (take d.count d.places)))
+        × (d.claimed_count ≡ how_many is_claimed (map slot_in (take d.count d.places))) };
 }
 
 impl Desk {
@@ -46,6 +53,8 @@ impl Desk {
     {
         Desk {
             node,
+            posted_count: 0,
+            claimed_count: 0,
             count: slots,
             places: [Place::default(); 16],
         }
@@ -62,7 +71,9 @@ impl Desk {
         ensures same { OnErr result (self.new ≡ self.old) }
     {
         let places = &mut self.places[..self.count];
-        places[slot].post(op)
+        places[slot].post(op)?;
+        self.posted_count += 1;
+        Ok(())
     }
 
     /// What stands in a slot.
@@ -77,18 +88,14 @@ impl Desk {
     pub fn claimed(&self) -> bool
         ensures claimed { result ≡ has_combiner self.now }
     {
-        self.places[..self.count]
-            .iter()
-            .any(|place| place.is_claimed())
+        self.claimed_count > 0
     }
 
     /// Whether a slot has a request that no combiner has.
     pub fn has_request(&self) -> bool
         ensures request { result ≡ has_request self.now }
     {
-        self.places[..self.count]
-            .iter()
-            .any(|place| place.is_posted())
+        self.posted_count > 0
     }
 
     // How many slots the desk has.
@@ -129,16 +136,13 @@ impl Desk {
     fn claim_refusal(&self) -> Option<DeskRefused>
         ensures refusal { result ≡ claim_refusal self.now }
     {
-        let mut refusal = Some(DeskRefused::NothingPosted);
-        for place in &self.places[..self.count] {
-            if place.is_claimed() {
-                return Some(DeskRefused::CombinerAtWork);
-            }
-            if place.is_posted() {
-                refusal = None;
-            }
+        if self.claimed() {
+            Some(DeskRefused::CombinerAtWork)
+        } else if self.has_request() {
+            None
+        } else {
+            Some(DeskRefused::NothingPosted)
         }
-        refusal
     }
 
     // All posted requests, which are claimed, go into the batch, and nothing else.
@@ -149,6 +153,9 @@ impl Desk {
         batch.clear();
         let slots = self.slot_count();
         for slot in 0..slots {
+            if !self.has_request() {
+                break;
+            }
             self.claim_slot(slot, batch);
         }
     }
@@ -162,7 +169,9 @@ impl Desk {
     {
         let author = self.author(slot);
         let places = &mut self.places[..self.count];
-        places[slot].claim(author, batch);
+        let claimed = places[slot].claim(author, batch);
+        self.posted_count -= claimed;
+        self.claimed_count += claimed;
     }
 
     /// Hands the answers of a batch to the slots of its requests. The batch is this desk's, and each of its answers is set.
@@ -173,6 +182,9 @@ impl Desk {
     {
         let mut next = 0;
         for slot in 0..self.slot_count() {
+            if !self.claimed() {
+                break;
+            }
             next = self.answer_slot(slot, batch, next);
         }
     }
@@ -186,7 +198,9 @@ impl Desk {
         ensures next { (x : TheSlot) → slice_get self.old.slots slot ≡ Some x → result ≡ next + uses x.stage }
     {
         let places = &mut self.places[..self.count];
-        places[slot].answer(batch, next)
+        let after = places[slot].answer(batch, next);
+        self.claimed_count -= (after - next) as u16;
+        after
     }
 
     /// Takes the answer that waits in a slot, which is empty then; `None`, and nothing changed, where no answer waits.

@@ -8,7 +8,7 @@ ghost use Rattle.combiner.specs.Slots.{slot, is_posted, is_claimed, claimed_slot
 ghost use Rattle.combiner.specs.Desks.{HasAnswer, answer_in};
 ghost use Rattle.combiner.specs.Claiming.{ClaimsSlot};
 ghost use Rattle.combiner.specs.Answering.{answered_by, uses};
-ghost use Rattle.combiner.specs.Places.{slot_in, posted_slot};
+ghost use Rattle.combiner.specs.Places.{slot_in, posted_slot, as_number};
 
 use crate::batches::Batch;
 use crate::slots::{DeskRefused, Reply, Slot, Stage};
@@ -63,20 +63,6 @@ impl Place {
         Slot { stage, count }
     }
 
-    // Whether a combiner has its request.
-    pub(crate) fn is_claimed(&self) -> bool
-        ensures claimed { result ≡ is_claimed (slot_in self.now).stage }
-    {
-        matches!(self.stage, PlaceStage::Claimed)
-    }
-
-    // Whether it has a request that no combiner has.
-    pub(crate) fn is_posted(&self) -> bool
-        ensures posted { result ≡ is_posted (slot_in self.now).stage }
-    {
-        matches!(self.stage, PlaceStage::Posted)
-    }
-
     // Posts an operation, where there is no request.
     pub(crate) fn post(&mut self, op: &Op) -> Result<(), DeskRefused>
         ensures posted { IfOk result (λ _. posted_slot op.now (slot_in self.old) ≡ Some (slot_in self.new)) }
@@ -93,15 +79,21 @@ impl Place {
         }
     }
 
-    // Claims the request in the place, if one is posted: the request goes into the batch, as that of session `author`.
-    pub(crate) fn claim(&mut self, author: u16, batch: &mut Batch)
+    // Claims the request in the place, if one is posted: the request goes into the batch, as that of session `author`. Answers
+    // how many it claimed: 1 or 0.
+    pub(crate) fn claim(&mut self, author: u16, batch: &mut Batch) -> u16
         requires room { length batch.old.records < MAX_NODE_SLOTS }
         ensures claims { ClaimsSlot (slot_in self.old) author batch.old batch.new }
         ensures claimed { slot_in self.new ≡ claimed_slot (slot_in self.old) }
+        ensures count { result ≡ as_number (is_posted (slot_in self.old).stage) }
     {
-        if let PlaceStage::Posted = self.stage {
-            batch.push(author, &self.op, self.count);
-            self.stage = PlaceStage::Claimed;
+        match self.stage {
+            PlaceStage::Posted => {
+                batch.push(author, &self.op, self.count);
+                self.stage = PlaceStage::Claimed;
+                1
+            }
+            _ => 0,
         }
     }
 

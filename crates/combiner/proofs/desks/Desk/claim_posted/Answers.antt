@@ -1,6 +1,6 @@
-use Rattle.std.proofs.Common.{◌≡◌, arith, ap, ◌∙◌, length, ◌<◌}
+use Rattle.std.proofs.Common.{◌≡◌, arith, sym, ap, ◌∙◌, length, ◌<◌}
 use Rattle.oplog.specs.declared.configuration.TheConstants.{MAX_NODE_SLOTS}
-use Rattle.combiner.proofs.Claims.{desk_turn, records_turn, answers_turn, claimed_whole, batch_whole, claimed_length, requests_few}
+use Rattle.combiner.proofs.Claims.{desk_turn, records_turn, answers_turn, claimed_whole, batch_whole, claimed_then, batch_then, claimed_length, requests_few}
 use Rattle.combiner.specs.Desks.{first_author}
 use Rattle.combiner.specs.Claiming.{requests_up_to}
 use Rattle.combiner.proofs.desks.Desk.claim_posted.Goals as goal
@@ -32,18 +32,26 @@ loop-slot-preserved c =
       answers = answers_turn c.args.self.now c.loop-slot.self c.loop-slot.batch c.claim_slot.new.batch c.loop-slot.slot lt c.loop-slot.invariant.desk c.claim_slot.ensures.claims c.loop-slot.invariant.answers;
     }
 
-pub returns-clause-desk : goal.returns-clause-desk
-returns-clause-desk c =
+pub returns-after-loop-slot-clause-desk : goal.returns-after-loop-slot-clause-desk
+returns-after-loop-slot-clause-desk c =
     let count = c.slot_count-slots.ensures.count in
     let past = c.loop-slot-test.false in
     let upto = c.loop-slot.auto.slot-end in
     let all : c.loop-slot.slot ≡ length c.args.self.now.slots = omega arith in
     claimed_whole c.args.self.now c.loop-slot.self c.loop-slot.slot all c.loop-slot.invariant.desk
 
-pub returns-clause-batch : goal.returns-clause-batch
-returns-clause-batch c =
+pub returns-after-loop-slot-clause-batch : goal.returns-after-loop-slot-clause-batch
+returns-after-loop-slot-clause-batch c =
     let count = c.slot_count-slots.ensures.count in
     let past = c.loop-slot-test.false in
     let upto = c.loop-slot.auto.slot-end in
     let all : c.loop-slot.slot ≡ length c.args.self.now.slots = omega arith in
     batch_whole c.args.self.now c.loop-slot.batch c.loop-slot.slot all c.loop-slot.invariant.records c.loop-slot.invariant.answers
+
+pub returns-then-not-has_request-clause-desk : goal.returns-then-not-has_request-clause-desk
+returns-then-not-has_request-clause-desk c =
+    claimed_then c.args.self.now c.loop-slot.self c.loop-slot.slot c.loop-slot.invariant.desk (sym c.has_request.ensures.request ∙ c.if-not-has_request.true)
+
+pub returns-then-not-has_request-clause-batch : goal.returns-then-not-has_request-clause-batch
+returns-then-not-has_request-clause-batch c =
+    batch_then c.args.self.now c.loop-slot.self c.loop-slot.batch c.loop-slot.slot c.loop-slot.invariant.desk (sym c.has_request.ensures.request ∙ c.if-not-has_request.true) c.loop-slot.invariant.records c.loop-slot.invariant.answers

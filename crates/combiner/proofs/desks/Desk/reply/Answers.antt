@@ -1,6 +1,6 @@
-use Rattle.std.proofs.Common.{◌≡◌, ◌<◌, ◌≤◌, arith, ap, ◌∙◌, length}
+use Rattle.std.proofs.Common.{◌≡◌, ◌<◌, ◌≤◌, arith, sym, ap, ◌∙◌, length}
 use Rattle.oplog.specs.declared.configuration.TheConstants.{MAX_NODE_SLOTS}
-use Rattle.combiner.proofs.Replies.{answered_length, used_few, desk_turn, next_turn, answer_there, replied_whole}
+use Rattle.combiner.proofs.Replies.{answered_length, used_few, desk_turn, next_turn, answer_there, replied_whole, replied_then}
 use Rattle.combiner.proofs.desks.Desk.reply.Goals as goal
 
 pub answer_slot-next-requires-clause-slot : goal.answer_slot-next-requires-clause-slot
@@ -37,10 +37,15 @@ loop-slot-preserved c =
       next = next_turn c.args.self.now c.loop-slot.self c.args.batch.now.answers c.loop-slot.slot c.loop-slot.next c.answer_slot-next.result lt c.loop-slot.invariant.desk c.loop-slot.invariant.next c.answer_slot-next.ensures.next;
     }
 
-pub returns : goal.returns
-returns c =
+pub returns-after-loop-slot : goal.returns-after-loop-slot
+returns-after-loop-slot c =
     let count = c.slot_count-slot-end.ensures.count in
     let past = c.loop-slot-test.false in
     let upto = c.loop-slot.auto.slot-end in
     let all : c.loop-slot.slot ≡ length c.args.self.now.slots = omega arith in
     record { replied = replied_whole c.args.self.now c.loop-slot.self c.args.batch.now c.loop-slot.slot all c.loop-slot.invariant.desk c.requires.own c.requires.answered }
+
+pub returns-then-not-claimed : goal.returns-then-not-claimed
+returns-then-not-claimed c = record {
+  replied = replied_then c.args.self.now c.loop-slot.self c.args.batch.now c.loop-slot.slot c.loop-slot.invariant.desk (sym c.claimed.ensures.claimed ∙ c.if-not-claimed.true) c.requires.own c.requires.answered;
+}
