@@ -94,6 +94,16 @@ texts_in (Err s) = None
 abbrev pub strange_text : Stranger → List ℕ × List ℕ
 strange_text s = (string_bytes s.name, s.bytes.items)
 
+-- it goes by this name, and is no file that a manifest names
+abbrev pub GoesBy : List ℕ → Stranger → Type 0
+GoesBy name s = (string_bytes s.name ≡ name) × (s.manifest ≡ None)
+
+-- it is the history, or the reader of that is as it was; and so for the state and the file: what is read after it was not read
+abbrev pub NothingAfter : {F R : Type 0} → Inputs F R → Inputs F R → Stranger → Type 0
+NothingAfter old new s =
+    GoesBy (codes "the history") s
+    ⊎ ((new.history ≡ old.history) × (GoesBy (codes "the state") s ⊎ ((new.state ≡ old.state) × (GoesBy (codes "the file") s ⊎ (new.file ≡ old.file)))))
+
 -- ---- which read failed
 
 -- what is known of these bytes is UTF-8
