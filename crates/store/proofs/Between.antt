@@ -27,10 +27,10 @@ use Rattle.store_steps.specs.Requests.{HasPosted}
 use Rattle.store_steps.specs.Stages.{IsAsked, IsAsking, IsOnItsWay, IsOut, IsPolled, TellsDone}
 use Rattle.store.specs.Polled.{HasPostedFor}
 use Rattle.store_steps.specs.Views.{IsIdle, SessionView, session_view}
-use Rattle.store.specs.Sessions.{HasRoom, IsOf, StoreView}
+use Rattle.store.specs.Sessions.{HasRoom, IsOf, SessionGoesOn, StoreView}
 use Rattle.store_steps.specs.Standing.{SessionKnown, StoreSeat}
 use Rattle.store_steps.specs.Trying.{IsStill}
-use Rattle.store_steps.proofs.Export.{asks, both, seen_as, free_by, well_formed}
+use Rattle.store_steps.proofs.Export.{asks, both, seen_as, free_by, store_laws, well_formed}
 use Rattle.store.proofs.Invoked.{has_asked}
 
 abbrev K : Type 0
@@ -39,8 +39,27 @@ K = SessionKnown
 abbrev S : Type 0
 S = StoreSeat
 
-pub own_on : (store : StoreView) (old new : SessionView) → Extends old.progress new.progress → new.shelf ≡ old.shelf → IsOf store old → IsOf store new
+own_on : (store : StoreView) (old new : SessionView) → Extends old.progress new.progress → new.shelf ≡ old.shelf → IsOf store old → IsOf store new
 own_on store old new grown same own = record { shelf = same ∙ own.shelf; config = sym grown.config ∙ own.config; catalogue = sym grown.catalogue ∙ own.catalogue }
+
+-- who is told nothing goes on as it was
+pub goes_still : (store : StoreView) (old new : SessionView) → new ≡ old → IsOf store old → IsWellFormed store_meaning old.progress → SessionGoesOn store old new
+goes_still store old new same own well =
+    subst (SessionGoesOn store old) (sym same) (record { own = own; same = (refl, refl); grown = store_laws.extends_self old.progress; well_formed = well })
+
+-- so does who has learned, as its user saw it before
+pub goes_on : (store : StoreView) (old was new : SessionView) → old ≡ was → IsOf store was → new.shelf ≡ old.shelf → new.session ≡ old.session → Extends old.progress new.progress → IsWellFormed store_meaning new.progress
+    → SessionGoesOn store was new
+goes_on store old was new seen own shelf session grown well =
+    subst (λ z. SessionGoesOn store z new) seen (record { own = own_on store old new grown shelf (subst (IsOf store) (sym seen) own); same = (shelf, session); grown = grown; well_formed = well })
+
+pub goes_then : (store : StoreView) (old mid new : SessionView) → SessionGoesOn store old mid → SessionGoesOn store mid new → SessionGoesOn store old new
+goes_then store old mid new a b = record {
+  own = b.own;
+  same = (b.same.0 ∙ a.same.0, b.same.1 ∙ a.same.1);
+  grown = store_laws.extends_on old.progress mid.progress new.progress a.grown b.grown;
+  well_formed = b.well_formed;
+}
 
 -- ---- the stages
 

@@ -19,7 +19,7 @@ use Rattle.store_steps.specs.declared.values.Value.{Value}
 use Rattle.store_steps.specs.AtOnce.{IsAlone}
 use Rattle.store_steps.specs.AtDesk.{HasAsked}
 use Rattle.store_steps.specs.Requests.{HasCompleted, HasPosted}
-use Rattle.store.specs.Sessions.{said, IsOf, StoreView, TellsUpdate, known_of}
+use Rattle.store.specs.Sessions.{said, IsOf, SessionGoesOn, StoreView, TellsUpdate, known_of}
 use Rattle.store_steps.specs.Views.{IsIdle, SessionView, request_of, session_view}
 use Rattle.store_steps.specs.Standing.{IsFree, SessionKnown, Stands}
 use Rattle.store_steps.proofs.Export.{free_by, store_laws, well_formed, view_known}
@@ -122,21 +122,29 @@ module _ (store : StoreView) (old new : SessionView) (id shelf : ShelfId) (k f :
   both : (P : SessionView → SessionView → Type 0) → P (view_known id k) (view_known shelf f) → P old new
   both P h = subst (λ (z : SessionView × SessionView). P z.0 z.1) (λ i. (sym was i, sym now i)) h
 
-  pub still_of : IsOf store old → shelf ≡ store.id → IsOf store new
+  still_of : IsOf store old → shelf ≡ store.id → IsOf store new
   still_of own same = record {
     shelf = ap (λ (z : SessionView). z.shelf) now ∙ same;
     config = ap (λ (z : SessionView). z.progress.config) now ∙ (sym v.extends.config ∙ (ap (λ (z : SessionView). z.progress.config) (sym was) ∙ own.config));
     catalogue = ap (λ (z : SessionView). z.progress.catalogue) now ∙ (sym v.extends.catalogue ∙ (ap (λ (z : SessionView). z.progress.catalogue) (sym was) ∙ own.catalogue));
   }
 
-  pub same_session : new.session ≡ old.session
+  same_session : new.session ≡ old.session
   same_session = both (λ a b. b.session ≡ a.session) v.session
 
   pub has_grown : Extends old.progress new.progress
   has_grown = both (λ a b. Extends a.progress b.progress) v.extends
 
-  pub stays_well : IsWellFormed store_meaning new.progress
+  stays_well : IsWellFormed store_meaning new.progress
   stays_well = both (λ a b. IsWellFormed store_meaning b.progress) (well_formed f.progress v.stands.notes v.stands.accounts)
+
+  pub goes_on : IsOf store old → shelf ≡ old.shelf → SessionGoesOn store old new
+  goes_on own same = record {
+    own = still_of own (same ∙ own.shelf);
+    same = (ap (λ (z : SessionView). z.shelf) now ∙ same, same_session);
+    grown = has_grown;
+    well_formed = stays_well;
+  }
 
   pub tells_update : k.note.pending ≡ None → k.note.batch ≡ [] → TellsUpdate old new op (said reply)
   tells_update free alone = both (λ a b. TellsUpdate a b op (said reply)) (by reply v.tells v.note)

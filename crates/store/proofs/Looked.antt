@@ -15,11 +15,9 @@ use Rattle.store_steps.specs.Stages.{IsPolled}
 use Rattle.store_steps.specs.Standing.{IsFree, SessionKnown, StoreSeat}
 use Rattle.store_steps.specs.Views.{IsIdle, SessionView, session_view}
 use Rattle.store_steps.proofs.Export.{on_known, both}
-use Rattle.accounts.specs.Accounts.{Extends, IsWellFormed}
 use Rattle.loader.specs.Installed.{InstalledView}
-use Rattle.replica.specs.StoreMeaning.{store_meaning}
-use Rattle.store.specs.Sessions.{HasRoom, IsFresh, IsOf, StoreView}
-use Rattle.store.proofs.Between.{StaysIdle, idle_at, idle_stage, on_at, room_on, stays_idle}
+use Rattle.store.specs.Sessions.{HasRoom, IsFresh, IsOf, SessionGoesOn, StoreView}
+use Rattle.store.proofs.Between.{StaysIdle, goes_on, idle_at, idle_stage, on_at, room_on, stays_idle}
 
 module _ (old new : StoreSeat) (k m : SessionKnown) (was : IsSession old k) (now : IsSession new m) where
   pub seen_fresh : (point : ℕ) → HasSeen k m point → IsFresh (session_view old) (session_view new) point
@@ -46,9 +44,9 @@ idle_seen old new caller i m is point r = stays_idle old new caller i m is r.ses
 -- ---- a session whose calls wait for nobody, and of which no update is out
 
 -- the session has looked, and is idle still
-pub record HasLooked (was : SessionView) (new : StoreSeat) (caller : Caller) (b : BatchView) (kept : RepliesView) (stage : Stage) (room : InstalledView) : Type 0 where
-  pub grown : Extends was.progress (session_view new).progress
-  pub well_formed : IsWellFormed store_meaning (session_view new).progress
+pub record HasLooked (store : StoreView) (was : SessionView) (new : StoreSeat) (caller : Caller) (b : BatchView) (kept : RepliesView) (stage : Stage) (room : InstalledView) : Type 0 where
+  pub session : SessionGoesOn store was (session_view new)
+  pub note : (session_view new).note ≡ was.note
   pub polled : IsPolled new caller b kept stage × HasRoom room new
 
 module _ (s : StoreSeat) (caller : Caller) (b : BatchView) (kept : RepliesView) (stage : Stage) (v : IsPolled s caller b kept stage) (was : SessionView) (seen : session_view s ≡ was) (none : was.note.pending ≡ None) where
@@ -62,10 +60,10 @@ module _ (s : StoreSeat) (caller : Caller) (b : BatchView) (kept : RepliesView) 
       let on = on_at s caller b kept shared store stage v (subst (λ z. IsOf store z) (sym seen) own) places nodes same in
       (i.known, i.is, (i.free, on_known shared s i.known i.is on))
 
-  pub has_looked : (new : StoreSeat) (room : InstalledView) → HasRoom room s → StaysIdle s new caller → HasLooked was new caller b kept stage room
-  has_looked new room has idle = record {
-    grown = subst (λ (z : SessionView). Extends z.progress (session_view new).progress) seen idle.extends;
-    well_formed = idle.well_formed;
+  pub has_looked : (store : StoreView) (new : StoreSeat) (room : InstalledView) → IsOf store was → new.shelf ≡ s.shelf → HasRoom room s → StaysIdle s new caller → HasLooked store was new caller b kept stage room
+  has_looked store new room own same has idle = record {
+    session = goes_on store (session_view s) was (session_view new) seen own same idle.session idle.extends idle.well_formed;
+    note = idle.note ∙ ap (λ (z : SessionView). z.note) seen;
     polled =
         let at = idle_stage s caller b kept stage v (ap (λ (z : SessionView). z.note.pending) seen ∙ none) in
         (subst (IsPolled new caller b kept) (sym at) idle.idle, room_on s new room idle.extends has);

@@ -13,6 +13,7 @@ use Rattle.replica.specs.StoreMeaning.{store_meaning}
 use Rattle.replica.specs.Refusals.{install_refusal, IsRoomFor}
 use Rattle.combiner.specs.declared.slots.Reply.{Reply}
 use Rattle.combiner.specs.declared.slots.Reply.TheVariants.{Placed, Ended as EndedAnswer}
+use Rattle.accounts.specs.Accounts.{Extends, IsWellFormed}
 use Rattle.accounts.specs.LogSteps.{first_progress, fresh_note}
 use Rattle.accounts.specs.Told.{Tells, ReadTells, note_with}
 use Rattle.store.specs.declared.answers.Answer.{Answer}
@@ -38,6 +39,14 @@ pub record IsOf (store : StoreView) (s : SessionView) : Type 0 where
   pub shelf : s.shelf ≡ store.id
   pub config : s.progress.config ≡ store.config
   pub catalogue : s.progress.catalogue ≡ store.catalogue
+
+-- a session before and after a call: it is of this store, and the same session as before; it knows all that it knew of the history, and knows no
+-- history that the store may not have
+pub record SessionGoesOn (store : StoreView) (old new : SessionView) : Type 0 where
+  pub own : IsOf store new
+  pub same : (new.shelf ≡ old.shelf) × (new.session ≡ old.session)
+  pub grown : Extends old.progress new.progress
+  pub well_formed : IsWellFormed store_meaning new.progress
 
 -- what the session a knows at first, and the session
 abbrev pub fresh_known : Sizes → CatalogueView → ℕ → SessionKnown

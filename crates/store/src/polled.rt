@@ -2,14 +2,13 @@
 
 ghost use Rattle.std.specs.Prelude.{◌≡◌, [], ◌∷◌, None, Some, Err, true, false, length, ◌≤◌, IfSome, IfNone, MatchOption};
 ghost use Rattle.verifier.specs.declared.refusal.Mode.TheVariants.{Update, Read};
-ghost use Rattle.accounts.specs.Accounts.{Extends, IsWellFormed};
 ghost use Rattle.accounts.specs.declared.sessions.Pending.{Pending};
-ghost use Rattle.replica.specs.StoreMeaning.{store_meaning, is_operation};
+ghost use Rattle.replica.specs.StoreMeaning.{is_operation};
 ghost use Rattle.replica.specs.declared.refusals.StoreRefused.{StoreRefused};
 ghost use Rattle.replica.specs.Refusals.{early_refusal};
 ghost use Rattle.store.specs.Going.{CompleteGoes, PostGoes, TriedReadGoes};
 ghost use Rattle.store_steps.specs.Views.{op_of};
-ghost use Rattle.store.specs.Sessions.{IsFresh, IsOf, known_of, install_of, install_refused};
+ghost use Rattle.store.specs.Sessions.{IsFresh, IsOf, SessionGoesOn, known_of, install_of, install_refused};
 ghost use Rattle.store_steps.specs.Stages.{HasDone};
 ghost use Rattle.store_steps.specs.Polling.{DeedsGo};
 ghost use Rattle.store_steps.specs.Updating.{PostsBy};
@@ -200,10 +199,7 @@ impl Polled {
         requires own { IsOf store.now self.old }
         requires idle { self.old.note.pending ≡ None }
         requires update { is_operation Update store.now.catalogue op.now ≡ true }
-        ensures own { IsOf store.now self.new }
-        ensures same { (self.new.shelf ≡ self.old.shelf) × (self.new.session ≡ self.old.session) }
-        ensures grown { Extends self.old.progress self.new.progress }
-        ensures well_formed { IsWellFormed store_meaning self.new.progress }
+        ensures session { SessionGoesOn store.now self.old self.new }
         ensures stays { IfNone result (self.new ≡ self.old) }
         ensures posted { IfSome result (λ _. HasPostedFor self.old self.new op.now) }
         ensures goes { IfSome result (λ _. PostsBy (known_of self.old) (known_of self.new) op.now) }
@@ -260,10 +256,7 @@ impl Polled {
     ) -> Result<Option<()>, StoreRefused>
         requires own { IsOf store.now self.old }
         requires idle { self.old.note.pending ≡ None }
-        ensures own { IsOf store.now self.new }
-        ensures same { (self.new.shelf ≡ self.old.shelf) × (self.new.session ≡ self.old.session) }
-        ensures grown { Extends self.old.progress self.new.progress }
-        ensures well_formed { IsWellFormed store_meaning self.new.progress }
+        ensures session { SessionGoesOn store.now self.old self.new }
         ensures early { (r : StoreRefused) → early_refusal store.now.catalogue Update program argument.now ≡ Some r → (result ≡ Err r)
             × (self.new ≡ self.old) }
         ensures posted { early_refusal store.now.catalogue Update program argument.now ≡ None
@@ -312,10 +305,7 @@ impl Polled {
     ) -> Result<Option<()>, StoreRefused>
         requires own { IsOf store.now self.old }
         requires idle { self.old.note.pending ≡ None }
-        ensures own { IsOf store.now self.new }
-        ensures same { (self.new.shelf ≡ self.old.shelf) × (self.new.session ≡ self.old.session) }
-        ensures grown { Extends self.old.progress self.new.progress }
-        ensures well_formed { IsWellFormed store_meaning self.new.progress }
+        ensures session { SessionGoesOn store.now self.old self.new }
         ensures early { (r : StoreRefused) → install_refused store.now mode arg_len bytes.now ≡ Some r → (result ≡ Err r)
             × (self.new ≡ self.old) }
         ensures posted { install_refused store.now mode arg_len bytes.now ≡ None
@@ -335,10 +325,7 @@ impl Polled {
     fn deed(&mut self, store: &Store) -> Deed
         requires own { IsOf store.now self.old }
         requires asked { (o : Pending) × (self.old.note.pending ≡ Some o) }
-        ensures own { IsOf store.now self.new }
-        ensures same { (self.new.shelf ≡ self.old.shelf) × (self.new.session ≡ self.old.session) }
-        ensures grown { Extends self.old.progress self.new.progress }
-        ensures well_formed { IsWellFormed store_meaning self.new.progress }
+        ensures session { SessionGoesOn store.now self.old self.new }
         ensures done { (o : Pending) → self.old.note.pending ≡ Some o → HasDone self.old self.new o result }
         ensures goes { DeedsGo (known_of self.old) (known_of self.new) result }
     {
@@ -390,10 +377,7 @@ impl Polled {
     pub fn try_complete(&mut self, store: &Store) -> Option<Result<Answer, StoreRefused>>
         requires own { IsOf store.now self.old }
         requires asked { (o : Pending) × (self.old.note.pending ≡ Some o) }
-        ensures own { IsOf store.now self.new }
-        ensures same { (self.new.shelf ≡ self.old.shelf) × (self.new.session ≡ self.old.session) }
-        ensures grown { Extends self.old.progress self.new.progress }
-        ensures well_formed { IsWellFormed store_meaning self.new.progress }
+        ensures session { SessionGoesOn store.now self.old self.new }
         ensures completed { (o : Pending) → self.old.note.pending ≡ Some o → TellsCompleted self.old self.new o result }
         ensures goes { CompleteGoes self.old self.new result }
     {
@@ -418,10 +402,8 @@ impl Polled {
         requires own { IsOf store.now self.old }
         requires may { L.may look.old store.now.catalogue }
         requires idle { self.old.note.pending ≡ None }
-        ensures own { IsOf store.now self.new }
-        ensures same { (self.new.shelf ≡ self.old.shelf) × (self.new.session ≡ self.old.session) × (self.new.note ≡ self.old.note) }
-        ensures grown { Extends self.old.progress self.new.progress }
-        ensures well_formed { IsWellFormed store_meaning self.new.progress }
+        ensures session { SessionGoesOn store.now self.old self.new }
+        ensures note { self.new.note ≡ self.old.note }
         ensures early { IsRefused (L.refusal look.old store.now.catalogue) result (self.new ≡ self.old) }
         ensures kept { IfUnanswered result (look.new ≡ look.old) }
         ensures lent { TriedGoes result (λ _. L.lent look.old look.new) }
@@ -472,10 +454,8 @@ impl Polled {
     ) -> Result<Option<ReadAnswer>, StoreRefused>
         requires own { IsOf store.now self.old }
         requires idle { self.old.note.pending ≡ None }
-        ensures own { IsOf store.now self.new }
-        ensures same { (self.new.shelf ≡ self.old.shelf) × (self.new.session ≡ self.old.session) × (self.new.note ≡ self.old.note) }
-        ensures grown { Extends self.old.progress self.new.progress }
-        ensures well_formed { IsWellFormed store_meaning self.new.progress }
+        ensures session { SessionGoesOn store.now self.old self.new }
+        ensures note { self.new.note ≡ self.old.note }
         ensures early { (r : StoreRefused) → early_refusal store.now.catalogue Read program argument.now ≡ Some r → (result ≡ Err r)
             × (self.new ≡ self.old) }
         ensures answered { early_refusal store.now.catalogue Read program argument.now ≡ None
@@ -524,10 +504,8 @@ impl Polled {
         ensures early { (r : QuestionRefused) → first_refused store.now.catalogue 0 questions.now ≡ Some r → (result ≡ Err r)
             × (self.new ≡ self.old) }
         ensures kept { IfUnanswered result (replies.new ≡ replies.old) }
-        ensures own { IsOf store.now self.new }
-        ensures same { (self.new.shelf ≡ self.old.shelf) × (self.new.session ≡ self.old.session) × (self.new.note ≡ self.old.note) }
-        ensures grown { Extends self.old.progress self.new.progress }
-        ensures well_formed { IsWellFormed store_meaning self.new.progress }
+        ensures session { SessionGoesOn store.now self.old self.new }
+        ensures note { self.new.note ≡ self.old.note }
         ensures answered { first_refused store.now.catalogue 0 questions.now ≡ None
             → TellsTried result (AreAnswers self.old self.new questions.now replies.new) }
         ensures goes { first_refused store.now.catalogue 0 questions.now ≡ None
@@ -572,10 +550,8 @@ impl Polled {
         ensures early { (r : ScanRefused) → scan_refusal store.now.catalogue begin.map begin.from ≡ Some r → (result ≡ Err r)
             × (self.new ≡ self.old) }
         ensures kept { IfUnanswered result ((keys.new ≡ keys.old) × (values.new ≡ values.old)) }
-        ensures own { IsOf store.now self.new }
-        ensures same { (self.new.shelf ≡ self.old.shelf) × (self.new.session ≡ self.old.session) × (self.new.note ≡ self.old.note) }
-        ensures grown { Extends self.old.progress self.new.progress }
-        ensures well_formed { IsWellFormed store_meaning self.new.progress }
+        ensures session { SessionGoesOn store.now self.old self.new }
+        ensures note { self.new.note ≡ self.old.note }
         ensures told { MayScan store.now begin
             → TellsTried result (IsScan self.old self.new begin (length keys.old) (length values.old) keys.new values.new) }
         ensures goes { MayScan store.now begin
@@ -624,10 +600,8 @@ impl Polled {
         requires idle { self.old.note.pending ≡ None }
         ensures early { (r : GetRefused) → key_refused store.now of.entry (length value.old) ≡ Some r → (result ≡ Err r) × (self.new ≡ self.old) }
         ensures kept { IfUnanswered result (value.new ≡ value.old) }
-        ensures own { IsOf store.now self.new }
-        ensures same { (self.new.shelf ≡ self.old.shelf) × (self.new.session ≡ self.old.session) × (self.new.note ≡ self.old.note) }
-        ensures grown { Extends self.old.progress self.new.progress }
-        ensures well_formed { IsWellFormed store_meaning self.new.progress }
+        ensures session { SessionGoesOn store.now self.old self.new }
+        ensures note { self.new.note ≡ self.old.note }
         ensures told { key_refused store.now of.entry (length value.old) ≡ None
             → TellsTried result (IsFound self.old self.new of.entry value.old value.new) }
         ensures goes { key_refused store.now of.entry (length value.old) ≡ None
@@ -664,10 +638,8 @@ impl Polled {
         requires sizes { sizes_of into.old ≡ sizes_for store.now.catalogue }
         ensures sizes { sizes_of into.new ≡ sizes_of into.old }
         ensures kept { IfNone result (into.new ≡ into.old) }
-        ensures own { IsOf store.now self.new }
-        ensures same { (self.new.shelf ≡ self.old.shelf) × (self.new.session ≡ self.old.session) × (self.new.note ≡ self.old.note) }
-        ensures grown { Extends self.old.progress self.new.progress }
-        ensures well_formed { IsWellFormed store_meaning self.new.progress }
+        ensures session { SessionGoesOn store.now self.old self.new }
+        ensures note { self.new.note ≡ self.old.note }
         ensures told { IfSome result (λ point. SnapshotTells self.new.progress self.old.progress.completed point into.new) }
         ensures begun { IfSome result (λ point. IsFresh self.old self.new point) }
         ensures goes { IfSome result (λ point. SnapshotGoes self.old self.new point into.new) }

@@ -2,8 +2,7 @@
 
 ghost use Rattle.std.specs.Prelude.{◌≡◌, [], ◌∷◌, true, length, None, Some, Err, ◌≤◌, IfErr, IfOk};
 ghost use Rattle.verifier.specs.declared.refusal.Mode.TheVariants.{Update, Read};
-ghost use Rattle.accounts.specs.Accounts.{Extends, IsWellFormed};
-ghost use Rattle.replica.specs.StoreMeaning.{store_meaning, is_operation};
+ghost use Rattle.replica.specs.StoreMeaning.{is_operation};
 ghost use Rattle.replica.specs.declared.refusals.StoreRefused.{StoreRefused};
 ghost use Rattle.replica.specs.Refusals.{early_refusal};
 ghost use Rattle.store.specs.Asked.{FitsCall, operation_of};
@@ -18,7 +17,7 @@ ghost use Rattle.loader.specs.StoreState.{sizes_of};
 ghost use Rattle.store.specs.Looks.{GetGoes, GoesToSee, IsRefused, MayScan, SnapshotGoes, TellsGet, TellsSight, key_refused, scan_refused};
 ghost use Rattle.store_steps.specs.Snapshots.{SnapshotTells};
 ghost use Rattle.store_steps.specs.Views.{IsIdle, op_of, session_view};
-ghost use Rattle.store.specs.Sessions.{IsFresh, IsOf, TellsUpdate, TellsRead, BeginsWithin, HasRoom, known_of, install_of, install_refused};
+ghost use Rattle.store.specs.Sessions.{IsFresh, IsOf, SessionGoesOn, TellsUpdate, TellsRead, BeginsWithin, HasRoom, known_of, install_of, install_refused};
 
 use crate::answers::Answer;
 use crate::asked::{Asked, write};
@@ -184,10 +183,7 @@ impl Session {
         requires own { IsOf store.now self.old }
         requires fits { FitsCall asked }
         requires update { is_operation Update store.now.catalogue (operation_of asked) ≡ true }
-        ensures own { IsOf store.now self.new }
-        ensures same { (self.new.shelf ≡ self.old.shelf) × (self.new.session ≡ self.old.session) }
-        ensures grown { Extends self.old.progress self.new.progress }
-        ensures well_formed { IsWellFormed store_meaning self.new.progress }
+        ensures session { SessionGoesOn store.now self.old self.new }
         ensures answered { TellsUpdate self.old self.new (operation_of asked.entry) result }
         ensures goes { UpdateGoes self.old self.new (operation_of asked.entry) result }
     {
@@ -212,10 +208,7 @@ impl Session {
         requires own { IsOf store.now self.old }
         requires fits { FitsCall asked }
         requires update { is_operation Update store.now.catalogue (operation_of asked) ≡ true }
-        ensures own { IsOf store.now self.new }
-        ensures same { (self.new.shelf ≡ self.old.shelf) × (self.new.session ≡ self.old.session) }
-        ensures grown { Extends self.old.progress self.new.progress }
-        ensures well_formed { IsWellFormed store_meaning self.new.progress }
+        ensures session { SessionGoesOn store.now self.old self.new }
         ensures answered { TellsUpdate self.old self.new (operation_of asked.entry) result }
         ensures goes { UpdateGoes self.old self.new (operation_of asked.entry) result }
     {
@@ -262,10 +255,7 @@ impl Session {
         argument: &[u8],
     ) -> Result<Answer, StoreRefused>
         requires own { IsOf store.now self.old }
-        ensures own { IsOf store.now self.new }
-        ensures same { (self.new.shelf ≡ self.old.shelf) × (self.new.session ≡ self.old.session) }
-        ensures grown { Extends self.old.progress self.new.progress }
-        ensures well_formed { IsWellFormed store_meaning self.new.progress }
+        ensures session { SessionGoesOn store.now self.old self.new }
         ensures early { (r : StoreRefused) → early_refusal store.now.catalogue Update program argument.now ≡ Some r → (result ≡ Err r)
             × (self.new ≡ self.old) }
         ensures answered { early_refusal store.now.catalogue Update program argument.now ≡ None
@@ -311,10 +301,7 @@ impl Session {
         argument: &[u8],
     ) -> Result<Answer, StoreRefused>
         requires own { IsOf store.now self.old }
-        ensures own { IsOf store.now self.new }
-        ensures same { (self.new.shelf ≡ self.old.shelf) × (self.new.session ≡ self.old.session) }
-        ensures grown { Extends self.old.progress self.new.progress }
-        ensures well_formed { IsWellFormed store_meaning self.new.progress }
+        ensures session { SessionGoesOn store.now self.old self.new }
         ensures early { (r : StoreRefused) → early_refusal store.now.catalogue Update program argument.now ≡ Some r → (result ≡ Err r)
             × (self.new ≡ self.old) }
         ensures answered { early_refusal store.now.catalogue Update program argument.now ≡ None
@@ -363,10 +350,7 @@ impl Session {
         bytes: &[u8],
     ) -> Result<Answer, StoreRefused>
         requires own { IsOf store.now self.old }
-        ensures own { IsOf store.now self.new }
-        ensures same { (self.new.shelf ≡ self.old.shelf) × (self.new.session ≡ self.old.session) }
-        ensures grown { Extends self.old.progress self.new.progress }
-        ensures well_formed { IsWellFormed store_meaning self.new.progress }
+        ensures session { SessionGoesOn store.now self.old self.new }
         ensures early { (r : StoreRefused) → install_refused store.now mode arg_len bytes.now ≡ Some r → (result ≡ Err r)
             × (self.new ≡ self.old) }
         ensures answered { install_refused store.now mode arg_len bytes.now ≡ None
@@ -388,10 +372,8 @@ impl Session {
     ) -> Result<L::Told, L::Refused>
         requires own { IsOf store.now self.old }
         requires may { L.may look.old store.now.catalogue }
-        ensures own { IsOf store.now self.new }
-        ensures same { (self.new.shelf ≡ self.old.shelf) × (self.new.session ≡ self.old.session) × (self.new.note ≡ self.old.note) }
-        ensures grown { Extends self.old.progress self.new.progress }
-        ensures well_formed { IsWellFormed store_meaning self.new.progress }
+        ensures session { SessionGoesOn store.now self.old self.new }
+        ensures note { self.new.note ≡ self.old.note }
         ensures early { IsRefused (L.refusal look.old store.now.catalogue) result (self.new ≡ self.old) }
         ensures kept { IfErr result (λ _. look.new ≡ look.old) }
         ensures lent { IfOk result (λ _. L.lent look.old look.new) }
@@ -438,10 +420,8 @@ impl Session {
         argument: &[u8],
     ) -> Result<ReadAnswer, StoreRefused>
         requires own { IsOf store.now self.old }
-        ensures own { IsOf store.now self.new }
-        ensures same { (self.new.shelf ≡ self.old.shelf) × (self.new.session ≡ self.old.session) × (self.new.note ≡ self.old.note) }
-        ensures grown { Extends self.old.progress self.new.progress }
-        ensures well_formed { IsWellFormed store_meaning self.new.progress }
+        ensures session { SessionGoesOn store.now self.old self.new }
+        ensures note { self.new.note ≡ self.old.note }
         ensures early { (r : StoreRefused) → early_refusal store.now.catalogue Read program argument.now ≡ Some r → (result ≡ Err r)
             × (self.new ≡ self.old) }
         ensures answered { early_refusal store.now.catalogue Read program argument.now ≡ None
@@ -488,10 +468,8 @@ impl Session {
         requires own { IsOf store.now self.old }
         requires few { length questions.now ≤ 16 }
         requires room { length replies.old ≡ length questions.now }
-        ensures own { IsOf store.now self.new }
-        ensures same { (self.new.shelf ≡ self.old.shelf) × (self.new.session ≡ self.old.session) × (self.new.note ≡ self.old.note) }
-        ensures grown { Extends self.old.progress self.new.progress }
-        ensures well_formed { IsWellFormed store_meaning self.new.progress }
+        ensures session { SessionGoesOn store.now self.old self.new }
+        ensures note { self.new.note ≡ self.old.note }
         ensures early { IsRefused (first_refused store.now.catalogue 0 questions.now) result ((self.new ≡ self.old) × (replies.new ≡ replies.old)) }
         ensures answered { first_refused store.now.catalogue 0 questions.now ≡ None
             → TellsEach self.old self.new questions.now replies.new result }
@@ -537,10 +515,8 @@ impl Session {
         values: &mut [u8],
     ) -> Result<Scan, ScanRefused>
         requires own { IsOf store.now self.old }
-        ensures own { IsOf store.now self.new }
-        ensures same { (self.new.shelf ≡ self.old.shelf) × (self.new.session ≡ self.old.session) × (self.new.note ≡ self.old.note) }
-        ensures grown { Extends self.old.progress self.new.progress }
-        ensures well_formed { IsWellFormed store_meaning self.new.progress }
+        ensures session { SessionGoesOn store.now self.old self.new }
+        ensures note { self.new.note ≡ self.old.note }
         ensures early { IsRefused (scan_refused store.now begin) result ((self.new ≡ self.old) × (keys.new ≡ keys.old) × (values.new ≡ values.old)) }
         ensures told { MayScan store.now begin
             → TellsScan self.old self.new begin.map begin.from (length keys.old) (length values.old) keys.new values.new result }
@@ -593,10 +569,8 @@ impl Session {
         value: &mut [u8],
     ) -> Result<Lookup, GetRefused>
         requires own { IsOf store.now self.old }
-        ensures own { IsOf store.now self.new }
-        ensures same { (self.new.shelf ≡ self.old.shelf) × (self.new.session ≡ self.old.session) × (self.new.note ≡ self.old.note) }
-        ensures grown { Extends self.old.progress self.new.progress }
-        ensures well_formed { IsWellFormed store_meaning self.new.progress }
+        ensures session { SessionGoesOn store.now self.old self.new }
+        ensures note { self.new.note ≡ self.old.note }
         ensures early { (r : GetRefused) → key_refused store.now of.entry (length value.old) ≡ Some r → (result ≡ Err r) × (self.new ≡ self.old) }
         ensures kept { IfErr result (λ _. value.new ≡ value.old) }
         ensures told { key_refused store.now of.entry (length value.old) ≡ None → TellsGet self.old self.new of.entry value.old value.new result }
@@ -630,10 +604,8 @@ impl Session {
     pub fn snapshot<R: Wait>(&mut self, rt: &R, store: &Store, into: &mut StoreState) -> u64
         requires own { IsOf store.now self.old }
         requires sizes { sizes_of into.old ≡ sizes_for store.now.catalogue }
-        ensures own { IsOf store.now self.new }
-        ensures same { (self.new.shelf ≡ self.old.shelf) × (self.new.session ≡ self.old.session) × (self.new.note ≡ self.old.note) }
-        ensures grown { Extends self.old.progress self.new.progress }
-        ensures well_formed { IsWellFormed store_meaning self.new.progress }
+        ensures session { SessionGoesOn store.now self.old self.new }
+        ensures note { self.new.note ≡ self.old.note }
         ensures sizes { sizes_of into.new ≡ sizes_of into.old }
         ensures told { SnapshotTells self.new.progress self.old.progress.completed result into.new }
         ensures begun { IsFresh self.old self.new result }

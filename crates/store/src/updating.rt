@@ -2,13 +2,12 @@
 
 ghost use Rattle.std.specs.Prelude.{◌≡◌, None, Some, Err, true, IfSome, IfNone};
 ghost use Rattle.verifier.specs.declared.refusal.Mode.TheVariants.{Update};
-ghost use Rattle.accounts.specs.Accounts.{Extends, IsWellFormed};
-ghost use Rattle.replica.specs.StoreMeaning.{store_meaning, is_operation};
+ghost use Rattle.replica.specs.StoreMeaning.{is_operation};
 ghost use Rattle.replica.specs.declared.refusals.StoreRefused.{StoreRefused};
 ghost use Rattle.replica.specs.Refusals.{early_refusal};
 ghost use Rattle.store.specs.Going.{BeginGoes};
 ghost use Rattle.store.specs.Polled.{TellsAsked};
-ghost use Rattle.store.specs.Sessions.{IsOf, known_of};
+ghost use Rattle.store.specs.Sessions.{IsOf, SessionGoesOn, known_of};
 ghost use Rattle.store_steps.specs.Polling.{BeginsBy, HasAskedFor};
 ghost use Rattle.store_steps.specs.Views.{op_of};
 
@@ -25,10 +24,7 @@ impl Polled {
         requires own { IsOf store.now self.old }
         requires idle { self.old.note.pending ≡ None }
         requires update { is_operation Update store.now.catalogue op.now ≡ true }
-        ensures own { IsOf store.now self.new }
-        ensures same { (self.new.shelf ≡ self.old.shelf) × (self.new.session ≡ self.old.session) }
-        ensures grown { Extends self.old.progress self.new.progress }
-        ensures well_formed { IsWellFormed store_meaning self.new.progress }
+        ensures session { SessionGoesOn store.now self.old self.new }
         ensures stays { IfNone result (self.new ≡ self.old) }
         ensures asked { IfSome result (λ _. HasAskedFor self.old self.new op.now) }
         ensures goes { IfSome result (λ _. BeginsBy (known_of self.old) (known_of self.new) op.now) }
@@ -84,10 +80,7 @@ impl Polled {
     ) -> Result<Option<()>, StoreRefused>
         requires own { IsOf store.now self.old }
         requires idle { self.old.note.pending ≡ None }
-        ensures own { IsOf store.now self.new }
-        ensures same { (self.new.shelf ≡ self.old.shelf) × (self.new.session ≡ self.old.session) }
-        ensures grown { Extends self.old.progress self.new.progress }
-        ensures well_formed { IsWellFormed store_meaning self.new.progress }
+        ensures session { SessionGoesOn store.now self.old self.new }
         ensures early { (r : StoreRefused) → early_refusal store.now.catalogue Update program argument.now ≡ Some r → (result ≡ Err r)
             × (self.new ≡ self.old) }
         ensures asked { early_refusal store.now.catalogue Update program argument.now ≡ None

@@ -1,15 +1,13 @@
 // The install of a program that may name some of the store's maps alone.
 
 ghost use Rattle.std.specs.Prelude.{◌≡◌, ◌<◌, ◌≤◌, None, Some, Err, IfOk, length};
-ghost use Rattle.accounts.specs.Accounts.{Extends, IsWellFormed};
 ghost use Rattle.maps.specs.declared.shapes.TheConstants.{MAX_ARG_LEN};
 ghost use Rattle.oplog.specs.declared.records.TheConstants.{MAX_INSTALLED_BYTES};
-ghost use Rattle.replica.specs.StoreMeaning.{store_meaning};
 ghost use Rattle.replica.specs.Refusals.{IsRefusedAs, IsRoomFor};
 ghost use Rattle.replica.specs.declared.refusals.StoreRefused.{StoreRefused};
 ghost use Rattle.store.specs.Going.{PostGoes, UpdateGoes};
 ghost use Rattle.store.specs.Polled.{TellsPost};
-ghost use Rattle.store.specs.Sessions.{IsOf, TellsUpdate};
+ghost use Rattle.store.specs.Sessions.{IsOf, SessionGoesOn, TellsUpdate};
 ghost use Rattle.store.specs.Within.{install_within, outside_refusal, program_within, refused_as, within_refusal, within_refused};
 
 use crate::answers::Answer;
@@ -132,10 +130,7 @@ impl Session {
     ) -> Result<Answer, StoreRefused>
         requires own { IsOf store.now self.old }
         ensures early { (r : StoreRefused) → within_refused store.now wanted.entry ≡ Some r → (result ≡ Err r) × (self.new ≡ self.old) }
-        ensures own { IsOf store.now self.new }
-        ensures same { (self.new.shelf ≡ self.old.shelf) × (self.new.session ≡ self.old.session) }
-        ensures grown { Extends self.old.progress self.new.progress }
-        ensures well_formed { IsWellFormed store_meaning self.new.progress }
+        ensures session { SessionGoesOn store.now self.old self.new }
         ensures answered { within_refused store.now wanted.entry ≡ None → TellsUpdate self.old self.new (install_within wanted.entry) result }
         ensures goes { within_refused store.now wanted.entry ≡ None → UpdateGoes self.old self.new (install_within wanted.entry) result }
     {
@@ -178,10 +173,7 @@ impl Polled {
         requires own { IsOf store.now self.old }
         requires idle { self.old.note.pending ≡ None }
         ensures early { (r : StoreRefused) → within_refused store.now asked.entry ≡ Some r → (result ≡ Err r) × (self.new ≡ self.old) }
-        ensures own { IsOf store.now self.new }
-        ensures same { (self.new.shelf ≡ self.old.shelf) × (self.new.session ≡ self.old.session) }
-        ensures grown { Extends self.old.progress self.new.progress }
-        ensures well_formed { IsWellFormed store_meaning self.new.progress }
+        ensures session { SessionGoesOn store.now self.old self.new }
         ensures posted { within_refused store.now asked.entry ≡ None → TellsPost self.old self.new (install_within asked.entry) result }
         ensures goes { within_refused store.now asked.entry ≡ None → PostGoes self.old self.new (install_within asked.entry) result }
     {

@@ -13,6 +13,6 @@ pub returns : goal.returns
 returns g c =
     let taken = All-pop (IsOf c.args.store.now) c.args.sessions.now.items c.pop.new.self.items c.pop.result c.pop.ensures.items c.requires.own in
     record {
-      own = rw c.push_reserved.ensures.items (All-push (IsOf c.args.store.now) c.pop.new.self.items c.read-seen.new.self taken.0 c.read-seen.ensures.own);
+      own = rw c.push_reserved.ensures.items (All-push (IsOf c.args.store.now) c.pop.new.self.items c.read-seen.new.self taken.0 c.read-seen.ensures.session.own);
       count = search rules;
     }

@@ -33,17 +33,17 @@ returns-clause-told g c =
           let is : call.asked ≡ asks.Run Update w.in-Run.program = w.in-Run.is ∙ ap (λ (m : Mode). asks.Run m w.in-Run.program) w.in-Update.is in
           let tells = h.answered (subst (λ a. asked_refusal catalogue a bytes ≡ None) is none) in
           rw (w.session-is, w.said-is, w.update_said.ensures.said)
-          (told_update old w.invoke.new.self t op asked h.same.1 h.grown h.well_formed w.invoke.result (subst (λ a. TellsUpdate old w.invoke.new.self (operation_on a bytes) w.invoke.result) (sym is) tells))
+          (told_update old w.invoke.new.self t op asked h.session.same.1 h.session.grown h.session.well_formed w.invoke.result (subst (λ a. TellsUpdate old w.invoke.new.self (operation_on a bytes) w.invoke.result) (sym is) tells))
       | in-Run+in-Read+in-Ok w ↦
           let h = w.read.ensures in
           let is : call.asked ≡ asks.Run Read w.in-Run.program = w.in-Run.is ∙ ap (λ (m : Mode). asks.Run m w.in-Run.program) w.in-Read.is in
           let tells = h.answered (subst (λ a. asked_refusal catalogue a bytes ≡ None) is none) in
           let mine = subst (λ a. TellsRead old w.read.new.self (operation_on a bytes) w.read.result) (sym is) tells in
-          rw (w.session-is, w.said-is) (seen old w.read.new.self t op asked h.same.1 h.grown h.well_formed w.in-Ok.answer (subst (λ r. TellsRead old w.read.new.self op r) w.in-Ok.is mine) h.same.2)
+          rw (w.session-is, w.said-is) (seen old w.read.new.self t op asked h.session.same.1 h.session.grown h.session.well_formed w.in-Ok.answer (subst (λ r. TellsRead old w.read.new.self op r) w.in-Ok.is mine) h.note)
       | in-Install w ↦
           let h = w.install.ensures in
           let is : call.asked ≡ asks.Install w.in-Install.mode w.in-Install.arg_len = w.in-Install.is in
           let tells = h.answered (subst (λ a. asked_refusal catalogue a bytes ≡ None) is none) in
           rw (w.session-is, w.said-is, w.update_said-said.ensures.said)
-          (told_update old w.install.new.self t op asked h.same.1 h.grown h.well_formed w.install.result (subst (λ a. TellsUpdate old w.install.new.self (operation_on a bytes) w.install.result) (sym is) tells))
+          (told_update old w.install.new.self t op asked h.session.same.1 h.session.grown h.session.well_formed w.install.result (subst (λ a. TellsUpdate old w.install.new.self (operation_on a bytes) w.install.result) (sym is) tells))
     ]

@@ -1,15 +1,15 @@
 use Rattle.std.proofs.Common.{sym, ap, subst, ◌∙◌}
 use Rattle.combiner.specs.Desks.{BatchView}
 use Rattle.replica.specs.StoreMeaning.{store_meaning}
-use Rattle.accounts.specs.Accounts.{Extends, IsWellFormed}
+use Rattle.accounts.specs.Accounts.{IsWellFormed}
 use Rattle.store_steps.specs.Polling.{BeginsBy, HasAskedFor}
 use Rattle.store_steps.specs.Stages.{IsPolled}
 use Rattle.store_steps.specs.declared.deeds.Stage.{Stage}
 use Rattle.store_steps.specs.Standing.{StoreSeat}
 use Rattle.store_steps.specs.Views.{SessionView, session_view}
 use Rattle.store.specs.Sessions.{HasRoom, IsOf}
-use Rattle.store_steps.proofs.Export.{store_laws, seen_as}
-use Rattle.store.proofs.Between.{idle_at, known_at, on_at, own_on, room_on, well_at}
+use Rattle.store_steps.proofs.Export.{seen_as}
+use Rattle.store.proofs.Between.{goes_on, goes_still, idle_at, known_at, on_at, room_on, well_at}
 use Rattle.store.proofs.Invoked.{goes_seen, may_ask}
 use Rattle.store.proofs.polled.Polled.begin.Goals as goal
 
@@ -48,44 +48,22 @@ invariant_of-self-2 c =
 
 -- ---- the desk is held
 
-pub returns-in_default-clause-own : goal.returns-in_default-clause-own
-returns-in_default-clause-own c = subst (λ z. IsOf c.args.store.now z) (sym (ap session_view c.in_default.ensures.stays.0 ∙ c.self.view_is)) c.requires.own
-
-pub returns-in_default-clause-same : goal.returns-in_default-clause-same
-returns-in_default-clause-same c =
-    let e = ap session_view c.in_default.ensures.stays.0 ∙ c.self.view_is in
-    (ap (λ (z : SessionView). z.shelf) e, ap (λ (z : SessionView). z.session) e)
-
-pub returns-in_default-clause-grown : goal.returns-in_default-clause-grown
-returns-in_default-clause-grown c =
-    let e = ap session_view c.in_default.ensures.stays.0 ∙ c.self.view_is in
-    subst (λ (z : SessionView). Extends c.args.self.now.progress z.progress) (sym e) (store_laws.extends_self c.args.self.now.progress)
-
-pub returns-in_default-clause-well_formed : goal.returns-in_default-clause-well_formed
-returns-in_default-clause-well_formed c =
+pub returns-in_default-clause-session : goal.returns-in_default-clause-session
+returns-in_default-clause-session c =
     let s = c.self.inside in
-    subst (λ (z : SessionView). IsWellFormed store_meaning z.progress) (sym (ap session_view c.in_default.ensures.stays.0)) (well_at s.seat s.caller s.batch s.replies s.stage c.self.invariant.0)
+    let well = subst (λ (z : SessionView). IsWellFormed store_meaning z.progress) c.self.view_is (well_at s.seat s.caller s.batch s.replies s.stage c.self.invariant.0) in
+    goes_still c.args.store.now c.args.self.now (session_view c.try_begin.new.seat) (ap session_view c.in_default.ensures.stays.0 ∙ c.self.view_is) c.requires.own well
 
 pub returns-in_default-clause-stays : goal.returns-in_default-clause-stays
 returns-in_default-clause-stays c = ap session_view c.in_default.ensures.stays.0 ∙ c.self.view_is
 
 -- ---- it is posted
 
-pub returns-clause-own : goal.returns-clause-own
-returns-clause-own c =
-    let new = session_view c.try_begin.new.seat in
-    let grown = subst (λ (z : SessionView). Extends z.progress new.progress) c.self.view_is (c.in-Some.ensures.begun c.self.inside.replies).extends in
-    own_on c.args.store.now c.args.self.now new grown (c.try_begin.ensures.same ∙ ap (λ (z : SessionView). z.shelf) c.self.view_is) c.requires.own
-
-pub returns-clause-same : goal.returns-clause-same
-returns-clause-same c =
-    (c.try_begin.ensures.same ∙ ap (λ (z : SessionView). z.shelf) c.self.view_is, (c.in-Some.ensures.begun c.self.inside.replies).session ∙ ap (λ (z : SessionView). z.session) c.self.view_is)
-
-pub returns-clause-grown : goal.returns-clause-grown
-returns-clause-grown c = subst (λ (z : SessionView). Extends z.progress (session_view c.try_begin.new.seat).progress) c.self.view_is (c.in-Some.ensures.begun c.self.inside.replies).extends
-
-pub returns-clause-well_formed : goal.returns-clause-well_formed
-returns-clause-well_formed c = (c.in-Some.ensures.begun c.self.inside.replies).well_formed
+pub returns-clause-session : goal.returns-clause-session
+returns-clause-session c =
+    let s = c.self.inside.seat in
+    let h = c.in-Some.ensures.begun c.self.inside.replies in
+    goes_on c.args.store.now (session_view s) c.args.self.now (session_view c.try_begin.new.seat) c.self.view_is c.requires.own c.try_begin.ensures.same h.session h.extends h.well_formed
 
 pub returns-clause-asked : goal.returns-clause-asked
 returns-clause-asked c = subst (λ (z : SessionView). HasAskedFor z (session_view c.try_begin.new.seat) c.args.op.now) c.self.view_is (c.in-Some.ensures.begun c.self.inside.replies).asked

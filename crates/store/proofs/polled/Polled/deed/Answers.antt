@@ -1,10 +1,9 @@
 use Rattle.std.proofs.Common.{sym, ap, subst, ◌∙◌}
 use Rattle.std.proofs.lemmas.Option.{same_Some}
-use Rattle.accounts.specs.Accounts.{Extends}
 use Rattle.store_steps.specs.Stages.{HasDone}
 use Rattle.store_steps.specs.Views.{SessionView, session_view}
 use Rattle.store.specs.Sessions.{IsOf}
-use Rattle.store.proofs.Between.{known_at, on_at, out_at, own_on, room_on}
+use Rattle.store.proofs.Between.{goes_on, known_at, on_at, out_at, room_on}
 use Rattle.store_steps.specs.Polling.{DeedsGo}
 use Rattle.store_steps.proofs.Export.{go_deeds}
 use Rattle.store.proofs.Invoked.{goes_seen}
@@ -32,20 +31,10 @@ invariant_of-self c =
 pub go_on_at_once-requires-clause-polled : goal.go_on_at_once-requires-clause-polled
 go_on_at_once-requires-clause-polled c = c.self.invariant.0
 
-pub returns-then-at_once-clause-own : goal.returns-then-at_once-clause-own
-returns-then-at_once-clause-own c =
-    let new = session_view c.go_on_at_once.new.seat in
-    let grown = subst (λ (z : SessionView). Extends z.progress new.progress) c.self.view_is c.go_on_at_once.ensures.gone.extends in
-    own_on c.args.store.now c.args.self.now new grown (c.go_on_at_once.ensures.same ∙ ap (λ (z : SessionView). z.shelf) c.self.view_is) c.requires.own
-
-pub returns-then-at_once-clause-same : goal.returns-then-at_once-clause-same
-returns-then-at_once-clause-same c = (c.go_on_at_once.ensures.same ∙ ap (λ (z : SessionView). z.shelf) c.self.view_is, c.go_on_at_once.ensures.gone.session ∙ ap (λ (z : SessionView). z.session) c.self.view_is)
-
-pub returns-then-at_once-clause-grown : goal.returns-then-at_once-clause-grown
-returns-then-at_once-clause-grown c = subst (λ (z : SessionView). Extends z.progress (session_view c.go_on_at_once.new.seat).progress) c.self.view_is c.go_on_at_once.ensures.gone.extends
-
-pub returns-then-at_once-clause-well_formed : goal.returns-then-at_once-clause-well_formed
-returns-then-at_once-clause-well_formed c = c.go_on_at_once.ensures.gone.well_formed
+pub returns-then-at_once-clause-session : goal.returns-then-at_once-clause-session
+returns-then-at_once-clause-session c =
+    let h = c.go_on_at_once.ensures.gone in
+    goes_on c.args.store.now (session_view c.self.inside.seat) c.args.self.now (session_view c.go_on_at_once.new.seat) c.self.view_is c.requires.own c.go_on_at_once.ensures.same h.session h.extends h.well_formed
 
 pub returns-then-at_once-clause-done : goal.returns-then-at_once-clause-done
 returns-then-at_once-clause-done c o is =
@@ -83,20 +72,10 @@ invariant_of-self-2 c =
 pub go_on-requires-clause-polled : goal.go_on-requires-clause-polled
 go_on-requires-clause-polled c = c.self.invariant.0
 
-pub returns-clause-own : goal.returns-clause-own
-returns-clause-own c =
-    let new = session_view c.go_on.new.seat in
-    let grown = subst (λ (z : SessionView). Extends z.progress new.progress) c.self.view_is c.go_on.ensures.gone.extends in
-    own_on c.args.store.now c.args.self.now new grown (c.go_on.ensures.same ∙ ap (λ (z : SessionView). z.shelf) c.self.view_is) c.requires.own
-
-pub returns-clause-same : goal.returns-clause-same
-returns-clause-same c = (c.go_on.ensures.same ∙ ap (λ (z : SessionView). z.shelf) c.self.view_is, c.go_on.ensures.gone.session ∙ ap (λ (z : SessionView). z.session) c.self.view_is)
-
-pub returns-clause-grown : goal.returns-clause-grown
-returns-clause-grown c = subst (λ (z : SessionView). Extends z.progress (session_view c.go_on.new.seat).progress) c.self.view_is c.go_on.ensures.gone.extends
-
-pub returns-clause-well_formed : goal.returns-clause-well_formed
-returns-clause-well_formed c = c.go_on.ensures.gone.well_formed
+pub returns-clause-session : goal.returns-clause-session
+returns-clause-session c =
+    let h = c.go_on.ensures.gone in
+    goes_on c.args.store.now (session_view c.self.inside.seat) c.args.self.now (session_view c.go_on.new.seat) c.self.view_is c.requires.own c.go_on.ensures.same h.session h.extends h.well_formed
 
 pub returns-clause-done : goal.returns-clause-done
 returns-clause-done c o is =

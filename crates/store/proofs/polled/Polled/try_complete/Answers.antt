@@ -3,8 +3,8 @@ use Rattle.replica.specs.StoreMeaning.{store_meaning}
 use Rattle.accounts.specs.Accounts.{IsWellFormed}
 use Rattle.store_steps.specs.Stages.{HasDone}
 use Rattle.store_steps.specs.Views.{SessionView}
-use Rattle.store.proofs.Between.{way_then, well_at}
-use Rattle.store_steps.proofs.Export.{store_laws, deeds_on}
+use Rattle.store.proofs.Between.{goes_still, goes_then, way_then, well_at}
+use Rattle.store_steps.proofs.Export.{deeds_on}
 use Rattle.store.specs.Sessions.{known_of}
 use Rattle.store_steps.specs.Polling.{DeedsGo}
 use Rattle.store_steps.specs.Updating.{Rests}
@@ -14,11 +14,8 @@ pub loop-init : goal.loop-init
 loop-init c =
     let s = c.self.inside in
     record {
-      own = c.requires.own;
-      shelf = refl;
-      session = refl;
-      grown = store_laws.extends_self c.args.self.now.progress;
-      well = subst (λ (z : SessionView). IsWellFormed store_meaning z.progress) c.self.view_is (well_at s.seat s.caller s.batch s.replies s.stage c.self.invariant.0);
+      session = goes_still c.args.store.now c.args.self.now c.args.self.now refl c.requires.own
+          (subst (λ (z : SessionView). IsWellFormed store_meaning z.progress) c.self.view_is (well_at s.seat s.caller s.batch s.replies s.stage c.self.invariant.0));
       way = (refl, refl);
       deeds = Rests (known_of c.args.self.now);
     }
@@ -32,11 +29,7 @@ loop-preserved c =
     let o = c.requires.asked in
     let d = subst (λ z. HasDone c.loop.self c.deed.new.self o.0 z) c.in-Went.is (c.deed.ensures.done o.0 (i.way.0 ∙ o.1)) in
     record {
-      own = c.deed.ensures.own;
-      shelf = c.deed.ensures.same.0 ∙ i.shelf;
-      session = c.deed.ensures.same.1 ∙ i.session;
-      grown = store_laws.extends_on _ _ _ i.grown c.deed.ensures.grown;
-      well = c.deed.ensures.well_formed;
+      session = goes_then c.args.store.now c.args.self.now c.loop.self c.deed.new.self i.session c.deed.ensures.session;
       way = way_then c.args.self.now c.loop.self c.deed.new.self i.way d;
       deeds = deeds_on (known_of c.args.self.now) (known_of c.loop.self) (known_of c.deed.new.self) i.deeds (subst (λ z. DeedsGo (known_of c.loop.self) (known_of c.deed.new.self) z) c.in-Went.is c.deed.ensures.goes);
     }

@@ -17,19 +17,16 @@ returns-clause-goes g c =
     let t = c.in-Ok.ensures.told i.known i.is in
     goes_seen (SightBy (holds (g.L.Look.sees c.args.look.now c.try_look.new.look c.in-Ok.told)) (g.L.Look.point c.in-Ok.told)) s.seat c.try_look.new.seat c.args.self.now i.known t.0 i.is i.free.held c.self.view_is t.1 t.2.0.held (c.in-Ok.ensures.goes i.known t.0 i.is t.1)
 
-looked : (g : _) (c : goal.In-Ok g) → HasLooked c.args.self.now c.try_look.new.seat c.self.inside.caller c.self.inside.batch c.self.inside.replies c.self.inside.stage c.self.inside.room
+looked : (g : _) (c : goal.In-Ok g) → HasLooked c.args.store.now c.args.self.now c.try_look.new.seat c.self.inside.caller c.self.inside.batch c.self.inside.replies c.self.inside.stage c.self.inside.room
 looked g c =
     let s = c.self.inside in
     let new = c.try_look.new.seat in
     let i = idle_now s.seat s.caller s.batch s.replies s.stage c.self.invariant.0 c.args.self.now c.self.view_is c.requires.idle in
     let t = c.in-Ok.ensures.told i.known i.is in
-    has_looked s.seat s.caller s.batch s.replies s.stage c.self.invariant.0 c.args.self.now c.self.view_is c.requires.idle new s.room c.self.invariant.1 (idle_seen s.seat new s.caller i t.0 t.1 _ t.2.0)
+    has_looked s.seat s.caller s.batch s.replies s.stage c.self.invariant.0 c.args.self.now c.self.view_is c.requires.idle c.args.store.now new s.room c.requires.own c.try_look.ensures.same c.self.invariant.1 (idle_seen s.seat new s.caller i t.0 t.1 _ t.2.0)
 
-pub returns-clause-grown : goal.returns-clause-grown
-returns-clause-grown g c = (looked g c).grown
-
-pub returns-clause-well_formed : goal.returns-clause-well_formed
-returns-clause-well_formed g c = (looked g c).well_formed
+pub returns-clause-session : goal.returns-clause-session
+returns-clause-session g c = (looked g c).session
 
 pub invariant_of-self-2 : goal.invariant_of-self-2
 invariant_of-self-2 g c = (looked g c).polled

@@ -6,7 +6,7 @@ use Rattle.store_steps.specs.Updating.{PostsBy, UpdatesBy}
 use Rattle.store.specs.Asked.{operation_of}
 use Rattle.store.specs.Sessions.{TellsUpdate}
 use Rattle.store_steps.proofs.Export.{seen_as}
-use Rattle.store.proofs.Invoked.{goes_seen, has_asked, has_grown, invoked, is_idle, same_session, stays_well, still_of, tells_update}
+use Rattle.store.proofs.Invoked.{goes_on, goes_seen, has_asked, has_grown, invoked, is_idle, tells_update}
 use Rattle.store.proofs.session.Session.perform.Goals as goal
 
 pub invariant_of-self : goal.invariant_of-self
@@ -41,10 +41,7 @@ returns g c =
     let now = seen_as seat f.0 f.1 in
     let same = c.complete-reply.ensures.same ∙ (c.post.ensures.same ∙ ap (λ (z : SessionView). z.shelf) c.self.view_is) in
     record {
-      own = still_of c.args.store.now c.args.self.now new c.self.inside.seat.shelf seat.shelf k f.0 op c.complete-reply.result v was now c.requires.own (same ∙ c.requires.own.shelf);
-      same = (same, same_session c.args.store.now c.args.self.now new c.self.inside.seat.shelf seat.shelf k f.0 op c.complete-reply.result v was now);
-      grown = has_grown c.args.store.now c.args.self.now new c.self.inside.seat.shelf seat.shelf k f.0 op c.complete-reply.result v was now;
-      well_formed = stays_well c.args.store.now c.args.self.now new c.self.inside.seat.shelf seat.shelf k f.0 op c.complete-reply.result v was now;
+      session = goes_on c.args.store.now c.args.self.now new c.self.inside.seat.shelf seat.shelf k f.0 op c.complete-reply.result v was now c.requires.own same;
       answered = subst (λ r. TellsUpdate c.args.self.now new op r) (sym c.answer_of.ensures.said) (tells_update c.args.store.now c.args.self.now new c.self.inside.seat.shelf seat.shelf k f.0 op c.complete-reply.result v was now c.self.invariant.0.pending c.self.invariant.0.batch);
       goes = (
         c.complete-reply.result,

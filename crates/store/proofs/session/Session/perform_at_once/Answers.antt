@@ -8,7 +8,7 @@ use Rattle.store_steps.specs.Updating.{UpdatesBy}
 use Rattle.store.specs.Asked.{operation_of}
 use Rattle.store.specs.Sessions.{TellsUpdate}
 use Rattle.store_steps.proofs.Export.{seen_as}
-use Rattle.store.proofs.Invoked.{goes_seen, has_grown, invoked, is_idle, may_ask, same_session, stays_well, still_of, tells_update}
+use Rattle.store.proofs.Invoked.{goes_on, goes_seen, has_grown, invoked, is_idle, may_ask, tells_update}
 use Rattle.store.proofs.session.Session.perform_at_once.Goals as goal
 
 pub ask_at_once-given-requires-clause-idle : goal.ask_at_once-given-requires-clause-idle
@@ -54,10 +54,7 @@ returns g c =
     let now = seen_as seat a.after a.is in
     let same = c.ask_at_once-given.ensures.same ∙ ap (λ (z : SessionView). z.shelf) c.self.view_is in
     record {
-      own = still_of c.args.store.now c.args.self.now new c.self.inside.seat.shelf seat.shelf k a.after op c.ask_at_once-given.result v was now c.requires.own (same ∙ c.requires.own.shelf);
-      same = (same, same_session c.args.store.now c.args.self.now new c.self.inside.seat.shelf seat.shelf k a.after op c.ask_at_once-given.result v was now);
-      grown = has_grown c.args.store.now c.args.self.now new c.self.inside.seat.shelf seat.shelf k a.after op c.ask_at_once-given.result v was now;
-      well_formed = stays_well c.args.store.now c.args.self.now new c.self.inside.seat.shelf seat.shelf k a.after op c.ask_at_once-given.result v was now;
+      session = goes_on c.args.store.now c.args.self.now new c.self.inside.seat.shelf seat.shelf k a.after op c.ask_at_once-given.result v was now c.requires.own same;
       answered = subst (λ r. TellsUpdate c.args.self.now new op r) (sym c.answer_of.ensures.said) (tells_update c.args.store.now c.args.self.now new c.self.inside.seat.shelf seat.shelf k a.after op c.ask_at_once-given.result v was now c.self.invariant.0.pending c.self.invariant.0.batch);
       goes = (
         c.ask_at_once-given.result,
