@@ -102,7 +102,7 @@ module _ {P N V : Type 0} (R : Rules P N V) (opened : Opened P N) where
   closes words slots values id v wide stands long idle (s, (r, at), same_words, same_count, homes) = (r.progress, r.notes, r.accounts, r.counted, (λ i k e. let fit = (r.each id i v k at e).0 in (fit.possible.0.0, fit.possible.1)), agree, (λ q small. present s r id v at long q small), one_run)
     where
       one_run : IsOneRun R opened r.progress r.notes (λ k. (i : ℕ) × At i k v)
-      one_run = record { run = r.run; leads = r.leads; goes_on = λ k t. (r.each id t.0 v k at t.1).0.goes_on; own = λ k t. (r.each id t.0 v k at t.1).0.own; ends = λ k t. (r.each id t.0 v k at t.1).0.ends }
+      one_run = record { run = r.run; leads = r.leads; goes_on = λ k t. (r.each id t.0 v k at t.1).0.goes_on; own = λ k t. (r.each id t.0 v k at t.1).0.own; ends = λ k t. (r.each id t.0 v k at t.1).0.ends; all = λ c small. let t = present s r id v at long c small in (t.1, (t.0, t.2), t.3) }
 
       no_one : (p : ℕ) → HeldBySome R p s.views → ⊥
       no_one p (j, w, i, m, a, u, at_j, at_i, at_a, is) =

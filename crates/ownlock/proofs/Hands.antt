@@ -9,7 +9,7 @@ use lib.Seq.{set-get_or}
 use prog.Atomic.{either}
 use Rattle.std.proofs.lemmas.Option.{same_Some}
 use Rattle.atomic_table.specs.Table.{keeps, step, stepped, Allows, rest}
-use Rattle.atomic_table.proofs.Lists.{at_set, set_here, set_else}
+use Rattle.atomic_table.proofs.Lists.{at_set, set_here, set_else, at_longer}
 use Rattle.ownlock.specs.declared.known.Known.{Known}
 use Rattle.ownlock.specs.declared.known.SharedStep.{SharedStep}
 use Rattle.ownlock.specs.declared.known.ShelfStep.TheVariants.{Took, Put}
@@ -18,10 +18,10 @@ use Rattle.ownlock.specs.Words.{word_of, slot_of}
 use Rattle.ownlock.specs.Runs.{Puts, Takes}
 use Rattle.ownlock.specs.Seats.{At, Opened, Run, Continues, own_steps, HoldsNone, place_of, without, holding, putting, taking, taken_by, handed}
 use Rattle.ownlock.specs.Knowledge.{HeldAgree, Later, Possible, MayPut, MayHandOn}
-use Rattle.ownlock.specs.Invariant.{SessionInvariant, HeldBySome, LockInvariant, handed_on, emptied, out_of}
+use Rattle.ownlock.specs.Invariant.{SessionInvariant, HeldBySome, KnownBySome, LockInvariant, handed_on, emptied, out_of}
 use Rattle.ownlock.proofs.Keeps.{LockState, LockSeat, at_below, at_one, one_place, place_there}
 use Rattle.ownlock.proofs.Run.{continues_self, continues_more, own_here, own_else}
-use Rattle.ownlock.proofs.Seats.{at_snoc_last, none_out, none_joined}
+use Rattle.ownlock.proofs.Seats.{at_snoc_last, at_behind, none_out, none_joined}
 use Rattle.ownlock.proofs.Without.{was_held, without_same, not_held, apart_without, part_of}
 
 module _ {P N V : Type 0} (R : Rules P N V) (laws : Laws R) (opened : Opened P N) where
@@ -308,6 +308,16 @@ module _ {P N V : Type 0} (R : Rules P N V) (laws : Laws R) (opened : Opened P N
             (λ e. absurd (of_olds q i z a u ne (subst (λ (l : List K). At i z l) (at_one s.views id v olds (subst (λ n. At n v s.views) e at_j) at) at_i) at_a same))
             (λ other. (j, v, i, z, a, u, set_else s.views id j news other ∙ at_j, at_i, at_a, same))
 
+    of_news : (c i : ℕ) (z : K) → At i z olds → z.session ≡ c → KnownBySome c after
+    of_news c zero z at_i is = let t = at_behind ms (giver ∷ []) 0 giver refl in (id, suc t.0, news, giver, news_at, t.1, ap (λ (z : K). z.session) (some-injective k z at_i) ∙ is)
+    of_news c (suc zero) z at_i is = (id, 0, news, taker, news_at, refl, ap (λ (z : K). z.session) (some-injective m z at_i) ∙ is)
+    of_news c (suc (suc i)) z at_i is = (id, suc i, news, z, news_at, at_longer ms (giver ∷ []) i z at_i, is)
+
+    known_after : (c : ℕ) → KnownBySome c s.views → KnownBySome c after
+    known_after c (j, i, v, z, at_j, at_i, is) = dite (ℕ_discrete j id)
+        (λ e. of_news c i z (subst (λ (l : List K). At i z l) (at_one s.views id v olds (subst (λ n. At n v s.views) e at_j) at) at_i) is)
+        (λ other. (j, i, v, z, set_else s.views id j news other ∙ at_j, at_i, is))
+
     hands_over : LockInvariant R opened record { words = s.words; homes = s.homes; views = after }
     hands_over = record {
       progress = progress_after;
@@ -328,6 +338,7 @@ module _ {P N V : Type 0} (R : Rules P N V) (laws : Laws R) (opened : Opened P N
       busy = busy_after;
       each = each_after;
       distinct = distinct_after;
+      all = λ c small. known_after c (r.all c small);
     }
 
     pub hands_stand : (c : List (ℕ × Option V)) → LockInvariant R opened (stepped s (word_of p) (get_or s.words (word_of p) 0) id c news keeps)

@@ -13,7 +13,7 @@ use Rattle.ownlock.specs.Rules.{Rules, Laws, leader}
 use Rattle.ownlock.specs.Words.{word_of, slot_of}
 use Rattle.ownlock.specs.Runs.{Runs}
 use Rattle.ownlock.specs.Seats.{At, Opened, Run, Continues, own_steps}
-use Rattle.ownlock.specs.Invariant.{SessionInvariant, HeldBySome, LockInvariant, StepsAs}
+use Rattle.ownlock.specs.Invariant.{SessionInvariant, HeldBySome, KnownBySome, LockInvariant, StepsAs}
 use Rattle.ownlock.proofs.Spread.{one_slot}
 use Rattle.ownlock.proofs.Run.{continues_on}
 
@@ -145,6 +145,14 @@ module _ {P N V : Type 0} (R : Rules P N V) (laws : Laws R) (opened : Opened P N
         (λ e. let mine = g.busy_here (subst (λ z. z < opened.places) e below) (λ h. is (ap (λ z. get_or words (word_of z) 0) e ∙ h)) in (id, k' ∷ [], 0, k', mine.0, mine.1, mine_at, refl, mine.2, mine.3 ∙ sym e))
         (λ ne. still_held q ne (r.busy q below (λ h. is (g.words_else q ne ∙ h))))
 
+    still_known : (c : ℕ) → KnownBySome c s.views → KnownBySome c after
+    still_known c (j, i, v, m, at_j, at_i, is) = dite (ℕ_discrete j id)
+        (λ e.
+        let view = at_one s.views id (k ∷ []) v g.here (subst (λ z. At z v s.views) e at_j) in
+        let only = at_only k m i (subst (λ (z : List K). At i m z) (sym view) at_i) in
+        (id, 0, k' ∷ [], k', mine_at, refl, g.session ∙ (ap (λ (z : K). z.session) only.1 ∙ is)))
+        (λ other. (j, i, v, m, set_else s.views id j (k' ∷ []) other ∙ at_j, at_i, is))
+
     pub goes : LockInvariant R opened record { words = words; homes = homes; views = after }
     goes = record {
       progress = progress;
@@ -164,6 +172,7 @@ module _ {P N V : Type 0} (R : Rules P N V) (laws : Laws R) (opened : Opened P N
       busy = busy_after;
       each = each_after;
       distinct = distinct_after;
+      all = λ c small. still_known c (r.all c small);
     }
 
   -- the seat that is the session k

@@ -63,5 +63,5 @@ module _ {P N V : Type 0} (R : Rules P N V) (opened : Opened P N) (s : State (Op
     (λ j i v k at_j at_i. let one = (r.each j i v k at_j at_i).0 in (one.possible.0.0, one.possible.1, one.allowed)),
     r.tail,
     (λ j i a k x h. (r.each j i h.0 k h.1 h.2).0.possible.0.1 a (leader, x) h.3 refl),
-    record { run = r.run; leads = r.leads; goes_on = λ k t. (r.each t.0 t.1 t.2 k t.3 t.4).0.goes_on; own = λ k t. (r.each t.0 t.1 t.2 k t.3 t.4).0.own; ends = λ k t. (r.each t.0 t.1 t.2 k t.3 t.4).0.ends },
+    record { run = r.run; leads = r.leads; goes_on = λ k t. (r.each t.0 t.1 t.2 k t.3 t.4).0.goes_on; own = λ k t. (r.each t.0 t.1 t.2 k t.3 t.4).0.own; ends = λ k t. (r.each t.0 t.1 t.2 k t.3 t.4).0.ends; all = λ c small. let t = r.all c small in (t.3, (t.0, t.1, t.2, t.4, t.5), t.6) },
   )

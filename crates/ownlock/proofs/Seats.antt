@@ -15,7 +15,7 @@ use Rattle.ownlock.specs.Spreading.{spread}
 use Rattle.ownlock.specs.Seats.{At, Opened, opened_with, SeatView, IsSession, own_steps, all_sessions, HoldsNone}
 use Rattle.ownlock.specs.Knowledge.{AllAgree}
 use Rattle.ownlock.specs.Runs.{Begins}
-use Rattle.ownlock.specs.Invariant.{SessionInvariant, HeldBySome, LockInvariant, first_of, others_of, out_of, emptied, StepsAs}
+use Rattle.ownlock.specs.Invariant.{SessionInvariant, HeldBySome, KnownBySome, LockInvariant, first_of, others_of, out_of, emptied, StepsAs}
 use Rattle.ownlock.proofs.Spread.{long_spread, at_spread, none_between}
 use Rattle.ownlock.proofs.Keeps.{LockState, at_below, at_only, at_one}
 
@@ -125,6 +125,11 @@ module _ {P N V : Type 0} (R : Rules P N V) (laws : Laws R) where
       (omega arith, sym (ap (λ (z : K). z.progress) is), sym (ap (λ (z : K). z.held) is), ap (λ (z : K). kernel.some z.note) is, sym (ap (λ (z : K). z.steps) is), sym (ap (λ (z : K). z.run) is))
   all_sessions_at progress n (x ∷ xs) (suc i) k e = let t = all_sessions_at progress (suc n) xs i k e in let number = t.0 in (omega arith, t.1, t.2, t.3, t.4, t.5)
 
+  all_sessions_there : (progress : P) (n : ℕ) (ns : List N) (c : ℕ) → c < length ns → (k : K) × At c k (all_sessions progress n ns) × (k.session ≡ n + c)
+  all_sessions_there progress n [] c small = absurd (omega (arith, small))
+  all_sessions_there progress n (x ∷ xs) zero small = (record { session = n; progress = progress; note = x; held = []; steps = []; run = [] }, refl, omega arith)
+  all_sessions_there progress n (x ∷ xs) (suc c) small = let t = all_sessions_there progress (suc n) xs c (omega (arith, small)) in let number = t.2 in (t.0, t.1, omega (arith, number))
+
   -- the shelf at the start
   pub opens : (progress : P) (notes : List N) (values : List (Option V)) (words : List ℕ) → words ≡ blanks (word_of (length values + 1)) → R.completed progress ≡ 0 → R.Accounts progress notes → AllAgree R progress notes values → (places : ℕ) → length values ≡ places
       → LockInvariant R (opened_with progress places notes) (opening words (spread values) (all_sessions progress 0 notes))
@@ -146,6 +151,7 @@ module _ {P N V : Type 0} (R : Rules P N V) (laws : Laws R) where
     busy = λ p below ne. absurd (ne (zero_at (word_of p)));
     each = holds_of;
     distinct = apart;
+    all = λ c small. let t = all_sessions_there progress 0 notes c small in let number = t.2 in (0, c, all_sessions progress 0 notes, t.0, refl, t.1, omega (arith, number));
   }
     where
       zero_at : (p : ℕ) → get_or words p 0 ≡ 0
@@ -192,12 +198,16 @@ module _ {P N V : Type 0} (R : Rules P N V) (laws : Laws R) where
           omega (arith, one, two, e)
 
   module _ (opened : Opened P N) where
-    -- the rule is kept where only the seats change: whose session each is, what is held, and that no two are the same
-    seated : (s : LockState P N V) (r : LockInvariant R opened s) (views : List (List K)) (owner : ℕ → ℕ) → ((p : ℕ) → HeldBySome R p s.views → HeldBySome R p views)
+    -- some seat has the session m, as it is
+    abbrev IsSeated : K → List (List K) → Type 0
+    IsSeated m views = (j i : ℕ) × (v : List K) × At j v views × At i m v
+
+    -- the rule is kept where only the seats change: each session is in some seat still, and whose session each is, and no two are the same
+    seated : (s : LockState P N V) (r : LockInvariant R opened s) (views : List (List K)) (owner : ℕ → ℕ) → ((j i : ℕ) (v : List K) (m : K) → At j v s.views → At i m v → IsSeated m views)
         → ((j i : ℕ) (v : List K) (k : K) → At j v views → At i k v → SessionInvariant R r.progress r.notes r.run s.homes r.holder k × (owner k.session ≡ j))
         → ((j a b : ℕ) (v : List K) (k m : K) → At j v views → At a k v → At b m v → k.session ≡ m.session → a ≡ b)
         → LockInvariant R opened record { words = s.words; homes = s.homes; views = views }
-    seated s r views owner held each distinct = record {
+    seated s r views owner there each distinct = record {
       progress = r.progress;
       notes = r.notes;
       run = r.run;
@@ -212,14 +222,21 @@ module _ {P N V : Type 0} (R : Rules P N V) (laws : Laws R) where
       tail = r.tail;
       gaps = r.gaps;
       free = r.free;
-      busy = λ p below ne. held p (r.busy p below ne);
+      busy = λ p below ne. still_held p (r.busy p below ne);
       each = each;
       distinct = distinct;
+      all = λ c small. still_known c (r.all c small);
     }
+      where
+        still_held : (p : ℕ) → HeldBySome R p s.views → HeldBySome R p views
+        still_held p (j, v, i, m, a, u, at_j, at_i, at_a, is) = let t = there j i v m at_j at_i in (t.0, t.2, t.1, m, a, u, t.3, t.4, at_a, is)
+
+        still_known : (c : ℕ) → KnownBySome c s.views → KnownBySome c views
+        still_known c (j, i, v, m, at_j, at_i, is) = let t = there j i v m at_j at_i in (t.0, t.1, t.2, m, t.3, t.4, is)
 
     -- the first session of a seat goes to a new seat
     pub splits : (id : ℕ) (k : K) (ks : List K) → Splits (LockInvariant R opened) id (k ∷ ks) (others_of (k ∷ ks)) (first_of (k ∷ ks))
-    splits id k ks s r at = seated s r (left ++ (k ∷ []) ∷ []) owner held each distinct
+    splits id k ks s r at = seated s r (left ++ (k ∷ []) ∷ []) owner there each distinct
       where
         left : List (List K)
         left = set s.views id ks
@@ -277,18 +294,18 @@ module _ {P N V : Type 0} (R : Rules P N V) (laws : Laws R) where
             one.0 ∙ sym two.0)
             (at_snoc_last left (k ∷ []) v j at_j)
 
-        held_by : (p a : ℕ) (u : ℕ × V) (i : ℕ) (m : K) → At i m (k ∷ ks) → At a u m.held → u.0 ≡ p → HeldBySome R p (left ++ (k ∷ []) ∷ [])
-        held_by p a u zero m at_i at_a is = (length left, k ∷ [], 0, k, a, u, new_at, refl, subst (λ (z : K). At a u z.held) (sym (some-injective k m at_i)) at_a, is)
-        held_by p a u (suc i) m at_i at_a is = (id, ks, i, m, a, u, at_longer left ((k ∷ []) ∷ []) id ks ks_at, at_i, at_a, is)
+        of_seat : (i : ℕ) (m : K) → At i m (k ∷ ks) → IsSeated m (left ++ (k ∷ []) ∷ [])
+        of_seat zero m at_i = (length left, 0, k ∷ [], new_at, at_i)
+        of_seat (suc i) m at_i = (id, i, ks, at_longer left ((k ∷ []) ∷ []) id ks ks_at, at_i)
 
-        held : (p : ℕ) → HeldBySome R p s.views → HeldBySome R p (left ++ (k ∷ []) ∷ [])
-        held p (j, v, i, m, a, u, at_j, at_i, at_a, is) = dite (ℕ_discrete j id)
-            (λ e. held_by p a u i m (subst (λ z. At i m z) (at_one s.views id v (k ∷ ks) (subst (λ z. At z v s.views) e at_j) at) at_i) at_a is)
-            (λ ne. (j, v, i, m, a, u, at_longer left ((k ∷ []) ∷ []) j v (set_else s.views id j ks ne ∙ at_j), at_i, at_a, is))
+        there : (j i : ℕ) (v : List K) (m : K) → At j v s.views → At i m v → IsSeated m (left ++ (k ∷ []) ∷ [])
+        there j i v m at_j at_i = dite (ℕ_discrete j id)
+            (λ e. of_seat i m (subst (λ z. At i m z) (at_one s.views id v (k ∷ ks) (subst (λ z. At z v s.views) e at_j) at) at_i))
+            (λ ne. (j, i, v, at_longer left ((k ∷ []) ∷ []) j v (set_else s.views id j ks ne ∙ at_j), at_i))
 
     -- the sessions behind the first of a seat go to a new seat
     pub splits_off : (id : ℕ) (k : K) (ks : List K) → Splits (LockInvariant R opened) id (k ∷ ks) (first_of (k ∷ ks)) (others_of (k ∷ ks))
-    splits_off id k ks s r at = seated s r (left ++ ks ∷ []) owner held each distinct
+    splits_off id k ks s r at = seated s r (left ++ ks ∷ []) owner there each distinct
       where
         left : List (List K)
         left = set s.views id (k ∷ [])
@@ -352,18 +369,18 @@ module _ {P N V : Type 0} (R : Rules P N V) (laws : Laws R) where
             omega (arith, one))
             (at_snoc_last left ks v j at_j)
 
-        held_by : (p a : ℕ) (u : ℕ × V) (i : ℕ) (m : K) → At i m (k ∷ ks) → At a u m.held → u.0 ≡ p → HeldBySome R p (left ++ ks ∷ [])
-        held_by p a u zero m at_i at_a is = (id, k ∷ [], 0, k, a, u, at_longer left (ks ∷ []) id (k ∷ []) first_at, refl, subst (λ (z : K). At a u z.held) (sym (some-injective k m at_i)) at_a, is)
-        held_by p a u (suc i) m at_i at_a is = (length left, ks, i, m, a, u, new_at, at_i, at_a, is)
+        of_seat : (i : ℕ) (m : K) → At i m (k ∷ ks) → IsSeated m (left ++ ks ∷ [])
+        of_seat zero m at_i = (id, 0, k ∷ [], at_longer left (ks ∷ []) id (k ∷ []) first_at, at_i)
+        of_seat (suc i) m at_i = (length left, i, ks, new_at, at_i)
 
-        held : (p : ℕ) → HeldBySome R p s.views → HeldBySome R p (left ++ ks ∷ [])
-        held p (j, v, i, m, a, u, at_j, at_i, at_a, is) = dite (ℕ_discrete j id)
-            (λ e. held_by p a u i m (subst (λ z. At i m z) (at_one s.views id v (k ∷ ks) (subst (λ z. At z v s.views) e at_j) at) at_i) at_a is)
-            (λ ne. (j, v, i, m, a, u, at_longer left (ks ∷ []) j v (set_else s.views id j (k ∷ []) ne ∙ at_j), at_i, at_a, is))
+        there : (j i : ℕ) (v : List K) (m : K) → At j v s.views → At i m v → IsSeated m (left ++ ks ∷ [])
+        there j i v m at_j at_i = dite (ℕ_discrete j id)
+            (λ e. of_seat i m (subst (λ z. At i m z) (at_one s.views id v (k ∷ ks) (subst (λ z. At z v s.views) e at_j) at) at_i))
+            (λ ne. (j, i, v, at_longer left (ks ∷ []) j v (set_else s.views id j (k ∷ []) ne ∙ at_j), at_i))
 
     -- a seat takes in the sessions of another
     pub joins : (id : ℕ) (v : List K) (other : ℕ) (w : List K) → Joins (LockInvariant R opened) id v other w (v ++ w) []
-    joins id v other w s r at apart there = seated s r last owner held each distinct
+    joins id v other w s r at apart there = seated s r last owner moved each distinct
       where
         mid : List (List K)
         mid = set s.views id (v ++ w)
@@ -429,10 +446,9 @@ module _ {P N V : Type 0} (R : Rules P N V) (laws : Laws R) where
             (at_set s.views id j (v ++ w) z t.1))
             (at_set mid other j [] z at_j)
 
-        held : (p : ℕ) → HeldBySome R p s.views → HeldBySome R p last
-        held p (j, z, i, m, a, u, at_j, at_i, at_a, is) = dite (ℕ_discrete j id)
-            (λ e. (id, v ++ w, i, m, a, u, both_at, at_longer v w i m (subst (λ l. At i m l) (at_one s.views id z v (subst (λ q. At q z s.views) e at_j) at) at_i), at_a, is))
+        moved : (j i : ℕ) (z : List K) (m : K) → At j z s.views → At i m z → IsSeated m last
+        moved j i z m at_j at_i = dite (ℕ_discrete j id)
+            (λ e. (id, i, v ++ w, both_at, at_longer v w i m (subst (λ l. At i m l) (at_one s.views id z v (subst (λ q. At q z s.views) e at_j) at) at_i)))
             (λ ne. dite (ℕ_discrete j other)
-            (λ e. let moved = at_behind v w i m (subst (λ l. At i m l) (at_one s.views other z w (subst (λ q. At q z s.views) e at_j) w_at) at_i) in
-            (id, v ++ w, moved.0, m, a, u, both_at, moved.1, at_a, is))
-            (λ far. (j, z, i, m, a, u, set_else mid other j [] far ∙ (set_else s.views id j (v ++ w) ne ∙ at_j), at_i, at_a, is)))
+            (λ e. let t = at_behind v w i m (subst (λ l. At i m l) (at_one s.views other z w (subst (λ q. At q z s.views) e at_j) w_at) at_i) in (id, t.0, v ++ w, both_at, t.1))
+            (λ far. (j, i, z, set_else mid other j [] far ∙ (set_else s.views id j (v ++ w) ne ∙ at_j), at_i)))

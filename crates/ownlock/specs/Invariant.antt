@@ -26,6 +26,10 @@ module _ {P N V : Type 0} where
   out_of [] = []
   out_of (k ∷ ks) = map emptied k.held ++ out_of ks
 
+  -- some seat has what the session with this number knows
+  abbrev pub KnownBySome : ℕ → List (View P N V) → Type 0
+  KnownBySome c views = (j i : ℕ) × (v : View P N V) × (k : Known P N V) × At j v views × At i k v × (k.session ≡ c)
+
   -- the first session of a view, and the others
   abbrev pub first_of : View P N V → View P N V
   first_of [] = []
@@ -74,6 +78,8 @@ module _ {P N V : Type 0} (R : Rules P N V) where
     pub busy : (p : ℕ) → p < opened.places → slice_index s.words (word_of p) ≢ 0 → HeldBySome p s.views
     pub each : (j i : ℕ) (v : View P N V) (k : Known P N V) → At j v s.views → At i k v → SessionInvariant progress notes run s.homes holder k × (owner k.session ≡ j)
     pub distinct : (j a b : ℕ) (v : View P N V) (k m : Known P N V) → At j v s.views → At a k v → At b m v → k.session ≡ m.session → a ≡ b
+    -- no session is left out
+    pub all : (c : ℕ) → c < length opened.notes → KnownBySome c s.views
 
   -- the seat of the table, which is a session, is that session still once it has taken the value x of the place p
   abbrev pub StepsTaking : Me (Option V) (View P N V) → ℕ → V → Me (Option V) (View P N V) → Type 0

@@ -90,13 +90,14 @@ module _ {P N V : Type 0} (R : Rules P N V) where
   HasAllSessions count v = (q : ℕ) → q < count → (i : ℕ) × (k : Known P N V) × At i k v × (k.session ≡ q)
 
   -- one run leads from what the shelf was opened with to this progress and these notes; of each of these sessions it goes on from the run that
-  -- the session knows, and has exactly the session's own steps
+  -- the session knows, and has exactly the session's own steps; these are all sessions, so it has no other steps
   pub record IsOneRun (opened : Opened P N) (progress : P) (notes : List N) (IsOne : Known P N V → Type 0) : Type 0 where
     pub run : Run P N V
     pub leads : Runs R opened run progress notes
     pub goes_on : (k : Known P N V) → IsOne k → Continues k.run run
     pub own : (k : Known P N V) → IsOne k → own_steps k.session run ≡ k.steps
     pub ends : (k : Known P N V) → IsOne k → EndsWithOwn k
+    pub all : (c : ℕ) → c < length opened.notes → (k : Known P N V) × IsOne k × (k.session ≡ c)
 
   -- at the end: each value agrees with one progress, which has grown from the one of each of these sessions, and with the notes that they bring, which are all notes
   abbrev pub Closes : Opened P N → View P N V → List (Option V) → Type 0

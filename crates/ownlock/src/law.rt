@@ -12,7 +12,7 @@ use crate::shelved::Shelved;
 /// that agrees with them, and held by nobody, or its word isn't 0, nothing is on the shelf, and one session of one seat holds it.
 /// A word of its own is the progress's completed tail. One run, the list of all steps of all sessions in their order, leads from what the shelf
 /// was opened with to that progress and those notes, and the rules allow each of its steps. The run that a session knows is the beginning of
-/// this one, and the session's own steps are exactly those that it has there.
+/// this one, and the session's own steps are exactly those that it has there. Each session is in some seat, so each step is known to its session.
 pub fn between_steps<V: Shelved>()
     ensures { (opened : Opened V.Progress V.SessionNote) (s : ShelfState V.Progress V.SessionNote V) → LockInvariant V.rules opened s
         → Between V.rules s opened }

@@ -22,7 +22,7 @@ use Rattle.store_steps.specs.declared.deeds.Stage.TheVariants.{Asked, Claimed, I
 use Rattle.store_steps.specs.Stages.{IsAsking}
 use Rattle.store_steps.specs.Updating.{Answers, Begins, ClaimsIt, CollectsBy, Combines, DeedBy, Deeds, Gives, Looks, PostsBy, Rests as NoDeed, Rounds, Then, Tries, UpdatesBy, Waits}
 use Rattle.store_steps.specs.Views.{SessionView, first_in, op_of, session_view}
-use Rattle.store.specs.CallsTold.{ClosesTold, GoesOn, IsToldRead, IsUnderWay, PolledRest, PolledUpdatesAreTold, Posts, ReadsAreTold, Rests, SessionsRest, TriedReadsAreTold, UpdatesAreTold}
+use Rattle.store.specs.CallsTold.{Asks, ClosesTold, GoesOn, IsToldRead, IsUnderWay, PolledRest, PolledUpdatesAreTold, Posts, ReadsAreTold, Rests, SessionsRest, TriedReadsAreTold, UpdatesAreTold}
 use Rattle.store.specs.Going.{ReadGoes}
 use Rattle.store.specs.Opening.{setup_of}
 use Rattle.store.specs.Sessions.{IsOf, StoreView, TellsRead, TellsUpdate, known_of, said}
@@ -112,6 +112,15 @@ under_way old op s (Posts new posted goes) = record {
   asked = known_of s;
   posts = goes;
   deeds = NoDeed (known_of s);
+}
+under_way old op s (Asks new asked goes) = record {
+  request = asked.0;
+  op_is = asked.1;
+  waits = ap (λ (n : SessionNote). n.pending) asked.3;
+  answered = ap (λ (n : SessionNote). n.answered) asked.3;
+  asked = goes.0;
+  posts = goes.1;
+  deeds = goes.2;
 }
 under_way old op s (GoesOn m new o under tells goes) =
     let u : UnderWay old op m = under_way old op m under in

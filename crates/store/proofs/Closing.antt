@@ -169,13 +169,18 @@ module _ (store : StoreView) (sessions : List SessionView) (view : List SessionK
   pub left_of : length slots ≡ 1 + store.config.nodes + store.config.nodes → IsLeft l store.config.nodes (take (1 + store.config.nodes) slots)
   left_of long = is_left l a.1 slots store.config.nodes (ap (λ (z : Sizes). z.nodes) config_is) long a.5
 
+  is_back : (c : ℕ) → c < length opened.notes → (j : ℕ) × (s : SessionView) × At j s sessions × (s.session ≡ c)
+  is_back c small =
+      let q = a.6 c small in
+      let b = back_is sessions q.0 q.1 (subst (λ z. At q.0 q.1 z) known q.2) in
+      (b.0, b.1, b.2, sym (ap (λ (z : SessionKnown). z.session) b.3) ∙ q.3)
+
   author_of : (i : ℕ) (r : Record) → At i r l.history → (j : ℕ) × (s : SessionView) × At j s sessions × (r.author ≡ s.session)
   author_of i r at =
       let low = (ends store_meaning l a.1 a.2).1 i r at in
       let all = a.3 in
-      let q = a.6 r.author (omega (arith, low, all)) in
-      let b = back_is sessions q.0 q.1 (subst (λ z. At q.0 q.1 z) known q.2) in
-      (b.0, b.1, b.2, sym q.3 ∙ ap (λ (z : SessionKnown). z.session) b.3)
+      let b = is_back r.author (omega (arith, low, all)) in
+      (b.0, b.1, b.2, sym b.3)
 
   well : IsWellFormed store_meaning l
   well = record { allowed = a.2.allowed; completed = a.2.completed; limit = a.2.limit }
@@ -209,6 +214,7 @@ module _ (store : StoreView) (sessions : List SessionView) (view : List SessionK
     goes_on = λ j s at. a.7.goes_on (known_of s) (known_by j s at);
     own = λ j s at. a.7.own (known_of s) (known_by j s at);
     ends = λ j s at. a.7.ends (known_of s) (known_by j s at);
+    all = λ c small. is_back c (subst (λ n. c < n) (sym (ap (λ (z : Opened L SessionNote). length z.notes) opens ∙ length-replicate (sessions_of store.config) fresh_note)) small);
     records = λ j s at. (ends store_meaning l a.1 a.2).0 s.session s.note (mine j s at).1 (idle j s at);
     answered = λ j q s u at there. stand store_meaning l a.1 a.2 s.session s.note q u (mine j s at).1 there;
     authors = author_of;

@@ -11,6 +11,7 @@ use Rattle.replica.specs.Refusals.{early_refusal}
 use Rattle.replica.specs.Views.{RepliesView}
 use Rattle.replica.specs.declared.refusals.StoreRefused.{StoreRefused}
 use Rattle.accounts.specs.declared.sessions.Pending.{Pending}
+use Rattle.store_steps.specs.Polling.{BeginsBy, HasAskedFor}
 use Rattle.store_steps.specs.Standing.{StoreSeat}
 use Rattle.store_steps.specs.Stages.{IsPolled}
 use Rattle.store_steps.specs.Updating.{PostsBy}
@@ -64,8 +65,10 @@ UpdatesAreTold =
 
 -- a session has posted an operation, and has gone on with it by calls that had no answer
 pub data IsUnderWay (old : SessionView) (op : Operation) : SessionView → Type 0 where
-  -- `posted` and `goes` of `Polled::try_post` and `Polled::try_install` say so where the operation was posted
+  -- `posted` and `goes` of `Polled::try_post`, `try_install` and `try_install_within` say so where the operation was posted
   Posts : (new : SessionView) → HasPostedFor old new op → PostsBy (known_of old) (known_of new) op → IsUnderWay old op new
+  -- so do `asked` and `goes` of `Polled::try_update`
+  Asks : (new : SessionView) → HasAskedFor old new op → BeginsBy (known_of old) (known_of new) op → IsUnderWay old op new
   -- `completed` and `goes` of `Polled::try_complete` where it had no answer
   GoesOn : (m new : SessionView) (o : Pending) → IsUnderWay old op m → TellsCompleted m new o None → CompleteGoes m new None → IsUnderWay old op new
 

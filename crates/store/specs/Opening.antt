@@ -1,5 +1,5 @@
 -- What a store may be opened with, and what it gives back when it is closed.
-use Rattle.std.specs.Prelude.{◌≡◌, ℕ, List, [], ◌∷◌, ◌++◌, length, refl, Option, Some, None}
+use Rattle.std.specs.Prelude.{◌≡◌, ℕ, ◌<◌, List, [], ◌∷◌, ◌++◌, length, refl, Option, Some, None}
 use Rattle.std.specs.Coded.{Coded, code_by, coded×, coded_list}
 use Rattle.std.specs.Global.{Box}
 use Rattle.loader.specs.StoreState.{StoreState, sizes_of}
@@ -26,7 +26,7 @@ use Rattle.store_steps.specs.declared.values.Value.TheVariants.{Log as LogPlace,
 use Rattle.store_steps.specs.Views.{SessionView, no_catalogue}
 use Rattle.store.specs.Sessions.{StoreView, IsOf, known_of}
 use Rattle.store_steps.specs.Standing.{SessionKnown}
-use Rattle.store_steps.specs.Shelving.{log_value, replica_value, HasLogSizes, store_opening, store_rules}
+use Rattle.store_steps.specs.Shelving.{log_value, replica_value, sessions_of, HasLogSizes, store_opening, store_rules}
 
 -- each of these sessions is one of the store
 abbrev pub AreOf : StoreView → List SessionView → Type 0
@@ -113,6 +113,8 @@ pub record IsClosed (store : StoreView) (sessions : List SessionView) (closed : 
   pub goes_on : (a : ℕ) (s : SessionView) → At a s sessions → Continues s.run run
   pub own : (a : ℕ) (s : SessionView) → At a s sessions → own_steps s.session run ≡ s.steps
   pub ends : (a : ℕ) (s : SessionView) → At a s sessions → EndsWithOwn (known_of s)
+  -- each session of the store is among these, so no other has a step in the run
+  pub all : (c : ℕ) → c < sessions_of store.config → (a : ℕ) × (s : SessionView) × At a s sessions × (s.session ≡ c)
   -- the records of each session are its answered updates in order, and there are no others; each stands once, at its
   -- index, with the reply that it gets there
   pub records : (a : ℕ) (s : SessionView) → At a s sessions → records_of s.session progress.history ≡ numbered s.session 0 s.note.answered

@@ -1,5 +1,5 @@
 -- The lock's invariant, for the rules of a store.
-use Rattle.std.proofs.Common.{sym, ◌∙◌, ⊎_elim}
+use Rattle.std.proofs.Common.{ℕ, ◌<◌, sym, ◌∙◌, subst, ⊎_elim}
 use Rattle.std.proofs.lemmas.List.{length-replicate}
 use Rattle.ownlock.specs.Invariant.{LockInvariant}
 use Rattle.ownlock.specs.Between.{Between}
@@ -35,4 +35,5 @@ meanwhile opening s r = told (between store_rules (store_opening opening) s r)
       goes_on = λ j i v k at_j at_i. b.10.goes_on k (j, i, v, at_j, at_i);
       own = λ j i v k at_j at_i. b.10.own k (j, i, v, at_j, at_i);
       ends = λ j i v k at_j at_i. b.10.ends k (j, i, v, at_j, at_i);
+      all = λ c small. let t = b.10.all c (subst (λ n. c < n) b.5 small) in (t.1.0, t.1.1, t.1.2, t.0, t.1.3, t.1.4, t.2);
     }

@@ -67,5 +67,7 @@ pub record Meanwhile (opening : Setup) (s : StoreState) : Type 0 where
   pub goes_on : (j i : ℕ) (v : List StoreKnown) (k : StoreKnown) → At j v s.views → At i k v → Continues k.run run
   pub own : (j i : ℕ) (v : List StoreKnown) (k : StoreKnown) → At j v s.views → At i k v → own_steps k.session run ≡ k.steps
   pub ends : (j i : ℕ) (v : List StoreKnown) (k : StoreKnown) → At j v s.views → At i k v → EndsWithOwn k
+  -- each session with a note is among these, so the run has no other steps
+  pub all : (c : ℕ) → c < length notes → (j i : ℕ) × (v : List StoreKnown) × (k : StoreKnown) × At j v s.views × At i k v × (k.session ≡ c)
   -- while a session holds the log, the history is the one that it knows
   pub still : (j i a : ℕ) (k : StoreKnown) (x : Value) → Holds s j i a k log_place x → k.progress.history ≡ progress.history
