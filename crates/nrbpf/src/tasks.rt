@@ -51,6 +51,8 @@ pub struct Call<'a> {
     pub task: Task<'a>,
     /// What is told of it on standard error beside its answer.
     pub telling: Telling,
+    /// The folder in which it works, where that is not the caller's.
+    pub folder: Option<&'a str>,
     /// How large the maps of the manifest may be.
     pub sizes: MapSizes,
     /// Whether it is said there how many calls there were, and how long they took.
@@ -119,6 +121,7 @@ pub fn named_call<'a>(matches: &ArgMatches<'a>) -> Option<Call<'a>> {
     Some(Call {
         task: task_of(name, inner)?,
         telling: telling_of(inner),
+        folder: matches.get_str("folder"),
         sizes: sizes_of(inner),
         has_stats: inner.get_flag("stats"),
         manifest: inner.get_str("MANIFEST"),
