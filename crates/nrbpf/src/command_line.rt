@@ -14,7 +14,9 @@ fn program<'a>(alloc: Global) -> Result<Command<'a>, AllocError> {
         .version(help::VERSION)
         .subcommand_required(true)
         .arg_required_else_help(true)
-        .arg(arg!(in alloc; folder: -C <FOLDER> "The folder in which the command works: it names files from there"))?;
+        .arg(
+            arg!(in alloc; folder: -C <FOLDER> "The folder in which the command works: it names files from there"),
+        )?;
     add_all(alloc, program)
 }
 
