@@ -32,6 +32,8 @@ pub enum Task<'a> {
     Disassemble(Disassemble),
     /// Write the script of a text of calls.
     Encode,
+    /// Write the values of a state's entries.
+    Decode,
     /// Run a script.
     Run(Run),
     /// Replay a transcript, with so many places behind the programs.
