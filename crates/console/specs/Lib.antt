@@ -1,4 +1,5 @@
 -- What `check`, `explain`, `asm`, `dis`, `encode` and `decode` answer.
+pub mod MapsAnswer
 pub mod CheckAnswer
 pub mod AssemblyAnswer
 pub mod DecodeAnswer

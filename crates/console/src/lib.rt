@@ -5,8 +5,10 @@ mod assembly;
 mod decoding;
 mod laws;
 mod manifests;
+mod map_lines;
 
 pub use assembly::{Assemble, Disassemble, Encode};
 pub use decoding::Decode;
 pub use laws::slots_are_columns;
 pub use manifests::{Check, Draw, Explain};
+pub use map_lines::CheckMaps;

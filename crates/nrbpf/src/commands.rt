@@ -104,7 +104,7 @@ pub fn perform<
     W: Write,
 >(rt: &R, call: &Call<'_>, inputs: &mut Inputs<'_, F, I>, writer: &mut W) -> Status {
     match call.task {
-        Task::Check => check_command::perform(rt, call.telling, inputs, writer),
+        Task::Check(has_maps) => check_command::perform(rt, has_maps, call.telling, inputs, writer),
         Task::Explain(asked) => explain_command::perform(rt, asked, call.telling, inputs, writer),
         Task::Assemble => asm_command::perform(rt, call, inputs, writer),
         Task::Disassemble(command) => dis_command::perform(

@@ -17,13 +17,15 @@ pub struct Explaining<'a> {
     pub name: Option<&'a str>,
     /// Whether they are drawn.
     pub is_graph: bool,
+    /// Whether the maps that each names are told.
+    pub has_maps: bool,
 }
 
 /// What is to be done.
 #[derive(Clone, Copy)]
 pub enum Task<'a> {
-    /// Check a manifest.
-    Check,
+    /// Check a manifest, and tell the maps that each program names or not.
+    Check(bool),
     /// Explain the programs of a manifest, or draw them.
     Explain(Explaining<'a>),
     /// Assemble a text.
