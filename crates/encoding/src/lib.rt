@@ -20,7 +20,7 @@ mod words;
 pub use arguments::ARGUMENT_BYTES;
 pub use decode_faults::{DecodeError, DecodeRefusal};
 pub use decoding::decode;
-pub use faults::{EncodeError, EncodeRefusal, LineFault, Wanted};
+pub use faults::{EncodeError, EncodeRefusal, LineFault, Wanted, refusal_line};
 pub use kinds::Kind;
 pub use laws::{
     limits, lines_are_calls, numbers_are_read_back, numbers_are_spelled, values_are_of_their_bytes,

@@ -116,7 +116,7 @@ pub fn perform<
         ),
         Task::Encode => encode_command::perform(rt, inputs, writer),
         Task::Decode => decode_command::perform(rt, call.telling, inputs, writer),
-        Task::Run(command) => run_command::perform(rt, command, call.output, inputs, writer),
+        Task::Run(asked) => run_command::perform(rt, asked, call.output, inputs, writer),
         Task::Replay(spare) => replay_command::perform(rt, spare, call.telling, inputs, writer),
         Task::Schedule(config) => schedule_command::perform(
             rt,

@@ -21,6 +21,15 @@ pub struct Explaining<'a> {
     pub has_maps: bool,
 }
 
+/// What is run, and how.
+#[derive(Clone, Copy)]
+pub struct Running {
+    /// The run.
+    pub run: Run,
+    /// Whether the arguments of the script's calls are values.
+    pub has_values: bool,
+}
+
 /// What is to be done.
 #[derive(Clone, Copy)]
 pub enum Task<'a> {
@@ -37,7 +46,7 @@ pub enum Task<'a> {
     /// Write the values of a state's entries.
     Decode,
     /// Run a script.
-    Run(Run),
+    Run(Running),
     /// Replay a transcript, with so many places behind the programs.
     Replay(u32),
     /// Take a list of steps on a store of these sizes.
