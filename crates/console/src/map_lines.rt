@@ -3,7 +3,7 @@
 ghost use Rattle.std.specs.Prelude.{◌≡◌, ◌++◌, IfOk, OnOk, nat_eq, slice_get};
 ghost use Rattle.std.specs.Int.{bit_at};
 ghost use Rattle.loader.specs.Spelling.{mode_word};
-ghost use Rattle.console.specs.MapsAnswer.{AddsLineAt, AddsLineOf, AreMapsLines, IsMapsChecked, field_of, map_fields};
+ghost use Rattle.console.specs.MapsAnswer.{AddsLineAt, AddsLineOf, AreMapsLines, IsMapsChecked, field_of, map_fields, maps_line};
 ghost use Rattle.engine.specs.Reading.{texts_in};
 ghost use Rattle.engine.specs.Report.{answer_of};
 
@@ -58,17 +58,30 @@ fn mode_word(mode: Mode) -> &'static str
     }
 }
 
-// Adds a program's line.
-fn put_line(out: &mut Vec<u8>, name: &str, program: &Accepted) -> Result<(), AllocError>
-    ensures { OnOk result (AddsLineOf (record { name = name.now; checked = program.now }) out.old.items out.new.items) }
+// Adds a program's line, with the numbers of these maps.
+fn put_fields(
+    out: &mut Vec<u8>,
+    name: &str,
+    program: &Accepted,
+    maps: u16,
+) -> Result<(), AllocError>
+    ensures { OnOk result (out.new.items ≡ out.old.items ++ maps_line (record { name = name.now; checked = program.now }) maps) }
 {
     out.extend_from_slice(name.as_bytes())?;
     put_numbered(out, b" ok ", program.slots() as u64)?;
     put_numbered(out, b" ", program.instructions() as u64)?;
     out.extend_from_slice(b" ")?;
     out.extend_from_slice(mode_word(program.mode()).as_bytes())?;
-    put_maps(out, named_maps(program))?;
+    put_maps(out, maps)?;
     out.extend_from_slice(b"\n")
+}
+
+// Adds a program's line, with the numbers of the maps that it names.
+fn put_line(out: &mut Vec<u8>, name: &str, program: &Accepted) -> Result<(), AllocError>
+    ensures { OnOk result (AddsLineOf (record { name = name.now; checked = program.now }) out.old.items out.new.items) }
+{
+    put_fields(out, name, program, named_maps(program))?;
+    Ok(())
 }
 
 // Adds the line of program k.
