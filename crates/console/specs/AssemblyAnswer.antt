@@ -12,8 +12,7 @@ use Rattle.asm.specs.Assembled.{assembled}
 use Rattle.asm.specs.Refusal as assembling
 use Rattle.asm.specs.Text.{text_of}
 use Rattle.text.specs.Digits.{spaced_bytes}
-use Rattle.encoding.specs.declared.faults.EncodeRefusal.{EncodeRefusal}
-use Rattle.encoding.specs.Faults.{wanted_text}
+use Rattle.encoding.specs.Faults.{refusal_line}
 use Rattle.encoding.specs.Encoded.{encoded_text}
 use Rattle.engine.specs.declared.replies.Verdict.TheVariants as verdicts
 use Rattle.engine.specs.Reading.{TextsRead}
@@ -69,14 +68,9 @@ dis_answer slots (Some t) = option_map_or (disassembly slots) (spaced_bytes t.fi
 
 -- ---- `encode`
 
--- the first place that is wrong, and what was to stand there
-abbrev pub encode_refusal_text : EncodeRefusal → List ℕ
-encode_refusal_text e =
-    codes "line " ++ (decimal e.line ++ (codes " column " ++ (decimal e.fault.column ++ (codes ": wanted " ++ (wanted_text e.fault.wanted ++ codes "\n")))))
-
 -- the script
 abbrev pub calls_answer : List ℕ → Answer
-calls_answer calls = good_or_refused (λ script. script) encode_refusal_text (encoded_text calls)
+calls_answer calls = good_or_refused (λ script. script) refusal_line (encoded_text calls)
 
 -- what is written, and the line that goes elsewhere: that of a refused text of calls
 abbrev pub encode_parted : Option TextsRead → PartedAnswer

@@ -6,6 +6,7 @@ use Rattle.engine.specs.declared.replies.Verdict.TheVariants as verdicts
 use Rattle.engine.specs.Texts.{programs_text, refusal_text}
 use Rattle.engine.specs.Answer.{Answer, not_text}
 use Rattle.engine.specs.Reading.{TextsRead, loaded_by}
+use Rattle.console.specs.MapsAnswer.{IsMapsChecked}
 
 -- what is written where all is good, or the line of the refusal alone
 abbrev pub good_or_refused : {X E : Type 0} → (X → List ℕ) → (E → List ℕ) → Result X E → Answer
@@ -29,11 +30,18 @@ pub record IsTold (name : Option (List ℕ)) (read : Option TextsRead) (text : L
   pub manifest : IfSome read (λ t. TellsOfManifest t.files name t.manifest text)
   pub missing : IfSome read (λ t. IfSome name (λ n. has_program n t.manifest ≡ false → text ≡ no_program n))
 
--- `explain`: what `check` answers, with its verdict, and after it what is told
-pub record IsExplanation (name : Option (List ℕ)) (read : Option TextsRead) (a : Answer) : Type 0 where
+-- what `check` answers, or with maps what `check --maps` does
+abbrev pub IsChecked : Bool → Option TextsRead → Answer → Type 0
+IsChecked false read a = a ≡ check_answer read
+IsChecked true read a = IsMapsChecked read a
+
+-- `explain`: what `check` answers, with maps or without, with its verdict, and after it what is told
+pub record IsExplanation (maps : Bool) (name : Option (List ℕ)) (read : Option TextsRead) (a : Answer) : Type 0 where
+  pub checked : Answer
   pub more : List ℕ
-  pub verdict : a.verdict ≡ (check_answer read).verdict
-  pub text : a.text ≡ (check_answer read).text ++ more
+  pub check : IsChecked maps read checked
+  pub verdict : a.verdict ≡ checked.verdict
+  pub text : a.text ≡ checked.text ++ more
   pub told : IsTold name read more
 
 -- `explain --graph`: what is no text is not drawn, and `check` answers that; else its verdict is that of `check`, and the words of the drawing aren't defined

@@ -3,14 +3,14 @@
 ghost use Rattle.std.specs.Prelude.{◌≡◌, ◌≤◌, ◌++◌, IfOk, OnOk};
 ghost use Rattle.insn.specs.declared.instruction.TheConstants.{MAX_SLOTS};
 ghost use Rattle.insn.specs.Layout.{size};
-ghost use Rattle.console.specs.AssemblyAnswer.{asm_parted, calls_answer, dis_answer, encode_parted, encode_refusal_text, hex_text, program_answer, slot_column, slot_line, slots_text};
+ghost use Rattle.console.specs.AssemblyAnswer.{asm_parted, calls_answer, dis_answer, encode_parted, hex_text, program_answer, slot_column, slot_line, slots_text};
 ghost use Rattle.engine.specs.Notes.{IsQuiet};
 ghost use Rattle.engine.specs.Parted.{parted_of};
 ghost use Rattle.engine.specs.Report.{answer_of};
 
 use asm::AsmError;
-use encoding::{EncodeError, EncodeRefusal};
-use engine::texts::{put_numbered, put_pair};
+use encoding::{EncodeError, refusal_line};
+use engine::texts::put_pair;
 use engine::{Command, Gathered, Notes, Parted, Reply, Telling, Verdict, not_text};
 use explain::explain_assembly;
 use insn::{DecodeError, Insn, decode};
@@ -168,29 +168,14 @@ impl Command for Disassemble {
     }
 }
 
-// The line of a text of calls that is refused.
-fn encode_refusal_text(alloc: Global, refusal: EncodeRefusal) -> Result<Vec<u8>, AllocError>
-    ensures { IfOk result (λ v. v.items ≡ encode_refusal_text refusal) }
-{
-    let mut line = Vec::new(alloc);
-    put_numbered(&mut line, b"line ", refusal.line as u64)?;
-    put_numbered(&mut line, b" column ", refusal.fault.column as u64)?;
-    line.extend_from_slice(b": wanted ")?;
-    line.extend_from_slice(refusal.fault.wanted.text().as_bytes())?;
-    line.extend_from_slice(b"\n")?;
-    Ok(line)
-}
-
 // What is answered to a text of calls.
 fn encoded(alloc: Global, calls: &str) -> Result<Reply, AllocError>
     ensures { IfOk result (λ r. answer_of r ≡ calls_answer calls.now) }
 {
     match encoding::encode(alloc, calls) {
-        Ok(script) => Ok(Reply::good(script)),
+        Ok(script) => Ok(Reply::good(script.into_bytes())),
         Err(EncodeError::NoMemory) => Err(AllocError),
-        Err(EncodeError::Refused(refusal)) => {
-            Ok(Reply::refused(encode_refusal_text(alloc, refusal)?))
-        }
+        Err(EncodeError::Refused(refusal)) => { Ok(Reply::refused(refusal_line(alloc, refusal)?)) }
     }
 }
 

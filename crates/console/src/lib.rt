@@ -1,10 +1,14 @@
-//! The commands `check`, `explain`, `asm`, `dis` and `encode` of the program `nrbpf`, which look at texts and run nothing.
+//! The commands `check`, `explain`, `asm`, `dis`, `encode` and `decode` of the program `nrbpf`, which look at texts and run nothing.
 #![tactic(auto)]
 
 mod assembly;
+mod decoding;
 mod laws;
 mod manifests;
+mod map_lines;
 
 pub use assembly::{Assemble, Disassemble, Encode};
+pub use decoding::Decode;
 pub use laws::slots_are_columns;
 pub use manifests::{Check, Draw, Explain};
+pub use map_lines::CheckMaps;

@@ -1,10 +1,11 @@
 // The commands of a manifest: `check`, and `explain` in words or as a graph.
 
 ghost use Rattle.std.specs.Prelude.{◌≡◌, option_map, IfOk};
-ghost use Rattle.console.specs.CheckAnswer.{IsExplanation, IsGraph, IsTold, check_answer};
+ghost use Rattle.console.specs.CheckAnswer.{IsChecked, IsExplanation, IsGraph, IsTold, check_answer};
 ghost use Rattle.engine.specs.Reading.{texts_in};
 ghost use Rattle.engine.specs.Report.{answer_of};
 
+use crate::map_lines::maps_checked;
 use engine::texts::programs_text;
 use engine::{
     Command, Folder, Gathered, Loaded, Notes, ReadFault, Reply, Source, Stranger, Verdict, lent,
@@ -32,6 +33,8 @@ pub struct Explain<'a, F> {
     pub folder: &'a F,
     /// The name of the one program that is explained, where it is not all.
     pub name: Option<&'a str>,
+    /// Whether the maps that each program names are told too, as [`crate::CheckMaps`] does.
+    pub has_maps: bool,
 }
 
 /// Draws the programs that a manifest names as a graph in the language of Graphviz.
@@ -53,6 +56,17 @@ fn checked(alloc: Global, read: &Gathered) -> Result<Reply, AllocError>
     match load_texts(alloc, texts)? {
         Loaded::Catalogue(catalogue) => Ok(Reply::good(programs_text(alloc, &catalogue)?)),
         Loaded::Refused(reply) => Ok(reply),
+    }
+}
+
+// What `check` answers to what was read, with maps or without.
+fn checked_with(alloc: Global, read: &Gathered, has_maps: bool) -> Result<Reply, AllocError>
+    ensures { IfOk result (λ r. IsChecked has_maps (texts_in read.now) (answer_of r)) }
+{
+    if has_maps {
+        maps_checked(alloc, read)
+    } else {
+        checked(alloc, read)
     }
 }
 
@@ -119,10 +133,10 @@ impl<F: Folder> Explain<'_, F> {
 impl<F: Folder> Command for Explain<'_, F> {
     type Made = Reply;
 
-    ghost may_make = { λ c t r. IsExplanation (option_map (λ n. n.now) c.name) t (answer_of r) };
+    ghost may_make = { λ c t r. IsExplanation c.has_maps (option_map (λ n. n.now) c.name) t (answer_of r) };
 
     fn make(&self, alloc: Global, read: Gathered, _notes: &mut Notes) -> Result<Reply, AllocError> {
-        let Reply { mut text, verdict } = checked(alloc, &read)?;
+        let Reply { mut text, verdict } = checked_with(alloc, &read, self.has_maps)?;
         let told = self.told(alloc, &read)?;
         text.extend_from_slice(&told)?;
         Ok(Reply { text, verdict })

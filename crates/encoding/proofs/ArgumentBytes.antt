@@ -26,7 +26,7 @@ is_byte b = ltb b 256
 abbrev pub are : List ℕ → Bool
 are xs = list_all is_byte xs
 
-are_from : (xs : List ℕ) → IsBytes xs → are xs ≡ true
+pub are_from : (xs : List ℕ) → IsBytes xs → are xs ≡ true
 are_from [] h = refl
 are_from (x ∷ xs) h = and_from (is_byte x) (are xs) (lt-ltb x 256 (h 0)) (are_from xs (λ k. h (suc k)))
 
@@ -46,7 +46,7 @@ are_parts (x ∷ xs) ys p =
     let rest = are_parts xs ys parts.1 in
     (and_from (is_byte x) (are xs) parts.0 rest.0, rest.1)
 
-are_taken : (n : ℕ) (xs : List ℕ) → are xs ≡ true → (are (take n xs) ≡ true) × (are (drop n xs) ≡ true)
+pub are_taken : (n : ℕ) (xs : List ℕ) → are xs ≡ true → (are (take n xs) ≡ true) × (are (drop n xs) ≡ true)
 are_taken n xs h = are_parts (take n xs) (drop n xs) (ap are (take-append-drop n xs) ∙ h)
 
 -- ---- values
@@ -55,7 +55,7 @@ small : (i x : ℕ) → byte_at i x < 256
 small zero x = omega arith
 small (suc i) x = omega arith
 
-low_bytes : (i n x : ℕ) → are (bytes_low_first i n x) ≡ true
+pub low_bytes : (i n x : ℕ) → are (bytes_low_first i n x) ≡ true
 low_bytes i zero x = refl
 low_bytes i (suc n) x = and_from (is_byte (byte_at i x)) (are (bytes_low_first (suc i) n x)) (lt-ltb (byte_at i x) 256 (small i x)) (low_bytes (suc i) n x)
 

@@ -7,4 +7,7 @@ pub mod Calls
 pub mod ArgumentBytes
 pub mod WrittenLines
 pub mod NumberTexts
+pub mod PartValues
+pub mod DecodedValues
+pub mod DecodeSteps
 pub mod Export

@@ -1,5 +1,5 @@
 -- What a refusal says.
-use Rattle.std.specs.Prelude.{◌≡◌, ℕ, List, codes, Result, Err}
+use Rattle.std.specs.Prelude.{◌≡◌, ℕ, List, ◌++◌, codes, decimal, Result, Err}
 use Rattle.encoding.specs.declared.kinds.Kind.{Kind}
 use Rattle.encoding.specs.declared.kinds.Kind.TheVariants as kinds
 use Rattle.encoding.specs.declared.faults.Wanted.{Wanted}
@@ -33,6 +33,11 @@ wanted_text wanted.Room = codes "an argument of at most 64 bytes"
 -- at this column that was to stand
 abbrev pub fault : ℕ → Wanted → LineFault
 fault column w = record { column = column; wanted = w }
+
+-- the first place that is wrong, and what was to stand there
+abbrev pub refusal_line : EncodeRefusal → List ℕ
+refusal_line e =
+    codes "line " ++ (decimal e.line ++ (codes " column " ++ (decimal e.fault.column ++ (codes ": wanted " ++ (wanted_text e.fault.wanted ++ codes "\n")))))
 
 abbrev pub no_memory : EncodeError
 no_memory = NoMemory

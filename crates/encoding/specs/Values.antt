@@ -27,6 +27,19 @@ kind_named name =
     else if bytes_eq name (codes "hex") then Some Hex
     else None
 
+-- and its name
+abbrev pub kind_name : Kind → List ℕ
+kind_name U8 = codes "u8"
+kind_name U16 = codes "u16"
+kind_name U32 = codes "u32"
+kind_name U64 = codes "u64"
+kind_name S8 = codes "s8"
+kind_name S16 = codes "s16"
+kind_name S32 = codes "s32"
+kind_name S64 = codes "s64"
+kind_name Str = codes "str"
+kind_name Hex = codes "hex"
+
 -- ---- numbers
 
 abbrev pub are_digits : ℕ → List ℕ → Bool

@@ -1,10 +1,11 @@
 // Why a text is no list of calls.
 
-ghost use Rattle.std.specs.Prelude.{◌≡◌};
-ghost use Rattle.encoding.specs.Faults.{wanted_text};
+ghost use Rattle.std.specs.Prelude.{◌≡◌, ◌++◌, IfOk, OnOk, decimal};
+ghost use Rattle.encoding.specs.Faults.{refusal_line, wanted_text};
 
 use crate::kinds::Kind;
-use std::alloc::AllocError;
+use itoa::Buffer;
+use std::alloc::{AllocError, Global};
 use std::{error, fmt};
 use thiserror::Error;
 
@@ -64,6 +65,32 @@ pub struct EncodeRefusal {
     pub line: u32,
     /// Where in the line, and what was to stand there.
     pub fault: LineFault,
+}
+
+// Adds a text, and a number in decimal.
+fn put_numbered(out: &mut Vec<u8>, before: &[u8], n: u64) -> Result<(), AllocError>
+    ensures { OnOk result (out.new.items ≡ out.old.items ++ (before.now ++ decimal n)) }
+{
+    let mut digits = Buffer::new();
+    out.extend_from_slice(before)?;
+    out.extend_from_slice(digits.format(n).as_bytes())
+}
+
+/// The line of a text of calls that is refused: `line N column C: wanted ..`.
+///
+/// # Errors
+///
+/// The system has no memory left.
+pub fn refusal_line(alloc: Global, refusal: EncodeRefusal) -> Result<Vec<u8>, AllocError>
+    ensures line { IfOk result (λ v. v.items ≡ refusal_line refusal) }
+{
+    let mut line = Vec::new(alloc);
+    put_numbered(&mut line, b"line ", refusal.line as u64)?;
+    put_numbered(&mut line, b" column ", refusal.fault.column as u64)?;
+    line.extend_from_slice(b": wanted ")?;
+    line.extend_from_slice(refusal.fault.wanted.text().as_bytes())?;
+    line.extend_from_slice(b"\n")?;
+    Ok(line)
 }
 
 /// Why a text is not encoded.

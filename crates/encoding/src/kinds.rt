@@ -2,7 +2,7 @@
 
 ghost use Rattle.std.specs.Prelude.{◌≡◌};
 ghost use Rattle.encoding.specs.Faults.{kind_text};
-ghost use Rattle.encoding.specs.Values.{kind_named};
+ghost use Rattle.encoding.specs.Values.{kind_name, kind_named};
 
 /// What a value is written as.
 #[derive(Clone, Copy, PartialEq, Eq, Debug)]
@@ -45,6 +45,24 @@ impl Kind {
             Kind::S64 => "a number from -9223372036854775808 to 9223372036854775807",
             Kind::Str => "a text between quotation marks",
             Kind::Hex => "pairs of hexadecimal digits",
+        }
+    }
+
+    // The name of this kind.
+    pub(crate) fn name(self) -> &'static str
+        ensures { result.now ≡ kind_name self }
+    {
+        match self {
+            Kind::U8 => "u8",
+            Kind::U16 => "u16",
+            Kind::U32 => "u32",
+            Kind::U64 => "u64",
+            Kind::S8 => "s8",
+            Kind::S16 => "s16",
+            Kind::S32 => "s32",
+            Kind::S64 => "s64",
+            Kind::Str => "str",
+            Kind::Hex => "hex",
         }
     }
 }

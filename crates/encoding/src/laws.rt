@@ -4,6 +4,7 @@ ghost use Rattle.std.specs.Prelude.{◌≡◌, ◌<◌, ◌^◌, ◌*◌, ℕ, �
 ghost use Rattle.byteorder.specs.Endian.{little_number, twos_complement};
 ghost use Rattle.encoding.specs.declared.arguments.TheConstants.{ARGUMENT_BYTES};
 ghost use Rattle.encoding.specs.Calls.{CallsAreWritten, LinesAreWritten, NumbersAreSpelled, SignedAreReadBack, SignedHaveBytes, UnsignedAreReadBack, UnsignedHaveBytes};
+ghost use Rattle.encoding.specs.DecodeLaws.{ValuesAreEncoded, ValuesAreOfTheirBytes};
 ghost use Rattle.encoding.specs.Laws.{IsSize, IsSignedOf};
 ghost use Rattle.encoding.specs.Values.{number_bytes};
 
@@ -38,4 +39,11 @@ pub fn values_are_read_back()
     ensures signed { SignedAreReadBack }
     ensures each_unsigned { UnsignedHaveBytes }
     ensures each_signed { SignedHaveBytes }
+{}
+
+/// The values that `decode` writes of an entry spell the bytes of its key and its value, one behind the other; and `encode` makes these
+/// bytes of them again, as far as an argument has room.
+pub fn values_are_of_their_bytes()
+    ensures spelled { ValuesAreOfTheirBytes }
+    ensures encoded { ValuesAreEncoded }
 {}

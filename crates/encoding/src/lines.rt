@@ -1,6 +1,6 @@
 // Texts of calls into scripts.
 
-ghost use Rattle.std.specs.Prelude.{◌≡◌, ◌≤◌, ◌++◌, [], length, codes, Ok, OnOk, MatchResult};
+ghost use Rattle.std.specs.Prelude.{◌≡◌, ◌≤◌, ◌++◌, [], length, codes, Ok, OnOk, MatchResult, string_bytes};
 ghost use Rattle.encoding.specs.declared.faults.Wanted.TheVariants as wanted;
 ghost use Rattle.encoding.specs.Faults.{fault, Fails};
 ghost use Rattle.encoding.specs.Words.{words_of};
@@ -90,44 +90,44 @@ fn read_line(line: &str) -> Result<Line<'_>, LineFault>
 }
 
 // Adds the digits of an argument.
-fn put_digits(alloc: Global, out: &mut Vec<u8>, argument: &[u8]) -> Result<(), AllocError>
-    ensures { OnOk result (out.new.items ≡ out.old.items ++ digits_of argument.now) }
+fn put_digits(alloc: Global, out: &mut String, argument: &[u8]) -> Result<(), AllocError>
+    ensures { OnOk result (string_bytes out.new ≡ string_bytes out.old ++ digits_of argument.now) }
 {
     if argument.is_empty() {
-        return out.extend_from_slice(b"-");
+        return out.push_str("-");
     }
     let digits = hex::encode(alloc, argument)?;
-    out.extend_from_slice(digits.as_bytes())
+    out.push_str(digits.as_str())
 }
 
 // Adds the line of a call.
-fn put_call(alloc: Global, out: &mut Vec<u8>, call: &Call<'_>) -> Result<(), AllocError>
-    ensures { OnOk result (out.new.items ≡ out.old.items ++ call_text call.now) }
+fn put_call(alloc: Global, out: &mut String, call: &Call<'_>) -> Result<(), AllocError>
+    ensures { OnOk result (string_bytes out.new ≡ string_bytes out.old ++ call_text call.now) }
 {
-    out.extend_from_slice(call.name.as_bytes())?;
-    out.extend_from_slice(b" ")?;
+    out.push_str(call.name)?;
+    out.push_str(" ")?;
     put_digits(alloc, out, call.argument.as_slice())
 }
 
 // Adds the script's line for one that says this.
-fn put_line(alloc: Global, out: &mut Vec<u8>, text: &str, line: &Line<'_>) -> Result<(), AllocError>
-    ensures { OnOk result (out.new.items ≡ out.old.items ++ (line_text text.now line.now ++ codes "\n")) }
+fn put_line(alloc: Global, out: &mut String, text: &str, line: &Line<'_>) -> Result<(), AllocError>
+    ensures { OnOk result (string_bytes out.new ≡ string_bytes out.old ++ (line_text text.now line.now ++ codes "\n")) }
 {
     match line {
-        Line::Silent => out.extend_from_slice(text.as_bytes())?,
+        Line::Silent => out.push_str(text)?,
         Line::Call(call) => put_call(alloc, out, call)?,
     }
-    out.extend_from_slice(b"\n")
+    out.push_str("\n")
 }
 
 /// The script that a text of calls says, or the first place that is wrong. Memory may run out.
 ///
 /// A line is the name of a program and the values of its argument, each behind one space: a kind, a colon, and a number, a text
 /// between quotation marks or hexadecimal digits. Line N of the script is the call of line N; an empty line and a comment stay.
-pub fn encode(alloc: Global, text: &str) -> Result<Vec<u8>, EncodeError>
-    ensures encoded { MatchResult result (λ v. encoded_text text.now ≡ Ok v.items) (λ e. Fails e (encoded_text text.now)) }
+pub fn encode(alloc: Global, text: &str) -> Result<String, EncodeError>
+    ensures encoded { MatchResult result (λ v. encoded_text text.now ≡ Ok (string_bytes v)) (λ e. Fails e (encoded_text text.now)) }
 {
-    let mut out = Vec::new(alloc);
+    let mut out = String::new(alloc);
     let mut lines = NumberedLines::new(text);
     while let Some((line, text)) = lines.take_line() {
         match read_line(text) {

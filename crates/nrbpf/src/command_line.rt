@@ -3,7 +3,7 @@
 use crate::commands::add_all;
 use crate::help;
 use crate::tasks::{Call, named_call};
-use clap::{Command, Error};
+use clap::{Command, Error, arg};
 use std::alloc::{AllocError, Global};
 
 // The command line of the program.
@@ -13,7 +13,10 @@ fn program<'a>(alloc: Global) -> Result<Command<'a>, AllocError> {
         .after_help(help::PROGRAM)
         .version(help::VERSION)
         .subcommand_required(true)
-        .arg_required_else_help(true);
+        .arg_required_else_help(true)
+        .arg(
+            arg!(in alloc; folder: -C <FOLDER> "The folder in which the command works: it names files from there"),
+        )?;
     add_all(alloc, program)
 }
 

@@ -2,6 +2,7 @@
 
 mod asm_command;
 mod check_command;
+mod decode_command;
 mod dis_command;
 mod encode_command;
 mod explain_command;
@@ -29,6 +30,7 @@ enum Name {
     Asm,
     Dis,
     Encode,
+    Decode,
     Run,
     Serve,
     Replay,
@@ -36,12 +38,13 @@ enum Name {
     Stress,
 }
 
-const NAMES: [Name; 10] = [
+const NAMES: [Name; 11] = [
     Name::Check,
     Name::Explain,
     Name::Asm,
     Name::Dis,
     Name::Encode,
+    Name::Decode,
     Name::Run,
     Name::Serve,
     Name::Replay,
@@ -57,6 +60,7 @@ fn arguments_of<'a>(alloc: Global, name: Name) -> Result<Command<'a>, AllocError
         Name::Asm => asm_command::arguments(alloc),
         Name::Dis => dis_command::arguments(alloc),
         Name::Encode => encode_command::arguments(alloc),
+        Name::Decode => decode_command::arguments(alloc),
         Name::Run => run_command::arguments(alloc),
         Name::Serve => serve_command::arguments(alloc),
         Name::Replay => replay_command::arguments(alloc),
@@ -82,6 +86,7 @@ pub fn task_of<'a>(name: &str, matches: &ArgMatches<'a>) -> Option<Task<'a>> {
         "asm" => asm_command::task(matches),
         "dis" => dis_command::task(matches),
         "encode" => encode_command::task(matches),
+        "decode" => decode_command::task(matches),
         "run" => run_command::task(matches),
         "serve" => serve_command::task(matches),
         "replay" => replay_command::task(matches),
@@ -99,7 +104,7 @@ pub fn perform<
     W: Write,
 >(rt: &R, call: &Call<'_>, inputs: &mut Inputs<'_, F, I>, writer: &mut W) -> Status {
     match call.task {
-        Task::Check => check_command::perform(rt, call.telling, inputs, writer),
+        Task::Check(has_maps) => check_command::perform(rt, has_maps, call.telling, inputs, writer),
         Task::Explain(asked) => explain_command::perform(rt, asked, call.telling, inputs, writer),
         Task::Assemble => asm_command::perform(rt, call, inputs, writer),
         Task::Disassemble(command) => dis_command::perform(
@@ -110,7 +115,8 @@ pub fn perform<
             writer,
         ),
         Task::Encode => encode_command::perform(rt, inputs, writer),
-        Task::Run(command) => run_command::perform(rt, command, call.output, inputs, writer),
+        Task::Decode => decode_command::perform(rt, call.telling, inputs, writer),
+        Task::Run(asked) => run_command::perform(rt, asked, call.output, inputs, writer),
         Task::Replay(spare) => replay_command::perform(rt, spare, call.telling, inputs, writer),
         Task::Schedule(config) => schedule_command::perform(
             rt,

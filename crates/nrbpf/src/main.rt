@@ -10,9 +10,10 @@ mod output;
 mod tasks;
 
 use commands::perform;
-use disk::{Disk, LateFile};
+use disk::{Disk, LateFile, say};
 use engine::{Inputs, Status};
 use output::Output;
+use std::env::{self, Env};
 use std::io::{self, Eprint, Input, Print};
 use std::process::ExitCode;
 use std::rt::{Clock, Files};
@@ -48,11 +49,26 @@ fn answer<R: Files + Input + Print + Eprint + AllocGlobal + Threads + Wait + Clo
     status
 }
 
+// Goes to the folder in which a call works, and tells whether it is there. What is wrong is said on standard error.
+fn enter<R: Env + Eprint>(rt: &R, call: &Call) -> bool {
+    let Some(folder) = call.folder else {
+        return true;
+    };
+    match env::set_current_dir(rt, folder) {
+        Ok(()) => true,
+        Err(error) => {
+            say(rt, folder, &error);
+            let _ = eprintln!(rt; "cannot read");
+            false
+        }
+    }
+}
+
 // A fault of the command line.
 const FAULT: u8 = 2;
 
 fn main(rt: HostRuntime) -> ExitCode {
-    let words: Vec<String> = match std::env::args(&rt) {
+    let words: Vec<String> = match env::args(&rt) {
         Ok(args) => match args.collect(rt.alloc()) {
             Ok(words) => words,
             Err(_) => return ExitCode::from(FAULT),
@@ -64,6 +80,7 @@ fn main(rt: HostRuntime) -> ExitCode {
             let _ = eprintln!(rt; "error: standard input can be one file only");
             ExitCode::from(FAULT)
         }
+        Ok(Some(call)) if !enter(&rt, &call) => ExitCode::from(Status::CannotRead.code()),
         Ok(Some(call)) => ExitCode::from(answer(&rt, &call).code()),
         Ok(None) => ExitCode::from(FAULT),
         Err(error) => {

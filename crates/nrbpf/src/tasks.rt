@@ -17,13 +17,24 @@ pub struct Explaining<'a> {
     pub name: Option<&'a str>,
     /// Whether they are drawn.
     pub is_graph: bool,
+    /// Whether the maps that each names are told.
+    pub has_maps: bool,
+}
+
+/// What is run, and how.
+#[derive(Clone, Copy)]
+pub struct Running {
+    /// The run.
+    pub run: Run,
+    /// Whether the arguments of the script's calls are values.
+    pub has_values: bool,
 }
 
 /// What is to be done.
 #[derive(Clone, Copy)]
 pub enum Task<'a> {
-    /// Check a manifest.
-    Check,
+    /// Check a manifest, and tell the maps that each program names or not.
+    Check(bool),
     /// Explain the programs of a manifest, or draw them.
     Explain(Explaining<'a>),
     /// Assemble a text.
@@ -32,8 +43,10 @@ pub enum Task<'a> {
     Disassemble(Disassemble),
     /// Write the script of a text of calls.
     Encode,
+    /// Write the values of a state's entries.
+    Decode,
     /// Run a script.
-    Run(Run),
+    Run(Running),
     /// Replay a transcript, with so many places behind the programs.
     Replay(u32),
     /// Take a list of steps on a store of these sizes.
@@ -51,6 +64,8 @@ pub struct Call<'a> {
     pub task: Task<'a>,
     /// What is told of it on standard error beside its answer.
     pub telling: Telling,
+    /// The folder in which it works, where that is not the caller's.
+    pub folder: Option<&'a str>,
     /// How large the maps of the manifest may be.
     pub sizes: MapSizes,
     /// Whether it is said there how many calls there were, and how long they took.
@@ -119,6 +134,7 @@ pub fn named_call<'a>(matches: &ArgMatches<'a>) -> Option<Call<'a>> {
     Some(Call {
         task: task_of(name, inner)?,
         telling: telling_of(inner),
+        folder: matches.get_str("folder"),
         sizes: sizes_of(inner),
         has_stats: inner.get_flag("stats"),
         manifest: inner.get_str("MANIFEST"),

@@ -2,6 +2,8 @@
 pub mod RunAnswer
 pub mod Signed
 pub mod KeptRun
+-- A run of calls with values.
+pub mod CalledRun
 -- Laws: each line that a run writes for a call is a run of its program.
 pub mod RunLines
 -- Laws: where it doesn't matter how many updates a history may have.

@@ -1,6 +1,7 @@
 //! The command `run` of the program `nrbpf`: a script on one replica, on a new state or on one that is loaded.
 #![tactic(auto)]
 
+mod called_runs;
 mod calls;
 mod dumped_runs;
 mod laws;
@@ -10,6 +11,7 @@ mod runs;
 mod signed_texts;
 mod single_node;
 
+pub use called_runs::CalledRun;
 pub use calls::{checked_call, take_line};
 pub use dumped_runs::DumpedRun;
 pub use laws::{limit_is_unfelt, limits, replies_are_told, run_lines_are_runs, runs_may_be_cut};

@@ -4,7 +4,7 @@ use crate::commands::options;
 use crate::keeping::act;
 use crate::tasks::Task;
 use clap::{ArgMatches, Command};
-use console::Check;
+use console::{Check, CheckMaps};
 use engine::{Folder, Inputs, Status, Telling};
 use std::alloc::{AllocError, Global};
 use std::io::{Eprint, Read, Write};
@@ -30,6 +30,10 @@ All maps have at most 16777216 bytes. With --large ENTRIES is 1 to 2147483648, a
 Maps stand before programs. A program file holds hexadecimal digits; white space in it is skipped. For the
 manifest above, with `b7000000050000009500000000000000` in five.hex, `check` writes `five ok 2 2`.
 
+With --maps a program's line goes on with its mode and the numbers of the maps that it names, from 0, rising, each
+behind a space: `bump ok 12 11 update 0`. One of mode update may change these, one of mode read changes none, and no
+other map matters to either.
+
 Refusals:
     line N: C1          no line of a manifest, or its file cannot be opened, or its name was used before
     line N: C2          the program file is not pairs of hexadecimal digits
@@ -47,20 +51,25 @@ pub fn arguments<'a>(alloc: Global) -> Result<Command<'a>, AllocError> {
         .about("Checks the programs of a manifest")
         .after_help(HELP)
         .arg(options::large(alloc))?
+        .arg(options::maps(alloc))?
         .arg(options::manifest(alloc))
 }
 
 /// What its words ask for.
-pub fn task<'a>(_matches: &ArgMatches<'a>) -> Option<Task<'a>> {
-    Some(Task::Check)
+pub fn task<'a>(matches: &ArgMatches<'a>) -> Option<Task<'a>> {
+    Some(Task::Check(matches.get_flag("maps")))
 }
 
-/// Checks a manifest.
+/// Checks a manifest, with the maps that each program names or without.
 pub fn perform<R: AllocGlobal + Eprint, F: Folder, I: Read + Drop, W: Write>(
     rt: &R,
+    has_maps: bool,
     telling: Telling,
     inputs: &mut Inputs<'_, F, I>,
     writer: &mut W,
 ) -> Status {
+    if has_maps {
+        return act(rt, &CheckMaps, telling, inputs, writer);
+    }
     act(rt, &Check, telling, inputs, writer)
 }

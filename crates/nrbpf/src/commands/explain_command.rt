@@ -34,6 +34,8 @@ of map 0` is one to a value, and `value of map 0, or null` the answer of a looku
 With `--graph` it draws the programs instead, refused ones too, as Graphviz reads it (`dot -Tsvg`): a box for the
 instructions that run from the first to the last, and an arrow for each way on, with `jump` at those that jump.
 
+With `--maps` it begins with what `nrbpf check --maps` writes. A graph stays as it is.
+
 Exit statuses: as those of `check`: 0 all is well, 2 wrong words on the command line, 3 refused, 4 `no memory`,
 5 `cannot read` or `cannot write` (on standard error).";
 
@@ -43,6 +45,7 @@ pub fn arguments<'a>(alloc: Global) -> Result<Command<'a>, AllocError> {
         .about("Says what is known of a manifest's programs, and what to do about refusals")
         .after_help(HELP)
         .arg(arg!(in alloc; --graph "Writes the programs as a graph for Graphviz instead"))?
+        .arg(options::maps(alloc))?
         .arg(options::manifest(alloc))?
         .arg(arg!(in alloc; [NAME] "The name of a program; all, where it is left out"))
 }
@@ -50,7 +53,12 @@ pub fn arguments<'a>(alloc: Global) -> Result<Command<'a>, AllocError> {
 /// What its words ask for.
 pub fn task<'a>(matches: &ArgMatches<'a>) -> Option<Task<'a>> {
     let (name, is_graph) = (matches.get_str("NAME"), matches.get_flag("graph"));
-    Some(Task::Explain(Explaining { name, is_graph }))
+    let has_maps = matches.get_flag("maps");
+    Some(Task::Explain(Explaining {
+        name,
+        is_graph,
+        has_maps,
+    }))
 }
 
 /// Explains the programs of a manifest, or the one of a name; or draws them.
@@ -61,10 +69,19 @@ pub fn perform<R: AllocGlobal + Eprint, F: Folder, I: Read + Drop, W: Write>(
     inputs: &mut Inputs<'_, F, I>,
     writer: &mut W,
 ) -> Status {
-    let Explaining { name, is_graph } = asked;
+    let Explaining {
+        name,
+        is_graph,
+        has_maps,
+    } = asked;
     let folder = inputs.folder;
     if is_graph {
         return act(rt, &Draw { name }, telling, inputs, writer);
     }
-    act(rt, &Explain { folder, name }, telling, inputs, writer)
+    let explain = Explain {
+        folder,
+        name,
+        has_maps,
+    };
+    act(rt, &explain, telling, inputs, writer)
 }

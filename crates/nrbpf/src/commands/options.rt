@@ -47,6 +47,11 @@ pub fn large<'a>(alloc: Global) -> Arg<'a> {
     arg!(in alloc; --large "Takes maps of up to 2147483648 entries, and of 2^40 bytes together")
 }
 
+/// Whether the maps that a program names are told.
+pub fn maps<'a>(alloc: Global) -> Arg<'a> {
+    arg!(in alloc; --maps "Writes the mode of each program, and the maps that it names")
+}
+
 /// The manifest.
 pub fn manifest<'a>(alloc: Global) -> Arg<'a> {
     arg!(in alloc; <MANIFEST> "The path of the manifest")

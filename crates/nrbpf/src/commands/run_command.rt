@@ -3,10 +3,10 @@
 use crate::commands::options;
 use crate::keeping::{destination_of, elsewhere};
 use crate::output::{Target, no_memory, put_after};
-use crate::tasks::Task;
+use crate::tasks::{Running, Task};
 use clap::{ArgMatches, Command, arg};
 use engine::{Folder, Inputs, Notes, Performed, Sink, Source, Status, perform_kept};
-use running::{DumpedRun, Run};
+use running::{CalledRun, DumpedRun, Run};
 use std::alloc::{AllocError, Global};
 use std::io::Eprint;
 use std::rt::Files;
@@ -48,6 +48,9 @@ writes `update 0 reply 1 steps 9` and `read 1 reply 1 steps 6`.
 Replies have no sign: -1 is 18446744073709551615. With `--signed` a line whose reply is 2^63 or more ends with that
 reply as a signed number: `update 2 reply 18446744073709551615 steps 7 = -1`. All else stays as it is.
 
+With `--calls` the script has calls with values (`nrbpf encode --help`), as `raise u32:3 u64:10`, and is run as the
+script that `encode` writes for it. Where it is refused nothing is run: `line N column C: wanted ..` is written.
+
 With `--load FILE` the store begins with the state of FILE in the place of a new one, and with `--dump FILE` the state
 that the script leaves is put into FILE, where no line was bad. A state is a line for each entry of a map, and then one
 for each program that was installed, in a fixed order:
@@ -74,6 +77,7 @@ pub fn arguments<'a>(alloc: Global) -> Result<Command<'a>, AllocError> {
         .arg(options::large(alloc))?
         .arg(options::load(alloc))?
         .arg(options::dump(alloc))?
+        .arg(arg!(in alloc; --calls "Takes calls with values, as `nrbpf encode` does"))?
         .arg(arg!(in alloc; --signed "Writes negative replies as signed numbers beside"))?
         .arg(options::manifest(alloc))?
         .arg(options::script(alloc))
@@ -81,14 +85,17 @@ pub fn arguments<'a>(alloc: Global) -> Result<Command<'a>, AllocError> {
 
 /// What its words ask for.
 pub fn task<'a>(matches: &ArgMatches<'a>) -> Option<Task<'a>> {
-    let is_signed = matches.get_flag("signed");
-    Some(Task::Run(Run { is_signed }))
+    let run = Run {
+        is_signed: matches.get_flag("signed"),
+    };
+    let has_values = matches.get_flag("calls");
+    Some(Task::Run(Running { run, has_values }))
 }
 
 /// Runs a script, and puts the state that it leaves into the file of a path, where no line was bad and all was written.
 pub fn perform<R: Files + AllocGlobal + Eprint, F: Folder, I: Source + Drop, W: Sink>(
     rt: &R,
-    run: Run,
+    asked: Running,
     dump: Option<&str>,
     inputs: &mut Inputs<'_, F, I>,
     writer: &mut W,
@@ -96,11 +103,15 @@ pub fn perform<R: Files + AllocGlobal + Eprint, F: Folder, I: Source + Drop, W: 
     let Ok(target) = Target::of(rt.alloc(), dump) else {
         return no_memory(writer);
     };
-    let command = DumpedRun {
-        run,
+    let run = DumpedRun {
+        run: asked.run,
         dump: destination_of(dump),
     };
     let mut notes = Notes::none(rt.alloc());
-    let Performed { status, made } = perform_kept(rt.alloc(), &command, inputs, &mut notes, writer);
+    let Performed { status, made } = if asked.has_values {
+        perform_kept(rt.alloc(), &CalledRun { run }, inputs, &mut notes, writer)
+    } else {
+        perform_kept(rt.alloc(), &run, inputs, &mut notes, writer)
+    };
     put_after(rt, status, &target, elsewhere(made), writer)
 }
