@@ -220,7 +220,7 @@ fn put_line(out: &mut Vec<u8>, layouts: &[MapLayout], line: &str) -> Result<bool
 
 // What becomes of the lines of a state, or the first line that is wrong.
 fn decoded(alloc: Global, layouts: &[MapLayout], state: &str) -> Result<Vec<u8>, DecodeError>
-    ensures { MatchResult result (λ v. decoded_from (shown_layouts layouts.now) 1 (lines_of state.now) ≡ Ok v.items) (λ e. Fails e (decoded_from (shown_layouts layouts.now) 1 (lines_of state.now))) }
+    ensures { let lines = decoded_from (shown_layouts layouts.now) 1 (lines_of state.now) in MatchResult result (λ v. lines ≡ Ok v.items) (λ e. Fails e lines) }
 {
     let mut out = Vec::new(alloc);
     let mut lines = NumberedLines::new(state);
