@@ -42,17 +42,18 @@ S = StoreSeat
 own_on : (store : StoreView) (old new : SessionView) → Extends old.progress new.progress → new.shelf ≡ old.shelf → IsOf store old → IsOf store new
 own_on store old new grown same own = record { shelf = same ∙ own.shelf; config = sym grown.config ∙ own.config; catalogue = sym grown.catalogue ∙ own.catalogue }
 
--- who is told nothing goes on as it was
+-- a session that is as it was goes on
 pub goes_still : (store : StoreView) (old new : SessionView) → new ≡ old → IsOf store old → IsWellFormed store_meaning old.progress → SessionGoesOn store old new
 goes_still store old new same own well =
     subst (SessionGoesOn store old) (sym same) (record { own = own; same = (refl, refl); grown = store_laws.extends_self old.progress; well_formed = well })
 
--- so does who has learned, as its user saw it before
+-- so does one that has learned; its user saw it as `was`
 pub goes_on : (store : StoreView) (old was new : SessionView) → old ≡ was → IsOf store was → new.shelf ≡ old.shelf → new.session ≡ old.session → Extends old.progress new.progress → IsWellFormed store_meaning new.progress
     → SessionGoesOn store was new
 goes_on store old was new seen own shelf session grown well =
     subst (λ z. SessionGoesOn store z new) seen (record { own = own_on store old new grown shelf (subst (IsOf store) (sym seen) own); same = (shelf, session); grown = grown; well_formed = well })
 
+-- after two calls, too
 pub goes_then : (store : StoreView) (old mid new : SessionView) → SessionGoesOn store old mid → SessionGoesOn store mid new → SessionGoesOn store old new
 goes_then store old mid new a b = record {
   own = b.own;

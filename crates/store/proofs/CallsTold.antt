@@ -17,17 +17,16 @@ use Rattle.accounts.specs.declared.sessions.SessionNote.{SessionNote}
 use Rattle.accounts.specs.Moves.{answered_with}
 use Rattle.store_steps.specs.Standing.{SessionKnown, StoreSeat}
 use Rattle.store_steps.specs.declared.steps.Caller.{Caller}
-use Rattle.store_steps.specs.declared.deeds.Stage.{Stage}
 use Rattle.store_steps.specs.declared.deeds.Stage.TheVariants.{Asked, Claimed, Idle, Ready}
 use Rattle.store_steps.specs.Stages.{IsAsking}
-use Rattle.store_steps.specs.Updating.{Answers, Begins, ClaimsIt, CollectsBy, Combines, DeedBy, Deeds, Gives, Looks, PostsBy, Rests as NoDeed, Rounds, Then, Tries, UpdatesBy, Waits}
+use Rattle.store_steps.specs.Updating.{Answers, Begins, ClaimsIt, Combines, DeedBy, Deeds, Gives, Looks, PostsBy, Rests as NoDeed, Rounds, Then, Tries, UpdatesBy, Waits}
 use Rattle.store_steps.specs.Views.{SessionView, first_in, op_of, session_view}
 use Rattle.store.specs.CallsTold.{Asks, ClosesTold, GoesOn, IsToldRead, IsUnderWay, PolledRest, PolledUpdatesAreTold, Posts, ReadsAreTold, Rests, SessionsRest, TriedReadsAreTold, UpdatesAreTold}
 use Rattle.store.specs.Going.{ReadGoes}
 use Rattle.store.specs.Opening.{setup_of}
 use Rattle.store.specs.Sessions.{IsOf, StoreView, TellsRead, TellsUpdate, known_of, said}
 use Rattle.store.specs.declared.answers.Answer.{Answer}
-use Rattle.store_laws.specs.CallsMade.{PollsBy, WasUpdate, noted_with}
+use Rattle.store_laws.specs.CallsMade.{PollsBy, noted_with}
 use Rattle.store_laws.proofs.Export.{calls_are_explained}
 
 pub sessions_rest : SessionsRest

@@ -1,5 +1,5 @@
 -- What may be installed within some maps may be installed.
-use Rattle.std.proofs.Common.{◌≡◌, ℕ, Bool, true, false, cond, List, Option, Some, None, refl}
+use Rattle.std.proofs.Common.{◌≡◌, ℕ, Bool, true, false, cond, List, Some, None, refl}
 use Rattle.std.specs.Prelude.{◌&&◌, nat_le, length, Result, Ok, Err}
 use Rattle.maps.specs.declared.shapes.Shape.{Shape}
 use Rattle.maps.specs.declared.shapes.TheConstants.{MAX_ARG_LEN}

@@ -40,8 +40,8 @@ pub record IsOf (store : StoreView) (s : SessionView) : Type 0 where
   pub config : s.progress.config ≡ store.config
   pub catalogue : s.progress.catalogue ≡ store.catalogue
 
--- a session before and after a call: it is of this store, and the same session as before; it knows all that it knew of the history, and knows no
--- history that the store may not have
+-- the session before and after a call is the same one, and of this store still; what it knew of the history stays, and what it knows now is a
+-- history that the store may have
 pub record SessionGoesOn (store : StoreView) (old new : SessionView) : Type 0 where
   pub own : IsOf store new
   pub same : (new.shelf ≡ old.shelf) × (new.session ≡ old.session)

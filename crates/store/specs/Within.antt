@@ -1,10 +1,9 @@
 -- The install of a program that may name some of the store's maps alone: when it is refused.
-use Rattle.std.specs.Prelude.{ℕ, ◌&&◌, nat_le, if◌then◌else◌, length, List, Option, Some, None, Result, Ok, Err, option_map}
+use Rattle.std.specs.Prelude.{ℕ, ◌&&◌, nat_le, if◌then◌else◌, length, List, Option, Some, Result, Ok, Err, option_map}
 use Rattle.insn.specs.declared.instruction.Form.{Form}
 use Rattle.maps.specs.declared.shapes.Shape.{Shape}
 use Rattle.maps.specs.declared.shapes.TheConstants.{MAX_ARG_LEN}
 use Rattle.verifier.specs.Accepted.{Checked}
-use Rattle.verifier.specs.declared.refusal.Refused.{Refused}
 use Rattle.verifier.specs.declared.refusal.VerifyFault.TheVariants.{UnknownHelperOrMap}
 use Rattle.named_maps.specs.Naming.{first_outside}
 use Rattle.loader.specs.Installed.{installed_program}
