@@ -1,13 +1,13 @@
 // What a command reads: a manifest and the files that it names, the file that it is about, a state and a history.
 
-ghost use Rattle.std.specs.Prelude.{◌≡◌, ℕ, List, Option, None, Some, IfOk, IfErr, IfSome, IsSomeAnd, MatchOption, MatchResult, string_bytes};
+ghost use Rattle.std.specs.Prelude.{◌≡◌, ℕ, List, Option, None, Some, IfOk, IfErr, IfSome, IsSomeAnd, MatchOption, MatchResult, is_some, string_bytes};
 ghost use Rattle.maps.specs.Shapes.{AreLimits};
 ghost use Rattle.loader.specs.NamedFiles.{named_in};
 ghost use Rattle.loader.specs.ProgramFiles.{files_of};
 ghost use Rattle.engine.specs.declared.reading.Unread.TheVariants as faults;
 ghost use Rattle.engine.specs.Files.{Contents};
 ghost use Rattle.engine.specs.ReadFaults.{IfCannotRead};
-ghost use Rattle.engine.specs.Reading.{FailedInTurn, FileFailedOr, IfGiven, first_stranger, given_text, limits_of, named_texts, read, strange_text, texts_in};
+ghost use Rattle.engine.specs.Reading.{FailedInTurn, FileFailedOr, GoesBy, IfGiven, NothingAfter, first_stranger, given_text, limits_of, named_texts, read, strange_text, texts_in};
 ghost use Rattle.engine.specs.Unread.{AreRead, FailsAs, FoundAs, Gathered, IfUnread, IsStrangeFile, TextIs};
 
 use crate::transfer::{ReadFault, Source};
@@ -155,7 +155,8 @@ fn strange(
     named_by: Option<&str>,
     bytes: Vec<u8>,
 ) -> Result<Stranger, AllocError>
-    ensures { IfOk result (λ s. strange_text s ≡ (name.now, bytes.items)) }
+    ensures text { IfOk result (λ s. strange_text s ≡ (name.now, bytes.items)) }
+    ensures alone { IfOk result (λ s. is_some s.manifest ≡ is_some named_by.entry) }
 {
     let name = copied(alloc, name)?;
     let manifest = match named_by {
@@ -177,6 +178,7 @@ fn read_text<R: Source>(
     reader: &mut R,
 ) -> Result<String, Unread>
     ensures text { IfSome (R.remaining reader.old) (TextIs name.now result) }
+    ensures named { IfErr result (λ e. FailsAs e (λ s. (string_bytes s.name ≡ name.now) × (is_some s.manifest ≡ is_some named_by.entry))) }
     ensures failed { IfUnread result (R.has_failed reader.new) }
     ensures could { IfUnread result (R.can_fail reader.old) }
 {
@@ -202,6 +204,7 @@ fn read_given<R: Source>(
     reader: &mut Option<R>,
 ) -> Result<String, Unread>
     ensures text { IfSome (given_text R.remaining reader.old) (TextIs name.now result) }
+    ensures named { IfErr result (λ e. FailsAs e (GoesBy name.now)) }
     ensures failed { IfUnread result (IsSomeAnd reader.new R.has_failed) }
 {
     match reader {
@@ -255,6 +258,7 @@ fn gather_texts<F: Folder, R: Source + Drop>(
     inputs: &mut Inputs<'_, F, R>,
 ) -> Result<Texts, Unread>
     ensures read { IfGiven F.holds R.remaining inputs.old (AreRead result) }
+    ensures unread { IfErr result (λ e. FailsAs e (NothingAfter inputs.old inputs.new)) }
     ensures failed { IfUnread result (FailedInTurn F.holds F.can_fail R.remaining R.has_failed inputs.old inputs.new) }
 {
     let manifest = read_given(alloc, "the manifest", &mut inputs.manifest)?;
@@ -273,8 +277,8 @@ fn gather_texts<F: Folder, R: Source + Drop>(
 }
 
 /// Reads all texts of a command, one after another and each whole: the manifest, the files that it names, the file that
-/// the command is about, the state and the history. Where one of them is not UTF-8, nothing is read behind it, and what
-/// it is is given back.
+/// the command is about, the state and the history. Where one of them is not UTF-8, nothing is read after it, and it is
+/// given back.
 ///
 /// # Errors
 ///
@@ -287,6 +291,8 @@ pub fn gather<F: Folder, R: Source + Drop>(
     ensures read { IfGiven F.holds R.remaining inputs.old (λ g. IfOk result (λ r. texts_in r ≡ read g)) }
     // What is not UTF-8 is the first in the order of reading.
     ensures first { IfGiven F.holds R.remaining inputs.old (λ g. IfOk result (λ r. IfErr r (λ s. first_stranger g ≡ Some (strange_text s)))) }
+    // The readers of texts after it are as they were.
+    ensures unread { IfOk result (λ r. IfErr r (NothingAfter inputs.old inputs.new)) }
     // The result says that a read failed only after one did, and all texts before that one are UTF-8.
     ensures failed { IfCannotRead result (FailedInTurn F.holds F.can_fail R.remaining R.has_failed inputs.old inputs.new) }
 {
