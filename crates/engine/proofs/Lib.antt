@@ -9,4 +9,5 @@ pub mod Gatherings
 pub mod Reports
 pub mod Openings
 pub mod InTurn
+pub mod AfterStrangers
 pub mod Export

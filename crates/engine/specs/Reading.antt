@@ -1,5 +1,5 @@
 -- What a command reads, and what it has read then.
-use Rattle.std.specs.Prelude.{◌≡◌, ◌⊎◌, ℕ, not, true, List, [], ◌∷◌, ◌++◌, map, codes, Option, Some, None, is_some, Result, Ok, Err, IfSome, IsSomeAnd, string_bytes, if◌then◌else◌}
+use Rattle.std.specs.Prelude.{◌≡◌, ◌⊎◌, ℕ, not, true, false, List, [], ◌∷◌, ◌++◌, map, codes, Option, Some, None, is_some, Result, Ok, Err, IfSome, IsSomeAnd, string_bytes, if◌then◌else◌}
 use Rattle.std.specs.Str.{is_utf8}
 use Rattle.std.specs.List.{find}
 use Rattle.maps.specs.declared.shapes.MapLimits.{MapLimits}
@@ -96,9 +96,9 @@ strange_text s = (string_bytes s.name, s.bytes.items)
 
 -- it goes by this name, and is no file that a manifest names
 abbrev pub GoesBy : List ℕ → Stranger → Type 0
-GoesBy name s = (string_bytes s.name ≡ name) × (s.manifest ≡ None)
+GoesBy name s = (string_bytes s.name ≡ name) × (is_some s.manifest ≡ false)
 
--- it is the history, or the reader of that is as it was; and so for the state and the file: what is read after it was not read
+-- the readers of the history, the state and the file are as they were, but for that of this text and of those before it
 abbrev pub NothingAfter : {F R : Type 0} → Inputs F R → Inputs F R → Stranger → Type 0
 NothingAfter old new s =
     GoesBy (codes "the history") s

@@ -1,6 +1,6 @@
 // What a command reads: a manifest and the files that it names, the file that it is about, a state and a history.
 
-ghost use Rattle.std.specs.Prelude.{◌≡◌, ℕ, List, Option, None, Some, IfOk, IfErr, IfSome, IsSomeAnd, MatchOption, MatchResult, string_bytes};
+ghost use Rattle.std.specs.Prelude.{◌≡◌, ℕ, List, Option, None, Some, IfOk, IfErr, IfSome, IsSomeAnd, MatchOption, MatchResult, is_some, string_bytes};
 ghost use Rattle.maps.specs.Shapes.{AreLimits};
 ghost use Rattle.loader.specs.NamedFiles.{named_in};
 ghost use Rattle.loader.specs.ProgramFiles.{files_of};
@@ -156,7 +156,7 @@ fn strange(
     bytes: Vec<u8>,
 ) -> Result<Stranger, AllocError>
     ensures text { IfOk result (λ s. strange_text s ≡ (name.now, bytes.items)) }
-    ensures alone { IfOk result (λ s. named_by ≡ None → s.manifest ≡ None) }
+    ensures alone { IfOk result (λ s. is_some s.manifest ≡ is_some named_by.entry) }
 {
     let name = copied(alloc, name)?;
     let manifest = match named_by {
@@ -178,7 +178,7 @@ fn read_text<R: Source>(
     reader: &mut R,
 ) -> Result<String, Unread>
     ensures text { IfSome (R.remaining reader.old) (TextIs name.now result) }
-    ensures named { IfErr result (λ e. FailsAs e (λ s. named_by ≡ None → GoesBy name.now s)) }
+    ensures named { IfErr result (λ e. FailsAs e (λ s. (string_bytes s.name ≡ name.now) × (is_some s.manifest ≡ is_some named_by.entry))) }
     ensures failed { IfUnread result (R.has_failed reader.new) }
     ensures could { IfUnread result (R.can_fail reader.old) }
 {
