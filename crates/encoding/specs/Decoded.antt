@@ -128,9 +128,13 @@ unfoldable pub decoded_from : List MapParts → ℕ → List (List ℕ) → Resu
 decoded_from layouts n [] = Ok []
 decoded_from layouts n (line ∷ lines) = behind n (state_line layouts line) (decoded_from layouts (next_line n) lines)
 
+-- what becomes of a whole text
+abbrev pub all_decoded : List MapParts → List ℕ → Result (List ℕ) DecodeRefusal
+all_decoded layouts state = decoded_from layouts 1 (lines_of state)
+
 -- by what the layout says
 abbrev pub decoded_by : List ℕ → Result (List MapParts) DecodeRefusal → Result (List ℕ) DecodeRefusal
-decoded_by state (Ok layouts) = decoded_from layouts 1 (lines_of state)
+decoded_by state (Ok layouts) = all_decoded layouts state
 decoded_by state (Err e) = Err e
 
 -- the text of a state with values, or the first line that is wrong

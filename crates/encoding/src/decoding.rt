@@ -2,8 +2,7 @@
 
 ghost use Rattle.std.specs.Prelude.{◌≡◌, ◌≤◌, ◌++◌, ◌<◌, length, take, drop, IfNone, IfOk, IfSome, MatchResult, OnOk, Ok, option_map};
 ghost use Rattle.hex.specs.Hex.{encode_lower};
-ghost use Rattle.text.specs.Lines.{lines_of};
-ghost use Rattle.encoding.specs.Decoded.{decoded_from, decoded_text, entry_of, entry_text, field_text, is_program, part_kind, part_size, short_bytes, signed_text, spaced, state_line, unsigned_text, value_text, values_of};
+ghost use Rattle.encoding.specs.Decoded.{all_decoded, decoded_text, entry_of, entry_text, field_text, is_program, part_kind, part_size, short_bytes, signed_text, spaced, state_line, unsigned_text, value_text, values_of};
 ghost use Rattle.encoding.specs.DecodeShown.{AddsLine, AddsValues, Fails, shown_entry, shown_layouts};
 
 use crate::decode_faults::{DecodeError, DecodeRefusal};
@@ -220,7 +219,7 @@ fn put_line(out: &mut Vec<u8>, layouts: &[MapLayout], line: &str) -> Result<bool
 
 // What becomes of the lines of a state, or the first line that is wrong.
 fn decoded(alloc: Global, layouts: &[MapLayout], state: &str) -> Result<Vec<u8>, DecodeError>
-    ensures { MatchResult result (λ v. decoded_from (shown_layouts layouts.now) 1 (lines_of state.now) ≡ Ok v.items) (λ e. Fails e (decoded_from (shown_layouts layouts.now) 1 (lines_of state.now))) }
+    ensures { MatchResult result (λ v. all_decoded (shown_layouts layouts.now) state.now ≡ Ok v.items) (λ e. Fails e (all_decoded (shown_layouts layouts.now) state.now)) }
 {
     let mut out = Vec::new(alloc);
     let mut lines = NumberedLines::new(state);

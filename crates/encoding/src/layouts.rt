@@ -15,14 +15,14 @@ use text::{FIELD_BYTES, LineKind, NumberedLines, kind_of, number, split_at_space
 // A part of an entry: a number of a kind, or so many bytes.
 #[derive(Clone, Copy)]
 pub(crate) enum Part {
-    U8,
-    U16,
-    U32,
-    U64,
     S8,
     S16,
     S32,
     S64,
+    U8,
+    U16,
+    U32,
+    U64,
     Bytes(usize),
 }
 
