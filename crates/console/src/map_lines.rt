@@ -1,6 +1,7 @@
 // What `check --maps` answers: a line for each program, with the maps that it names.
 
-ghost use Rattle.std.specs.Prelude.{◌≡◌, ◌++◌, IfOk, OnOk, nat_eq, slice_get};
+ghost use Rattle.std.specs.Prelude.{◌≡◌, ◌<◌, ◌++◌, IfOk, OnOk, nat_eq, slice_get};
+ghost use Rattle.maps.specs.declared.shapes.TheConstants.{MAX_MAPS};
 ghost use Rattle.std.specs.Int.{bit_at};
 ghost use Rattle.loader.specs.Spelling.{mode_word};
 ghost use Rattle.console.specs.MapsAnswer.{AddsLineAt, AddsLineOf, AreMapsLines, IsMapsChecked, field_of, map_fields, maps_line};
@@ -24,13 +25,15 @@ pub struct CheckMaps;
 
 // Whether map m is one of these.
 fn is_in(maps: u16, m: usize) -> bool
+    requires { m < MAX_MAPS }
     ensures { result ≡ nat_eq (bit_at maps m) 1 }
 {
-    m < MAX_MAPS && (maps >> m) & 1 == 1
+    (maps >> m) & 1 == 1
 }
 
 // Adds the number of map m behind a space, where it is one of these.
 fn put_map(out: &mut Vec<u8>, maps: u16, m: usize) -> Result<(), AllocError>
+    requires { m < MAX_MAPS }
     ensures { OnOk result (out.new.items ≡ out.old.items ++ field_of maps m) }
 {
     if is_in(maps, m) {
