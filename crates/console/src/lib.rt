@@ -6,5 +6,5 @@ mod laws;
 mod manifests;
 
 pub use assembly::{Assemble, Disassemble, Encode};
-pub use laws::slots_are_columns;
+pub use laws::{check_writes, slots_are_columns};
 pub use manifests::{Check, Draw, Explain};
