@@ -1,3 +1,4 @@
 pub mod SlotLines
 pub mod Uncolumned
 pub mod MapLines
+pub mod Checked

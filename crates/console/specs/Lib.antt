@@ -3,5 +3,6 @@ pub mod MapsAnswer
 pub mod CheckAnswer
 pub mod AssemblyAnswer
 pub mod DecodeAnswer
--- Laws: the columns of `dis --slots` are all that it adds.
+-- Laws: the columns of `dis --slots` are all that it adds; what `check` writes.
 pub mod Columns
+pub mod CheckLaw

@@ -9,6 +9,6 @@ mod map_lines;
 
 pub use assembly::{Assemble, Disassemble, Encode};
 pub use decoding::Decode;
-pub use laws::slots_are_columns;
+pub use laws::{check_writes, slots_are_columns};
 pub use manifests::{Check, Draw, Explain};
 pub use map_lines::CheckMaps;
