@@ -1,8 +1,7 @@
 -- What `check` writes, from the bytes that it reads to its lines.
-use Rattle.std.proofs.Common.{◌≡◌, inl, inr, ℕ, List, [], ◌++◌, take, Option, Some, None, Ok, Err, refl, sym, ap, subst, ◌∙◌, append-nil}
-use Rattle.std.specs.Prelude.{◌⊎◌, is_some, if◌then◌else◌}
+use Rattle.std.proofs.Common.{◌≡◌, inl, inr, ℕ, List, [], Option, Some, None, Ok, Err, refl, sym, ap, subst, ◌∙◌, append-nil}
+use Rattle.std.specs.Prelude.{◌⊎◌}
 use Rattle.loader.specs.Loading.{Outcome}
-use Rattle.engine.specs.declared.replies.Status.{Status}
 use Rattle.engine.specs.declared.replies.Status.TheVariants as statuses
 use Rattle.engine.specs.declared.replies.Verdict.TheVariants as verdicts
 use Rattle.engine.specs.Texts.{programs_text, refusal_text, no_memory_line}

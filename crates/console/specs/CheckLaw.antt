@@ -1,5 +1,5 @@
 -- What `check` writes, from the bytes that it reads to its lines.
-use Rattle.std.specs.Prelude.{◌≡◌, ◌⊎◌, ℕ, List, [], ◌++◌, take, codes, Option, Some, None, Ok, Err}
+use Rattle.std.specs.Prelude.{◌≡◌, ◌⊎◌, ℕ, List, [], ◌++◌, take, codes, Some, None, Ok, Err}
 use Rattle.std.specs.List.{flat_map}
 use Rattle.loader.specs.declared.refusals.LoadRefusal.{LoadRefusal}
 use Rattle.loader.specs.CatalogueView.{CatalogueView}

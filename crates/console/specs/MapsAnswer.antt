@@ -26,13 +26,16 @@ abbrev pub fields_below : ℕ → ℕ → List ℕ
 fields_below zero maps = []
 fields_below (suc n) maps = fields_below n maps ++ field_of maps n
 
-abbrev pub map_fields : ℕ → List ℕ
+unfoldable pub map_fields : ℕ → List ℕ
 map_fields maps = fields_below MAX_MAPS maps
 
--- NAME ok SLOTS INSTRUCTIONS MODE, and the numbers of the maps
+-- NAME ok SLOTS INSTRUCTIONS, and a space
+abbrev pub counts_text : Entry → List ℕ
+counts_text e = e.name ++ (codes " ok " ++ (decimal (size e.checked.program) ++ (codes " " ++ (decimal (length e.checked.program) ++ codes " "))))
+
+-- `counts_text`, MODE, and the numbers of the maps
 abbrev pub maps_line : Entry → ℕ → List ℕ
-maps_line e maps =
-    e.name ++ (codes " ok " ++ (decimal (size e.checked.program) ++ (codes " " ++ (decimal (length e.checked.program) ++ (codes " " ++ (mode_word e.checked.mode ++ (map_fields maps ++ codes "\n")))))))
+maps_line e maps = counts_text e ++ (mode_word e.checked.mode ++ (map_fields maps ++ codes "\n"))
 
 -- the line of a program, with the maps that it names
 abbrev pub IsMapsLine : Entry → List ℕ → Type 0

@@ -4,7 +4,7 @@ ghost use Rattle.std.specs.Prelude.{◌≡◌, ◌<◌, ◌++◌, IfOk, OnOk, na
 ghost use Rattle.maps.specs.declared.shapes.TheConstants.{MAX_MAPS};
 ghost use Rattle.std.specs.Int.{bit_at};
 ghost use Rattle.loader.specs.Spelling.{mode_word};
-ghost use Rattle.console.specs.MapsAnswer.{AddsLineAt, AddsLineOf, AreMapsLines, IsMapsChecked, field_of, map_fields, maps_line};
+ghost use Rattle.console.specs.MapsAnswer.{AddsLineAt, AddsLineOf, AreMapsLines, IsMapsChecked, counts_text, field_of, map_fields, maps_line};
 ghost use Rattle.engine.specs.Reading.{texts_in};
 ghost use Rattle.engine.specs.Report.{answer_of};
 
@@ -31,7 +31,7 @@ fn is_in(maps: u16, m: usize) -> bool
     (maps >> m) & 1 == 1
 }
 
-// Adds the number of map m behind a space, where it is one of these.
+// Adds the number of map m after a space, if it is one of these.
 fn put_map(out: &mut Vec<u8>, maps: u16, m: usize) -> Result<(), AllocError>
     requires { m < MAX_MAPS }
     ensures { OnOk result (out.new.items ≡ out.old.items ++ field_of maps m) }
@@ -42,7 +42,8 @@ fn put_map(out: &mut Vec<u8>, maps: u16, m: usize) -> Result<(), AllocError>
     Ok(())
 }
 
-// Adds the numbers of these maps, each behind a space.
+// Adds the numbers of these maps, each after a space.
+#[tactic(auto, unfolding(crate::specs::MapsAnswer::map_fields))]
 fn put_maps(out: &mut Vec<u8>, maps: u16) -> Result<(), AllocError>
     ensures { OnOk result (out.new.items ≡ out.old.items ++ map_fields maps) }
 {
@@ -61,6 +62,16 @@ fn mode_word(mode: Mode) -> &'static str
     }
 }
 
+// Adds a program's name and its counts.
+fn put_counts(out: &mut Vec<u8>, name: &str, program: &Accepted) -> Result<(), AllocError>
+    ensures { OnOk result (out.new.items ≡ out.old.items ++ counts_text (record { name = name.now; checked = program.now })) }
+{
+    out.extend_from_slice(name.as_bytes())?;
+    put_numbered(out, b" ok ", program.slots() as u64)?;
+    put_numbered(out, b" ", program.instructions() as u64)?;
+    out.extend_from_slice(b" ")
+}
+
 // Adds a program's line, with the numbers of these maps.
 fn put_fields(
     out: &mut Vec<u8>,
@@ -70,10 +81,7 @@ fn put_fields(
 ) -> Result<(), AllocError>
     ensures { OnOk result (out.new.items ≡ out.old.items ++ maps_line (record { name = name.now; checked = program.now }) maps) }
 {
-    out.extend_from_slice(name.as_bytes())?;
-    put_numbered(out, b" ok ", program.slots() as u64)?;
-    put_numbered(out, b" ", program.instructions() as u64)?;
-    out.extend_from_slice(b" ")?;
+    put_counts(out, name, program)?;
     out.extend_from_slice(mode_word(program.mode()).as_bytes())?;
     put_maps(out, maps)?;
     out.extend_from_slice(b"\n")
