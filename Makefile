@@ -1,11 +1,11 @@
 # make help       prints these lines
-# make            proves and builds the program and the library for C. The first time that takes about an hour, two minutes after a gate on this machine
-# make unproved   builds both without a proof, with checks, in two minutes: in crates/nrbpf/out/unproved and embed/out/unproved
+# make            proves and builds the program and the library for C, in about an hour; in two minutes from proofs that the kit keeps
+# make unproved   builds both without a proof, with checks, in two minutes: in crates/nrbpf/out/unproved and embed/out/unproved; packaging/README.md says how to install them
 # make quick      what needs no proof: rows, programs in C, documents, hosts and packages, in five minutes
 # make test       the whole test suite, which proves and builds them too; make check is the same
 # make fmt        lays out the sources: crates, tests, and the prose of the documents
 # make docs       writes the documents anew that scripts write: manual page, completion, pictures, plots, CLAUSES, BELIEVED, LINES. The program must be built
-# make install    puts what is built below PREFIX, and builds nothing; DESTDIR stands before every path, as packages want it
+# make install    puts what is built below PREFIX, and builds nothing; DESTDIR is put before every path, as packages want it
 # make uninstall  takes it away
 # make dist       a tarball of the sources in out/, of the same bytes each time
 # make bindist    a tarball of what is installed, in out/release, for those without the kit; the test suite must have passed these sources here
