@@ -22,34 +22,34 @@ struct nrbpf_map;
 u64 nrbpf_pseudo(u64, u64) __asm__("llvm.bpf.pseudo");
 #define NRBPF_MAP(n) ((struct nrbpf_map *)nrbpf_pseudo(5, (n)))
 
-/* Helper 1: the value under the key, or 0 where there is none. Test it before it is used. */
+/* Helper 1: answers a pointer to the key's value, or 0 if the key is absent. Test the pointer before you use it. */
 #define nrbpf_map_lookup(map, key) (((void *(*)(struct nrbpf_map *, const void *))1)((map), (key)))
 
-/* Helper 2: puts the value under the key. Answers 0, or minus an error. */
+/* Helper 2: gives the key this value. Answers 0, or minus an error. */
 #define nrbpf_map_update(map, key, value, flags) \
 	(((s64(*)(struct nrbpf_map *, const void *, const void *, u64))2)((map), (key), (value), (flags)))
 
-/* Helper 3: takes the key away. Answers 0, or minus an error. */
+/* Helper 3: removes the key. Answers 0, or minus an error. */
 #define nrbpf_map_delete(map, key) (((s64(*)(struct nrbpf_map *, const void *))3)((map), (key)))
 
 /* The flags of an update. */
 #define NRBPF_ANY 0     /* whether the key is there or not */
-#define NRBPF_NOEXIST 1 /* only where it isn't there */
-#define NRBPF_EXIST 2   /* only where it is there */
+#define NRBPF_NOEXIST 1 /* only if it isn't there */
+#define NRBPF_EXIST 2   /* only if it is there */
 
 /* The errors. */
 #define NRBPF_ENOENT 2  /* there is no such key */
-#define NRBPF_E2BIG 7   /* the map is full; the index is none of the array's */
+#define NRBPF_E2BIG 7   /* the map is full, or the array has no such index */
 #define NRBPF_EEXIST 17 /* the key is there already */
-#define NRBPF_EINVAL 22 /* other flags than these; a delete in an array */
+#define NRBPF_EINVAL 22 /* the flags are others than these, or a delete is in an array */
 
-/* Behind the test of a looked-up pointer: from here on the compiler forgets how it came by the pointer. docs/C.md says when (V6, V14). */
+/* After the test of a looked-up pointer: the compiler no longer knows how it got the pointer. docs/C.md says when (V6, V14). */
 #define NRBPF_TESTED(pointer) __asm__ volatile("" : "+r"(pointer) : : "memory")
 
-/* No load or store is moved across this, and none before it is merged with one behind it. docs/C.md says when (V8). */
+/* The compiler moves no load or store across this, and merges none before it with one after it. docs/C.md says when (V8). */
 #define NRBPF_APART() __asm__ volatile("" : : : "memory")
 
-/* The number of the lowest bit that is 1, counted from 0, or 64 of 0. (Of __builtin_ctzll clang makes a table, which no program has.) */
+/* The number of the lowest 1 bit, counted from 0; 64 if there is none. (clang makes a table for __builtin_ctzll; a program has none.) */
 NRBPF_INLINE u64 nrbpf_lowest(u64 bits)
 {
 	u64 at = 0;

@@ -1,4 +1,4 @@
-/* Bids for items: the highest stands, with who made it. */
+/* Bids for items: the highest is kept, with its bidder. */
 #include "auction.h"
 #include "nrbpf_program.h"
 
@@ -8,7 +8,7 @@ struct best {
 	u64 bidder;
 };
 
-/* Answers 1 where this is the highest bid so far, 0 where it isn't, and an error where there is no room for another item. */
+/* Answers 1 if this is the highest bid so far, else 0, and an error if there is no room for another item. */
 s64 bid(const struct bid *call)
 {
 	struct best this = {call->amount, call->bidder};

@@ -12,7 +12,7 @@ enum { THREADS = 2, BIDS = 1000 };
 static const uint64_t item = 7;
 static nrbpf_store *store;
 
-// Ends the service where a call is refused.
+// Ends the service if a call is refused.
 static void check(nrbpf_status status) {
     if (status == NRBPF_OK) return;
     fprintf(stderr, "%s\n", nrbpf_status_text(status));

@@ -14,7 +14,7 @@ static const uint64_t item = 7;
 static nrbpf_store *store;
 static uint16_t bid, highest;
 
-// Ends the service where a call is refused.
+// Ends the service if a call is refused.
 static void check(nrbpf_status status) {
     if (status == NRBPF_OK) return;
     fprintf(stderr, "%s\n", nrbpf_status_text(status));

@@ -7,7 +7,7 @@ struct best {
 	u64 bidder;
 };
 
-/* Answers 1 where this is the highest bid so far, and 0 where it isn't. */
+/* Answers 1 if this is the highest bid so far, else 0. */
 s64 bid(const struct bid *call)
 {
 	struct best this = {call->amount, call->bidder};

@@ -20,7 +20,7 @@ struct available {
 	uint32_t item;
 };
 
-/* The reply of `reserve`, `reserve_both` and `ship` where that is so. */
+/* The reply of `reserve`, `reserve_both` and `ship` if there is not enough. */
 #define INVENTORY_NOT_ENOUGH -1
 
 #endif
