@@ -15,7 +15,8 @@
 //
 // A call writes its answer only if it succeeds. It copies its arguments, keys
 // and questions first, so an answer may overwrite them. It keeps no pointer.
-// The memory of two results of one call must not overlap.
+// The memory of two results of one call must not overlap. A text has a length,
+// and needs no final zero.
 //
 // Only nrbpf_open, nrbpf_open_on, nrbpf_close_into, nrbpf_state_new,
 // nrbpf_state_dump and nrbpf_state_load take memory. The library starts no
@@ -26,16 +27,16 @@
 // of the history is a number of updates. The point of an update is its index:
 // how many updates come before it. The point of any other answer is how many
 // updates are in the maps that it was read from. If call A returned before call
-// B began, A comes before B.
+// B began, A comes first.
 //
 // Each function says in brackets when it may be called:
 //     [any]      At any time, by any number of threads, until the store ends.
 //     [session]  As [any], but one call at a time on this session: one thread
 //                uses it, or hands it to another.
 //     [end]      By one thread at a time. While a session is attached, the call
-//                answers S5, even next to calls on that session. Once none is
-//                attached, the call ends the store. Then no other call on the
-//                store may be running or follow.
+//                answers S5, even while a call on that session runs. Once none
+//                is attached, the call ends the store. Then no other call on
+//                the store may be running or follow.
 // A thread hands a session to another by a mutex, by a thread's start or join,
 // or by a sequentially consistent atomic. Call nothing here from a signal
 // handler, or in the forked child of a process with threads.
@@ -56,7 +57,7 @@ extern "C" {
 #endif
 
 typedef struct nrbpf_store nrbpf_store;
-// One slot of one node.
+// A thread's way to call a store: one slot of one node.
 typedef struct nrbpf_session nrbpf_session;
 // All keys, values and installed programs at one point of a history.
 typedef struct nrbpf_state nrbpf_state;
@@ -75,10 +76,10 @@ uint32_t nrbpf_version(void);
 // 0, or a refusal: why a call did not do what it should. `status >> 8` is its
 // letter and `status & 255` its number in docs/REFUSALS.md. If several refusals
 // apply, a call answers the first in this order: H7, H8, H2, H3 or H11, H5,
-// then the others. A refused call changes nothing, except that after S4 other
+// then the others. A refused call changes nothing, except that before S4 other
 // updates may have gone in. The statuses 1 and 2 have no letter and are no
-// refusals. By these a call with `try_` in its name, or nrbpf_poll, says that
-// it has no answer yet.
+// refusals. Only nrbpf_poll and calls with `try_` in their name answer these:
+// they have no answer yet.
 typedef uint32_t nrbpf_status;
 #define NRBPF_REFUSAL(letter, number) ((nrbpf_status)(letter) << 8 | (nrbpf_status)(number))
 
@@ -180,8 +181,8 @@ enum {
     // install: the mode is neither of the two. read_each: there are more than
     // 16 questions.
     NRBPF_H5, NRBPF_BAD_CALL = NRBPF_H5,
-    // Of a raw call: the session is of another store, or a part of the store is
-    // missing. No call below answers this.
+    // Of raw calls (nrbpf_raw.h): the session is of another store, or a part of
+    // the store is missing. No call below answers this.
     NRBPF_H6, NRBPF_OTHER_STORE = NRBPF_H6,
     // A pointer is null.
     NRBPF_H7, NRBPF_NULL_POINTER = NRBPF_H7,
@@ -211,19 +212,20 @@ typedef struct nrbpf_error {
     uint32_t slot;
 } nrbpf_error;
 
-// Answers what a status means, in one line that begins with its letter and
-// number. The text is a constant and never null. [any]
+// Answers what a status means, in one line. The line of a refusal begins with
+// its letter and number. The text is a constant and never null. [any]
 const char *nrbpf_status_text(nrbpf_status status);
 
 // Writes an error as one line: "line 3: C4: the program is not accepted: slot
 // 5: V14: ..". The line and its final zero are cut to fit into `room` bytes.
-// Answers the full length, as snprintf does. [any]
+// Answers the full length without the zero, as snprintf does. [any]
 size_t nrbpf_error_text(const nrbpf_error *why, char *text, size_t room);
 
 // ---- A store
 
-// How large the maps of a manifest may be. If a number is 0, the standard one
-// holds. A host that loads the manifests of others may set smaller ones.
+// How large the maps of a manifest may be. A number that is 0 means that of
+// NRBPF_STANDARD. A host that loads the manifests of others may set smaller
+// numbers.
 typedef struct nrbpf_limits {
     // The most bytes of a key: 4 to 64.
     uint32_t key;
@@ -258,8 +260,8 @@ typedef struct nrbpf_config {
 #define NRBPF_ENDLESS 0
 #define NRBPF_CONFIG(nodes, slots) {NRBPF_VERSION, (nodes), (slots), 4096, NRBPF_ENDLESS, 0, {0, 0, 0, 0}}
 
-// Does what NRBPF_CONFIG does, for languages without macros. `version` is the
-// NRBPF_VERSION of the header that the host was made for. Refuses with H7.
+// Fills in what NRBPF_CONFIG does, for languages without macros. `version` is
+// the NRBPF_VERSION of the header that the host was made for. Refuses with H7.
 // [any]
 nrbpf_status nrbpf_config_init(
     nrbpf_config *config, uint32_t version, uint32_t nodes, uint32_t slots);
@@ -273,8 +275,9 @@ typedef struct nrbpf_file {
 } nrbpf_file;
 
 // Loads the maps and programs of a manifest, verifies each program, and opens a
-// store of them. Refuses with C1 to C6, O1, O2, H4, H7 and H8. Then *why says
-// where, unless `why` is null. [any]
+// store of them. `files` are the `count` program files that the manifest names.
+// Refuses with C1 to C6, O1, O2, H4, H7 and H8. Then *why says where, unless
+// `why` is null. [any]
 NRBPF_MUST_LOOK nrbpf_status nrbpf_open(
     const nrbpf_config *config, const char *manifest, size_t manifest_len,
     const nrbpf_file *files, size_t count, nrbpf_store **out, nrbpf_error *why);
@@ -282,9 +285,8 @@ NRBPF_MUST_LOOK nrbpf_status nrbpf_open(
 // Opens a store as nrbpf_open does, but on a state. The state stays the host's,
 // and other stores may open on it too. The new history begins at point 0.
 // Refuses as nrbpf_open does. Also refuses with O3 if the manifest has other
-// maps than the state. So it does if the configuration has fewer spare places
-// than the state has programs. [any], with no other call on this state at the
-// same time.
+// maps than the state, or if the configuration has fewer spare places than the
+// state has programs. [any], with no other call on this state at the same time.
 NRBPF_MUST_LOOK nrbpf_status nrbpf_open_on(
     const nrbpf_config *config, const char *manifest, size_t manifest_len,
     const nrbpf_file *files, size_t count, const nrbpf_state *state,
@@ -309,9 +311,9 @@ NRBPF_MUST_LOOK nrbpf_status nrbpf_program_number(
 NRBPF_MUST_LOOK nrbpf_status nrbpf_attach(
     nrbpf_store *store, uint32_t node, nrbpf_session **out);
 
-// Gives a session back. From then on all calls refuse its handle (H2), while
-// the store is open. None of the next 511 sessions that are attached gets the
-// same handle. Refuses with H2, H3 and H7. [session]
+// Gives a session back. While the store is open, all calls then refuse its
+// handle (H2), until a new session gets the same one. None of the next 511
+// sessions gets it. Refuses with H2, H3 and H7. [session]
 NRBPF_MUST_LOOK nrbpf_status nrbpf_detach(nrbpf_session *session);
 
 // ---- Calls: each is one operation, at one point of the store's history
@@ -325,8 +327,8 @@ typedef struct nrbpf_answer {
 } nrbpf_answer;
 
 // Two replies say that an operation did nothing. -7: an install found no free
-// place. By custom a program also replies -7 if a map has no room for its key.
-// -22: at its index the call found no program of its number, mode and argument
+// place. By custom a program also replies -7 if a map has no room for a key.
+// -22: at its index a call found no program of its number, mode and argument
 // length.
 #define NRBPF_REPLY_NO_ROOM (UINT64_MAX - 6)
 #define NRBPF_REPLY_INVALID (UINT64_MAX - 21)
@@ -334,9 +336,9 @@ typedef struct nrbpf_answer {
 enum { NRBPF_MODE_UPDATE = 0, NRBPF_MODE_READ = 1 };
 
 // Run a program on an argument of `len` bytes. Both calls wait while other
-// sessions of the store are in the way. First they spin, then they call
-// sched_yield between two tries. Refuse with S1, S2, S3, H2, H3 and H7, an
-// update also with S4. [session]
+// sessions of the store are in the way. First they spin. Later they call
+// sched_yield between two tries. That a wait ends is not proved. Refuse with
+// S1, S2, S3, H2, H3 and H7, an update also with S4. [session]
 NRBPF_MUST_LOOK nrbpf_status nrbpf_update(
     nrbpf_session *session, uint16_t program, const void *argument, size_t len,
     nrbpf_answer *out);
@@ -344,9 +346,10 @@ NRBPF_MUST_LOOK nrbpf_status nrbpf_read(
     nrbpf_session *session, uint16_t program, const void *argument, size_t len,
     nrbpf_answer *out);
 
-// Adds a program to the running store. The reply is its number from then on, or
-// NRBPF_REPLY_NO_ROOM if no spare place is left. Refuses with S4, S6 to S8, H2,
-// H3, H5 and H7. Then *why says more, unless `why` is null. [session]
+// Adds a program to the running store. Waits as nrbpf_update does. The reply is
+// its number from then on, or NRBPF_REPLY_NO_ROOM if no spare place is left.
+// Refuses with S4, S6 to S8, H2, H3, H5 and H7. Then *why says more, unless
+// `why` is null. [session]
 NRBPF_MUST_LOOK nrbpf_status nrbpf_install(
     nrbpf_session *session, uint32_t mode, uint32_t argument_len,
     const void *bytes, size_t len, nrbpf_answer *out, nrbpf_error *why);
@@ -355,9 +358,10 @@ NRBPF_MUST_LOOK nrbpf_status nrbpf_install(
 // Each may also answer BUSY. An update or an install may also answer POSTED.
 // After POSTED the update will happen exactly once, unless nrbpf_poll refuses
 // it with S4. Until its answer the session takes only nrbpf_poll (H3). Poll
-// soon: the session may have taken other updates of its node along. They wait
-// until it is polled. If it is never polled again, these and all later updates
-// of its node may wait for ever, and the store can't be closed (S5). [session]
+// soon: the session may have taken other updates of its node along, and they
+// wait until it is polled. If it is never polled again, these and all later
+// updates of its node may wait for ever. Then the store can't be closed either
+// (S5). [session]
 NRBPF_MUST_LOOK nrbpf_status nrbpf_try_update(
     nrbpf_session *session, uint16_t program, const void *argument, size_t len,
     nrbpf_answer *out);
@@ -401,6 +405,7 @@ NRBPF_MUST_LOOK nrbpf_status nrbpf_poll(
 // ---- More reads: each at one point of the history
 //
 // Each function with `try_` in its name waits for nobody, and may answer BUSY.
+// The others wait as nrbpf_read does.
 
 typedef struct nrbpf_found {
     // How many updates the map had seen.
@@ -431,13 +436,13 @@ typedef struct nrbpf_scanned {
 
 // Gives a page of a map's entries, from the place `from` on. A map has a place
 // for each of its ENTRIES, from 0 on. Begin with 0. Writes keys one after
-// another, and values likewise, as many as both buffers hold. Reads at most
-// 1,024 places of the map, and 16 more for each entry that the buffers hold. So
-// a page may have no entry and yet a place from which to continue. Two pages
-// may be of different points, and a deletion may move a key to another page. A
-// snapshot is of one point. It is tested, not proved, that the pages of one
-// session at one point give each key once. Refuses with S9, S10, H2, H3 and H7.
-// [session]
+// another into `keys`, and their values into `values`, as many as both hold.
+// Both rooms are in bytes. Reads at most 1,024 places of the map, and 16 more
+// for each entry that the buffers hold. So a page may have no entry although
+// the map goes on. Two pages may be of different points, and a deletion may
+// move a key to another page. A snapshot is of one point. It is tested, not
+// proved, that the pages of one session at one point give each key once.
+// Refuses with S9, S10, H2, H3 and H7. [session]
 NRBPF_MUST_LOOK nrbpf_status nrbpf_scan(
     nrbpf_session *session, uint32_t map, uint32_t from, void *keys,
     size_t keys_room, void *values, size_t values_room, nrbpf_scanned *out);
@@ -486,20 +491,20 @@ NRBPF_MUST_LOOK nrbpf_status nrbpf_try_snapshot(
 // A function of the host that takes bytes of a dump. It answers 0 to get more.
 typedef int nrbpf_writer(void *to, const char *bytes, size_t len);
 
-// Dumps a state as the text that `nrbpf --dump` writes and `nrbpf --load`
-// takes. Hands it to `write` in parts of at most 16,384 bytes. The whole text
-// is made before the first part. No store is blocked. `write` may make calls,
-// but none on this state. Refuses with E0 if there is no memory for the text,
-// and with H7. As soon as `write` does not answer 0, refuses with H10. [any],
-// with no other call on this state at the same time.
+// Dumps a state as the text that `nrbpf run --dump` writes and `--load` takes.
+// Hands it to `write` in parts of at most 16,384 bytes. The whole text is made
+// before the first part. No store is blocked. `write` may make calls, but none
+// on this state. Refuses with E0 if there is no memory for the text, and with
+// H7. As soon as `write` does not answer 0, refuses with H10. [any], with no
+// other call on this state at the same time.
 NRBPF_MUST_LOOK nrbpf_status nrbpf_state_dump(
     const nrbpf_state *state, nrbpf_writer *write, void *to);
 
-// Makes the state that a dump says, for stores of this manifest with
+// Makes the state that a dump describes, for stores of this manifest with
 // `config->spare` places. An empty text gives the state of a new store.
 // nrbpf_open_on takes the state. Refuses with C1 to C6, E0 to E9, O1 (of
-// `spare`), O2, H4, H7 and H8. Then *why says where, unless `why` is null.
-// [any]
+// `spare` or `limits`), O2, H4, H7 and H8. Then *why says where, unless `why`
+// is null. [any]
 NRBPF_MUST_LOOK nrbpf_status nrbpf_state_load(
     const nrbpf_config *config, const char *manifest, size_t manifest_len,
     const nrbpf_file *files, size_t count, const char *text, size_t len,
