@@ -197,9 +197,9 @@ size_t nrbpf_raw_part(struct nrbpf_raw_text *text, uint64_t from, uint8_t *out, 
 /* Gives a text up; then its handle is room. */
 void nrbpf_raw_drop_text(struct nrbpf_raw_text *at);
 
-/* Loads a text as the state that it says, for stores of the opening's manifest with `spare` places (nothing else of the opening counts), and writes the
- * handle of the state into the room at `state`. Statuses, in the state's handle: 0, H4, C1 to C6, O1 (`spare` alone), E0 to E9; with any but 0 that has no
- * state, and its memory is as good as room. */
+/* Loads the state that a text describes, for stores of the opening's manifest with `spare` places, and writes its handle into the room at `state`. Of the
+ * opening only manifest, files, `spare` and `limits` count. Statuses, in the state's handle: 0, H4, C1 to C6, O1 (of `spare` or `limits`), E0 to E9. With
+ * any but 0 the handle has no state, and its memory is as good as room. */
 void nrbpf_raw_load(const struct nrbpf_raw_opening *opening, const uint8_t *text, size_t length, struct nrbpf_raw_state *state);
 
 #ifdef __cplusplus

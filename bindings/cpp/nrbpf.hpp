@@ -6,8 +6,8 @@
 //     auto session = store.attach(0);                                         // a session for this thread
 //     std::cout << session.update(bump, nrbpf::bytes_of(key)).reply;
 //
-// A refusal is an nrbpf::error. A store may be used by any thread, a session and a state by one thread at a time. A store ends when it and all sessions of it
-// are gone, so their order doesn't matter. A session, a store or a state that was moved from may be destroyed or assigned to alone.
+// A refusal is thrown as an nrbpf::error. Any thread may use a store. One thread at a time may use a session or a state. A store ends when it and all its
+// sessions are gone, so their order doesn't matter. You may only destroy a session, a store or a state that was moved from, or assign to it.
 #ifndef NRBPF_HPP
 #define NRBPF_HPP
 
@@ -99,7 +99,7 @@ public:
     std::size_t size() const noexcept { return count; }
 };
 
-// Those of a value, as it lies in memory: of a number the low byte first where the machine has it so.
+// The bytes of a value as they are in memory. On a little-endian machine a number has its low byte first, as programs read it.
 template <class T> bytes bytes_of(const T &value) noexcept {
     static_assert(std::is_trivially_copyable_v<T> && !std::is_pointer_v<T>, "a value of plain bytes");
     return {&value, sizeof value};
@@ -152,7 +152,7 @@ public:
         return *this;
     }
 
-    // Reads a manifest and the files that it names, all by paths from the folder. std::system_error where one can't be read.
+    // Reads a manifest and the files that it names, all by paths from the folder. Throws std::system_error if one can't be read.
     static manifest read(const std::filesystem::path &path, const std::filesystem::path &folder = {}) {
         manifest it(text_of(folder / path));
         for (const auto &words : it.lines())
@@ -160,7 +160,7 @@ public:
         return it;
     }
 
-    // The shapes of the maps, of a manifest that a store was opened with.
+    // The shapes of the maps. A store was opened with this manifest.
     std::vector<map_shape> maps() const {
         std::vector<map_shape> told;
         const auto number = [](const std::string &word) { return static_cast<std::uint32_t>(std::stoul(word)); };
@@ -194,7 +194,7 @@ class state {
         std::exception_ptr raised;
     };
 
-    // What the library calls for each part. What is thrown is thrown again behind the library's call.
+    // The library calls this for each part. What it throws is thrown again after the library's call.
     static int take(void *to, const char *part, std::size_t len) noexcept {
         taker &it = *static_cast<taker *>(to);
         try {
@@ -208,7 +208,7 @@ class state {
 public:
     explicit state(nrbpf_state *given) noexcept : at(given) {}
 
-    // The state that a dump says, for stores of this manifest with so many spare places, by these limits of maps. An empty dump is a new store's.
+    // The state that a dump describes, for stores of this manifest with so many spare places and these limits of maps. An empty dump is that of a new store.
     static state load(const manifest &of, std::string_view dump, std::uint32_t spare = 0, const nrbpf_limits &limits = {}) {
         const auto files = of.native();
         const config sizes = config().with_spare(spare).with_limits(limits);
@@ -218,8 +218,8 @@ public:
         return state(out);
     }
 
-    // Gives the state as text, which `nrbpf --load` takes too, to a function of a std::string_view, by parts of at most 16,384 bytes. What that throws ends
-    // it. It may make calls, but none on this state.
+    // Gives the state as text to a function of a std::string_view, in parts of at most 16,384 bytes. `nrbpf run --load` takes that text too. What the function
+    // throws ends the dump. The function may make calls, but none on this state.
     template <class Write> void dump_to(Write &&write) const {
         using writer = std::remove_reference_t<Write>;
         const auto call = [](void *it, std::string_view part) { (*static_cast<writer *>(it))(part); };
@@ -242,7 +242,7 @@ public:
 
 enum class mode : std::uint32_t { update = NRBPF_MODE_UPDATE, read = NRBPF_MODE_READ };
 
-// Maps that a program may name, by their numbers: {0, 2}. A number that no map has says nothing.
+// Maps that a program may name, by their numbers: {0, 2}. A number that no map has means nothing.
 class maps_allowed {
     std::uint16_t told = 0;
 
@@ -257,8 +257,8 @@ public:
 
 using answer = nrbpf_answer;
 
-// How far an update is that waits for nobody: NRBPF_OK and its answer; NRBPF_BUSY, another session was in the way, and nothing is asked; or NRBPF_POSTED, the
-// store has it, once, and `poll` or `wait` is the session's next call.
+// How far an update is that waits for nobody. NRBPF_OK: here is its answer. NRBPF_BUSY: another session was in the way, and nothing has happened.
+// NRBPF_POSTED: the store has the update, once, and `poll` or `wait` is the session's next call.
 struct tried {
     nrbpf_status status;
     answer told;
@@ -277,7 +277,7 @@ struct found {
 
 using entry = std::pair<std::string, std::string>; // a key and its value
 
-// Entries of a map, how many updates it had seen, and the place to go on from, if it isn't the end.
+// Entries of a map, how many updates it had seen, and the place from which to continue, if it isn't the end.
 struct page {
     std::uint64_t point;
     std::vector<entry> entries;
@@ -310,7 +310,7 @@ struct shared_store {
 
 } // namespace detail
 
-// One slot of one node. It is given back when it ends: where an update is posted and not answered, once that is answered.
+// One slot of one node. A session is given back when it ends. If an update is posted, the session first waits for its answer.
 class session {
     std::shared_ptr<detail::shared_store> of;
     nrbpf_session *at;
@@ -322,7 +322,7 @@ class session {
             if (nrbpf_poll(at, &out) == NRBPF_POSTED) std::this_thread::yield();
     }
 
-    // Each by a call of nrbpf.h or its twin that waits for nobody: none where another session was in the way.
+    // Each calls nrbpf.h, or its `try_` call: nothing if another session was in the way.
     template <class Call> std::optional<answer> run(Call call, std::uint16_t program, bytes argument) {
         answer out;
         if (!detail::is_answered(call(at, program, argument.data(), argument.size(), &out))) return {};
@@ -378,11 +378,11 @@ public:
 
     nrbpf_session *native() const noexcept { return at; }
 
-    // Run a program, and wait for other sessions where they are in the way.
+    // Run a program, and wait while other sessions are in the way.
     answer update(std::uint16_t program, bytes argument = {}) { return *run(nrbpf_update, program, argument); }
     answer read(std::uint16_t program, bytes argument = {}) { return *run(nrbpf_read, program, argument); }
 
-    // Adds a program to the store while it runs. The reply is its number from then on, or NRBPF_REPLY_NO_ROOM where no spare place is left.
+    // Adds a program to the store while it runs. The reply is its number from then on, or NRBPF_REPLY_NO_ROOM if no spare place is left.
     answer install(mode of_program, std::uint32_t argument_len, bytes code) {
         answer out;
         nrbpf_error why{};
@@ -390,7 +390,7 @@ public:
         return out;
     }
 
-    // The same for a program that may name these maps alone: S8 with V16 where it names another.
+    // As `install`, for a program that may name only these maps. If it names another, S8 with V16.
     answer install_within(const maps_allowed &maps, mode of_program, std::uint32_t argument_len, bytes code) {
         answer out;
         nrbpf_error why{};
@@ -399,7 +399,7 @@ public:
         return out;
     }
 
-    // The same, and wait for nobody.
+    // These wait for nobody.
     tried try_update(std::uint16_t program, bytes argument = {}) {
         answer out{};
         const nrbpf_status status = nrbpf_try_update(at, program, argument.data(), argument.size(), &out);
@@ -422,14 +422,14 @@ public:
         return tried_of(status, out, why);
     }
 
-    // Goes on with the update or the install that is posted: none where it is not answered yet.
+    // Continues the update or the install that is posted. Nothing if it is not answered yet.
     std::optional<answer> poll() {
         answer out{};
         const nrbpf_status status = nrbpf_poll(at, &out);
         return tried_of(status, out) ? std::optional(out) : std::nullopt;
     }
 
-    // The same until it is answered.
+    // Polls until the update is answered.
     answer wait() {
         for (;;) {
             if (const auto told = poll()) return *told;
@@ -437,18 +437,18 @@ public:
         }
     }
 
-    // The value of a key of a map, counted from 0 as the manifest has them.
+    // The value of a key of a map. The manifest's first map is 0.
     found get(std::uint32_t map, bytes key) { return *look_up(nrbpf_get, map, key); }
     std::optional<found> try_get(std::uint32_t map, bytes key) { return look_up(nrbpf_try_get, map, key); }
 
-    // Entries of a map from a place on, 0 at first, at most so many, at one point of the history. It may give none and have a place to go on from.
+    // At most so many entries of a map, from a place on, at one point of the history. Begin with place 0. A page may have no entry although the map goes on.
     page scan_page(std::uint32_t map, std::uint32_t from = 0, std::size_t room = 256) { return *turn(nrbpf_scan, map, from, room); }
     std::optional<page> try_scan_page(std::uint32_t map, std::uint32_t from = 0, std::size_t room = 256) {
         return turn(nrbpf_try_scan, map, from, room);
     }
 
-    // Gives each key and value of a map to a function of two strings, by pages. They may be of several points of the history, and a deletion may move a
-    // key to another page; a snapshot is of one point.
+    // Gives each key and value of a map to a function of two strings, by pages. Two pages may be of different points of the history, and a deletion may
+    // move a key to another page. A snapshot is of one point.
     template <class Take> void scan(std::uint32_t map, Take &&take) {
         for (std::optional<std::uint32_t> from = 0; from;) {
             const page it = scan_page(map, *from);
@@ -457,18 +457,18 @@ public:
         }
     }
 
-    // Answers up to 16 reads at one point of the history. Without any it brings the session's node up to what is completed.
+    // Answers up to 16 reads at one point of the history. Without any, it brings the session's node up to date.
     replies read_each(const std::vector<question> &questions) { return *ask(nrbpf_read_each, questions); }
     std::optional<replies> try_read_each(const std::vector<question> &questions) { return ask(nrbpf_try_read_each, questions); }
 
-    // Makes a state the store's at one point of the history, and answers the point. Other sessions go on; those of the same node wait meanwhile.
+    // Copies the store's state at one point of the history, and answers the point. Other nodes go on. Sessions of this node wait meanwhile.
     std::uint64_t snapshot(state &into) { return *copy(nrbpf_snapshot, into); }
     std::optional<std::uint64_t> try_snapshot(state &into) { return copy(nrbpf_try_snapshot, into); }
 };
 
 // ---- A store
 
-// It may be moved, and is shared with its sessions: it ends when it and all of them are gone.
+// A store may be moved. It is shared with its sessions, and ends when it and all of them are gone.
 class store {
     std::shared_ptr<detail::shared_store> of = std::make_shared<detail::shared_store>();
 
@@ -482,12 +482,12 @@ class store {
     }
 
 public:
-    // Loads the programs of a manifest, each verified here, and opens a store of them.
+    // Loads the programs of a manifest, verifies each, and opens a store of them.
     explicit store(const manifest &with, const nrbpf_config &sizes = config()) {
         open(with, [&sizes](auto... given) { return nrbpf_open(&sizes, given...); });
     }
 
-    // The same, going on from a state, which may be opened on again. Its history begins at point 0.
+    // Opens a store on a state. Other stores may open on it too. The new history begins at point 0.
     store(const manifest &with, const nrbpf_config &sizes, const state &on) {
         open(with, [&](const char *text, std::size_t len, const nrbpf_file *files, std::size_t count, nrbpf_store **out, nrbpf_error *why) {
             return nrbpf_open_on(&sizes, text, len, files, count, on.native(), out, why);
@@ -504,7 +504,7 @@ public:
         return number;
     }
 
-    // A free session of a node, counted from 0.
+    // A free session of a node. The first node is 0.
     session attach(std::uint32_t node = 0) const {
         nrbpf_session *attached = nullptr;
         detail::check(nrbpf_attach(native(), node, &attached));
@@ -518,7 +518,7 @@ public:
         return state(out);
     }
 
-    // Ends the store, and gives the state that it ends in: `std::move(store).close_into()`. S5 while there are sessions of it, and then it is as it was.
+    // Ends the store, and gives its last state: `std::move(store).close_into()`. With sessions it refuses (S5), and the store is as it was.
     state close_into() && {
         nrbpf_state *out = nullptr;
         if (of.use_count() > 1) detail::check(NRBPF_ATTACHED);
