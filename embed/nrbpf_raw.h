@@ -1,20 +1,19 @@
-/* What the proved library libembed.a exports, and what lies at its four kinds of handle. A host includes nrbpf.h, not this.
+/* What the proved library libembed.a exports, and what is at its four kinds of handle. A host includes nrbpf.h, not this.
  *
- * A handle is memory of the host's, of the size and the alignment of its struct. It is room until nrbpf_raw_open, nrbpf_raw_open_on, nrbpf_raw_attach,
- * nrbpf_raw_close_into, nrbpf_raw_new_state, nrbpf_raw_load or nrbpf_raw_dump has written it, and as good as room again once nrbpf_raw_close,
- * nrbpf_raw_close_into, nrbpf_raw_detach, nrbpf_raw_drop_state or nrbpf_raw_drop_text has ended it. Between two calls the host writes the words under
- * "asked" and reads those under "answered"; it leaves `own` alone, and moves or copies no handle. Each function takes one call at a time on each handle that
- * is passed to it; calls on different handles may run side by side. No pointer is null, also where nothing lies behind it. What a function writes overlaps
- * nothing else that it is passed.
+ * A handle is memory of the host, of the size and the alignment of its struct. Until nrbpf_raw_open, nrbpf_raw_open_on, nrbpf_raw_attach,
+ * nrbpf_raw_close_into, nrbpf_raw_new_state, nrbpf_raw_load or nrbpf_raw_dump has written it, the memory is only room. After nrbpf_raw_close,
+ * nrbpf_raw_close_into, nrbpf_raw_detach, nrbpf_raw_drop_state or nrbpf_raw_drop_text has ended it, the memory is as good as room again. Between two calls
+ * the host writes the words under "asked" and reads those under "answered". The host leaves `own` alone, and moves or copies no handle. Each function takes
+ * one call at a time on each handle that is passed to it. Calls on different handles may run at the same time. No pointer is null, also if its length is 0.
+ * What a function writes overlaps nothing else that it is passed.
  *
  * No function waits or locks. nrbpf_raw_open, nrbpf_raw_open_on, nrbpf_raw_close_into, nrbpf_raw_new_state, nrbpf_raw_load and nrbpf_raw_dump take memory,
- * by the host's malloc and realloc, and nrbpf_raw_close, nrbpf_raw_close_into, nrbpf_raw_drop_state and nrbpf_raw_drop_text give it back, by free; those
- * that load or dump also give back what they took on the way. No other function takes any. What is passed in is copied; nothing of it is read or written
- * after the function has returned.
+ * by the host's malloc and realloc. nrbpf_raw_close, nrbpf_raw_close_into, nrbpf_raw_drop_state and nrbpf_raw_drop_text give it back, by free. Those that
+ * load or dump also give back what they took on the way. No other function takes any. What is passed in is copied. Nothing of it is read or written after
+ * the function has returned.
  *
- * A status is 0, NRBPF_RAW_BUSY, NRBPF_RAW_AGAIN, or a refusal: its letter times 256 and its number, those of docs/REFUSALS.md or of the letter H.
- * With any status but 0 the words point, reply, count, next, number and length are as they were, and so are the bytes, replies and states that a call
- * is to fill.
+ * A status is 0, NRBPF_RAW_BUSY, NRBPF_RAW_AGAIN, or a refusal: 256 times its letter, and its number, as in docs/REFUSALS.md. With any other status than 0
+ * the words point, reply, count, next, number and length are as they were. So are the bytes, replies and states that a call is to fill.
  */
 #ifndef NRBPF_RAW_H
 #define NRBPF_RAW_H
@@ -27,14 +26,14 @@ extern "C" {
 #endif
 
 enum {
-    NRBPF_RAW_BUSY = 1,     /* another session held a place, and nothing is asked: call again */
-    NRBPF_RAW_AGAIN = 2,    /* an update is posted, once, and not answered: call again, and go on soon. The session may have taken other updates of its
-                             * node along: if its handle is given up, they are never answered */
+    NRBPF_RAW_BUSY = 1,     /* another session held a place, and nothing has happened: call again */
+    NRBPF_RAW_AGAIN = 2,    /* an update is posted, once, and not answered: call again soon. The session may have taken other updates of its node along:
+                             * if it is never called again, they are never answered */
     NRBPF_RAW_H1 = 'H' << 8 | 1, /* attach: no session of this node is free, or there is no such node */
-    NRBPF_RAW_H2,           /* the handle is not open: the opening was refused, or the session was not given; or the state's handle has none */
-    NRBPF_RAW_H3,           /* a read of any kind, a snapshot, or a detach, while an update is out */
+    NRBPF_RAW_H2,           /* the handle is not open: the opening or the attach was refused, or the state's handle has no state */
+    NRBPF_RAW_H3,           /* a read of any kind, a snapshot, or a detach, while an update is posted */
     NRBPF_RAW_H4,           /* a text is not UTF-8: the manifest, a file, its name, the name of a program, or the text of a state */
-    NRBPF_RAW_H5,           /* a word is none of a call: `call` above 3, `mode` above 1, `length` above 192; read_each: more than 16 questions, or another
+    NRBPF_RAW_H5,           /* a word is no call's: `call` above 3, `mode` above 1, `length` above 192; read_each: more than 16 questions, or another
                              * number of replies */
     NRBPF_RAW_H6,           /* detach: the session's place is not empty here; close_into: a part of the store is elsewhere, and it is ended */
     NRBPF_RAW_H9 = 'H' << 8 | 9 /* snapshot: the state has other maps, or another number of places for programs, than the store */
@@ -44,17 +43,17 @@ enum {
 
 struct nrbpf_raw_bytes { const uint8_t *at; size_t length; };
 
-/* A program file of the manifest: the name that stands there, and its text, hexadecimal digits. */
+/* A program file: its name as the manifest has it, and its text, hexadecimal digits. */
 struct nrbpf_raw_file { struct nrbpf_raw_bytes name, text; };
 
-/* How large the maps of a manifest may be: the most bytes of a key and of a value, entries of a map, and bytes of all maps. O1 where one is above the
- * widest. */
+/* How large the maps of a manifest may be: the most bytes of a key and of a value, entries of a map, and bytes of all maps. O1 if one is above the widest,
+ * or `key` below 4. */
 struct nrbpf_raw_limits { uint32_t key, value, entries; uint64_t bytes; };
 
 struct nrbpf_raw_opening {
     struct nrbpf_raw_bytes manifest;
     const struct nrbpf_raw_file *files; size_t count;
-    uint32_t nodes, slots, window, limit, spare;    /* as O1 has their limits; limit 0 is no end */
+    uint32_t nodes, slots, window, limit, spare;    /* O1 has their limits; a limit of 0 is none */
     struct nrbpf_raw_limits limits;
 };
 
@@ -71,9 +70,9 @@ struct nrbpf_raw_store {
     uint8_t name[32];
     /* answered */
     uint64_t status;        /* by each call */
-    uint64_t line;          /* by open: the manifest's line that is to blame, from 1; 0 where none is */
-    uint64_t inner;         /* by open: a refusal as status has them, of the letter D with C3, of V with C4; else 0 */
-    uint64_t slot;          /* by open: the instruction that is to blame, where inner isn't 0 */
+    uint64_t line;          /* by open: the line of the manifest that is refused, from 1, or 0 */
+    uint64_t inner;         /* by open: a refusal in the form of a status, of the letter D with C3, of V with C4; else 0 */
+    uint64_t slot;          /* by open: the slot that is refused, if inner isn't 0 */
     uint64_t number;        /* by number */
 };
 
@@ -87,8 +86,8 @@ struct nrbpf_raw_session {
     uint64_t own[2];
     /* asked, by nrbpf_raw_call alone; the other calls leave these words as they are */
     uint64_t call;          /* NRBPF_RAW_UPDATE, .. */
-    uint16_t program;       /* update, read: the program's number. install within: the maps that the new program may name, bit m for map m: one that
-                             * names another is refused with S8 and V16 */
+    uint16_t program;       /* update, read: the program's number. install within: the maps that the new program may name, bit m for map m. If it names
+                             * another, S8 with V16 */
     uint64_t mode;          /* both installs: 0 for a program that updates, 1 for one that reads */
     uint64_t argument;      /* both installs: how many bytes the program's arguments have */
     uint64_t length;        /* how many bytes count, of the argument, or of the program that is installed; H5 above 192 */
@@ -96,29 +95,29 @@ struct nrbpf_raw_session {
     /* answered */
     uint64_t status;
     uint64_t inner;         /* with S7 a refusal of the letter D, with S8 of the letter V; else 0 */
-    uint64_t slot;          /* the instruction that is to blame, where inner isn't 0. read_each: with S1 to S3 the number of the question, from 0. Else 0 */
-    uint64_t point;         /* update, both installs: the index in the history, from 0. All others: how many operations of the history were seen */
-    uint64_t reply;         /* what the program replied there; of an install the number of the program, or 2^64 - 7 where each place is taken */
-    uint64_t count;         /* scan: how many entries were given. get: 1 where the key stands there, 0 where it doesn't */
-    uint64_t next;          /* scan: the place to go on from, below 2^32; NRBPF_RAW_END where it came to the end of the map */
+    uint64_t slot;          /* the slot that is refused, if inner isn't 0. read_each: with S1 to S3 the number of the question, from 0. Else 0 */
+    uint64_t point;         /* update, both installs: the index in the history, from 0. All others: how many updates they have seen */
+    uint64_t reply;         /* what the program replied; of an install the number of the program, or 2^64 - 7 if each place is taken */
+    uint64_t count;         /* scan: how many entries were given. get: 1 if the key is there, else 0 */
+    uint64_t next;          /* scan: the place from which to continue, below 2^32, or NRBPF_RAW_END at the end of the map */
 };
 
-/* ---- a state's handle: of the size that nrbpf_raw_state_size tells; what stands behind these words is not for the host */
+/* ---- a state's handle: its size is that of nrbpf_raw_state_size; what comes after these words is not for the host */
 
 struct nrbpf_raw_state {
     /* answered, by whoever wrote the handle */
-    uint64_t status;        /* 0 where the handle has a state */
-    uint64_t line;          /* by load: with C1 to C6 the manifest's line that is to blame, with E1 to E9 the text's, from 1; else 0 */
+    uint64_t status;        /* 0 if the handle has a state */
+    uint64_t line;          /* by load: the line that is refused, from 1: with C1 to C6 of the manifest, with E1 to E9 of the text; else 0 */
     uint64_t inner;         /* by load: a refusal of the letter D with C3 or E8, of V with C4 or E8; else 0 */
-    uint64_t slot;          /* by load: the instruction that is to blame, where inner is not 0 */
+    uint64_t slot;          /* by load: the slot that is refused, if inner is not 0 */
 };
 
-/* ---- a text's handle: of the size that nrbpf_raw_text_size tells; what stands behind these words is not for the host */
+/* ---- a text's handle: its size is that of nrbpf_raw_text_size; what comes after these words is not for the host */
 
 struct nrbpf_raw_text {
     /* answered, by dump */
-    uint64_t status;        /* 0 where the handle has a text */
-    uint64_t length;        /* how many bytes it has; 0 where there is none */
+    uint64_t status;        /* 0 if the handle has a text */
+    uint64_t length;        /* how many bytes it has; 0 if there is no text */
 };
 
 /* ---- the functions */
@@ -129,72 +128,72 @@ size_t nrbpf_raw_session_size(void);
 size_t nrbpf_raw_state_size(void);          /* how many bytes a state's handle has, a multiple of 8 */
 size_t nrbpf_raw_text_size(void);           /* how many bytes a text's handle has, a multiple of 8 */
 
-/* Opens a store, and writes its handle into the room at `at`. Statuses: 0, H4, C1 to C6, O1, O2. Where it is refused the handle is closed:
- * each call answers H2, and its memory is as good as room. */
+/* Opens a store, and writes its handle into the room at `at`. Statuses: 0, H4, C1 to C6, O1, O2. If it is refused, the handle is closed: each call answers
+ * H2, and its memory is as good as room. */
 void nrbpf_raw_open(const struct nrbpf_raw_opening *opening, struct nrbpf_raw_store *at);
 
-/* The same on the state of a handle, which stays what it is; on a new one where the handle has none. O3 besides. */
+/* As nrbpf_raw_open, but on the state of a handle, which stays as it is. If the handle has no state, on a new one. Also O3. */
 void nrbpf_raw_open_on(const struct nrbpf_raw_opening *opening, struct nrbpf_raw_state *state, struct nrbpf_raw_store *at);
 
 /* Writes the number of the program that has this name. Statuses: 0, S1, H2, H4. */
 void nrbpf_raw_number(struct nrbpf_raw_store *at);
 
-/* Gives a session of the node that the store's word `node` names, and writes its handle into the room at `session`. The status stands in both
- * handles: 0, H1, H2. Where it is refused the session's handle is closed. */
+/* Gives a session of the node that the store's word `node` names, and writes its handle into the room at `session`. Both handles get the status: 0, H1,
+ * H2. If it is refused, the session's handle is closed. */
 void nrbpf_raw_attach(struct nrbpf_raw_store *at, struct nrbpf_raw_session *session);
 
-/* Takes a session back into the store that it was attached to; then its handle is closed, and its memory is as good as room. The status stands in the
- * store's handle: 0, H2, and H3 where an update of the session is out or H6 where its place is not empty here: then the session is as it was. Sessions
- * are told by their places alone, so a session of another store is the host's mistake, which H6 need not notice. */
+/* Takes a session back into the store that it was attached to. Then its handle is closed, and its memory is as good as room. The store's handle gets the
+ * status: 0, H2, H3 if an update of the session is posted, H6 if its place is not empty here. With H3 and H6 the session is as it was. A session is known
+ * by its place alone. So a session of another store is the host's mistake, which H6 need not notice. */
 void nrbpf_raw_detach(struct nrbpf_raw_store *at, struct nrbpf_raw_session *session);
 
-/* Ends the store; then its handle is closed, and its memory is as good as room. Statuses: 0, H2, and S5 where a session is attached: then nothing has changed. */
+/* Ends the store. Then its handle is closed, and its memory is as good as room. Statuses: 0, H2, and S5 if a session is attached. With S5 nothing changes. */
 void nrbpf_raw_close(struct nrbpf_raw_store *at);
 
-/* Ends a store to which none but its own sessions came back, and writes the handle of the state that it ends in into the room at `state`; then the
- * store's handle is closed, and as good as room. With any status but 0 the state's handle has none, and its memory is as good as room. The status stands in
- * both handles: 0, H2, S5 where a session is attached and O2 where there is no memory, and then nothing has changed; and H6, with which the store is
- * ended: a part of it was elsewhere. */
+/* Ends a store to which only its own sessions came back, and writes the handle of its last state into the room at `state`. Then the store's handle is
+ * closed, and as good as room. With any other status than 0 the state's handle has no state, and its memory is as good as room. Both handles get the
+ * status: 0, H2, S5 if a session is attached, O2 if there is no memory, H6 if a part of the store is elsewhere. S5 and O2 change nothing. H6 ends the store. */
 void nrbpf_raw_close_into(struct nrbpf_raw_store *at, struct nrbpf_raw_state *state);
 
-/* Makes room for the states of a store, a new state with its maps and places, and writes its handle into the room at `state`. With any status but 0 the
- * state's handle has none, and its memory is as good as room. The status stands in both handles: 0, H2, O2. */
+/* Makes a new state with the store's maps and places, for its snapshots, and writes its handle into the room at `state`. With any other status than 0 the
+ * state's handle has no state, and its memory is as good as room. Both handles get the status: 0, H2, O2. */
 void nrbpf_raw_new_state(struct nrbpf_raw_store *at, struct nrbpf_raw_state *state);
 
-/* Gives a state up; then its handle is room. */
+/* Ends a state. Then its handle is room. */
 void nrbpf_raw_drop_state(struct nrbpf_raw_state *at);
 
-/* Makes the call that the session's words ask for. An update or an install posts where no update is out, and else goes on with the one that is,
- * whatever operation its words name. Statuses: 0, BUSY, AGAIN, S1 to S4, S6 to S8, H2, H3, H5. */
+/* Makes the call that the session's words ask for. An update or an install posts if none is posted. Else it continues the posted one, whatever operation
+ * its words name. Statuses: 0, BUSY, AGAIN, S1 to S4, S6 to S8, H2, H3, H5. */
 void nrbpf_raw_call(struct nrbpf_raw_session *session);
 
-/* The calls below look at the maps of the session's node, once these have seen everything that was completed when the call began. They ask nothing of the
- * session's words, and answer there. */
+/* The calls below read the maps of the session's node, after these have seen everything that was completed when the call began. They don't use the words
+ * under "asked", and answer in the others. */
 
-/* Gives the value under a key of a map: into `value`, which has as many bytes as the map's values, where the key stands there (count 1); else `value` stays
- * as it was (count 0). Of an array the key is the index, 4 bytes, the low one first. Statuses: 0, BUSY, S9, S11, S12, H2, H3. */
+/* Gives the value of a key of a map. If the key is there, count is 1, and `value` gets as many bytes as the map's values have. Else count is 0, and `value`
+ * stays as it was. An array's key is the index, 4 bytes, the low one first. Statuses: 0, BUSY, S9, S11, S12, H2, H3. */
 void nrbpf_raw_get(struct nrbpf_raw_session *session, uint32_t map, const uint8_t *key, size_t key_length, uint8_t *value, size_t value_length);
 
-/* Gives entries of a map from a place on, keys one behind another and values alike, as many as both rooms hold. Looks at no more than 1,024 places of the
- * map, and 16 more for each entry that there is room for. Statuses: 0, BUSY, S9, S10, H2, H3. */
+/* Gives entries of a map from a place on, keys one after another and values likewise, as many as both rooms hold. Reads at most 1,024 places of the map,
+ * and 16 more for each entry that there is room for. Statuses: 0, BUSY, S9, S10, H2, H3. */
 void nrbpf_raw_scan(struct nrbpf_raw_session *session, uint32_t map, uint32_t from, uint8_t *keys, size_t keys_room, uint8_t *values, size_t values_room);
 
-/* Answers up to 16 questions at one point, each in `replies` at its number; there are as many replies as questions. With none it only brings the maps of
- * the session's node up to that point. Statuses: 0, BUSY, S1 to S3 of the first question that is refused, whose number is in slot, H2, H3, H5. */
+/* Answers up to 16 questions at one point, each in `replies` at its number. There are as many replies as questions. Without any it only brings the maps of
+ * the session's node up to that point. Statuses: 0, BUSY, H2, H3, H5, and S1 to S3 of the first question that is refused: its number is in slot. */
 void nrbpf_raw_read_each(struct nrbpf_raw_session *session, const struct nrbpf_raw_question *questions, size_t count, uint64_t *replies, size_t room);
 
-/* Makes a state the store's at one point of the history. The status stands in the session's handle: 0, BUSY, H3, H9, H2 where the session's handle is not
- * open or the state's has none; with any but 0 the state is as it was. The words of the state's handle stay. */
+/* Copies the store's state at one point of the history. The session's handle gets the status: 0, BUSY, H3, H9, and H2 if the session's handle is not open or
+ * the state's has no state. With any other status than 0 the state is as it was. The words of the state's handle stay. */
 void nrbpf_raw_snapshot(struct nrbpf_raw_session *session, struct nrbpf_raw_state *state);
 
-/* Writes a state as the text that `nrbpf --dump` writes, and its handle into the room at `text`. The state stays what it is. Statuses, in the text's handle: 0,
- * H2 where the state's handle has none, E0 where there is no memory: then the text's handle has none, and its memory is as good as room. */
+/* Makes the text of a state, as `nrbpf run --dump` writes it, and writes the text's handle into the room at `text`. The state stays as it is. The text's
+ * handle gets the status: 0, H2 if the state's handle has no state, E0 if there is no memory. With H2 and E0 it has no text, and its memory is as good as
+ * room. */
 void nrbpf_raw_dump(struct nrbpf_raw_state *state, struct nrbpf_raw_text *text);
 
-/* Copies bytes of a text from its byte `from` on, as many as there are and `out` has room for, and returns how many; the others of `out` stay as they were. */
+/* Copies bytes of a text from its byte `from` on, as many as there are and `out` has room for, and returns how many. The rest of `out` stays as it was. */
 size_t nrbpf_raw_part(struct nrbpf_raw_text *text, uint64_t from, uint8_t *out, size_t room);
 
-/* Gives a text up; then its handle is room. */
+/* Ends a text. Then its handle is room. */
 void nrbpf_raw_drop_text(struct nrbpf_raw_text *at);
 
 /* Loads the state that a text describes, for stores of the opening's manifest with `spare` places, and writes its handle into the room at `state`. Of the
