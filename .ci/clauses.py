@@ -1,6 +1,6 @@
 """Reads the repository as a graph: which definitions of specs/ each public call, each type and each definition cites.
 
-It goes by the layout of `rt fmt`, and reads names as the two languages do: what `use` and `ghost use` bring in, what a file declares, and
+It relies on the layout of `rt fmt`, and reads names as the two languages do: what `use` and `ghost use` bring in, what a file declares, and
 what a binder hides. Proofs and bodies are not read.
 """
 
