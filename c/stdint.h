@@ -1,4 +1,4 @@
-/* The types of <stdint.h> as programs have them. clang may bring no <stdint.h> for them (the kit's doesn't), and c2hex names this folder. */
+/* The types of <stdint.h> as programs have them. Some clangs have no <stdint.h> for them (the kit's hasn't), so c2hex names this folder. */
 #ifndef NRBPF_STDINT_H
 #define NRBPF_STDINT_H
 

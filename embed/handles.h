@@ -1,4 +1,4 @@
-// handles.h: what lies at the handles of nrbpf.h, for nrbpf.c, calls.c and states.c. No host includes it.
+// handles.h: what is at the handles of nrbpf.h, for nrbpf.c, calls.c and states.c. No host includes it.
 #ifndef NRBPF_HANDLES_H
 #define NRBPF_HANDLES_H
 
@@ -10,12 +10,12 @@
 enum { MOST_SESSIONS = 128, TURNS = 512 };
 
 // A place for a session. Its sessions come one after another, and each has a handle of its own: the
-// address of the place, in whose low bits is the session's turn. No code reads through a handle.
-// So the handle of a session that is detached is found to be none, also once the place has another
-// session: a handle comes again after TURNS turns.
+// address of the place, with the session's turn in its low bits. No code reads through a handle.
+// So the handle of a detached session is found to be none, also after the place has another session.
+// A handle comes again after TURNS turns.
 struct place {
     alignas(TURNS) nrbpf_session *handle;       // of the session that is attached, or null
-    int is_posted;                              // whether nrbpf_poll has an update or an install to go on with
+    int is_posted;                              // whether nrbpf_poll has an update or an install to continue
     uint32_t turn;                              // of the session that is attached, or else of the next one
     nrbpf_store *of;
     struct nrbpf_raw_session raw;
@@ -36,7 +36,7 @@ static inline struct place *place_of(const nrbpf_session *session) {
     return (struct place *)((uintptr_t)session & ~(uintptr_t)(TURNS - 1));
 }
 
-// A state's handle is the raw one, which no call changes that is not said to.
+// A state's handle is the raw one. Only the calls that say so change it.
 static inline struct nrbpf_raw_state *raw_state_of(const nrbpf_state *state) {
     return (struct nrbpf_raw_state *)state;
 }

@@ -1,4 +1,4 @@
-// fixture.h: the store that the hosts in C open, the counter of examples/counter, and what they say where an expectation fails.
+// fixture.h: the store that the hosts in C open, the counter of examples/counter, and what they say if an expectation fails.
 // A host runs in the top folder of the repository.
 #ifndef FIXTURE_H
 #define FIXTURE_H
@@ -8,7 +8,7 @@
 #include <stdlib.h>
 #include <string.h>
 
-// Ends the host where this is not so.
+// Ends the host if this is not so.
 #define EXPECT(holds)                                                           \
     do {                                                                        \
         if (!(holds)) {                                                         \
@@ -17,7 +17,7 @@
         }                                                                       \
     } while (0)
 
-// Ends the host where a call answers another status than this.
+// Ends the host if a call answers another status than this.
 #define EXPECT_STATUS(call, wanted) expect_status(__FILE__, __LINE__, #call, call, wanted)
 
 static inline void expect_status(const char *file, int line, const char *call, nrbpf_status status, nrbpf_status wanted) {
@@ -26,7 +26,7 @@ static inline void expect_status(const char *file, int line, const char *call, n
     exit(1);
 }
 
-// A file as it stands, with a zero behind it. Never given back: a host opens few.
+// A file as it is, with a zero after it. Never given back: a host opens few.
 static inline char *text_of(const char *path) {
     enum { MOST = 65536 };
     FILE *file = fopen(path, "rb");
@@ -80,7 +80,7 @@ static inline nrbpf_session *attached(nrbpf_store *store, uint32_t node) {
     return session;
 }
 
-// What a state is dumped into: a text with a zero behind it.
+// What a state is dumped into: a text with a zero after it.
 typedef struct dump {
     char text[65536];
     size_t len;

@@ -29,7 +29,7 @@ typedef struct handle {
     uint32_t node;
 } handle;
 
-typedef struct kept {                           // a state, if there is one, and what stands in it
+typedef struct kept {                           // a state, if there is one, and what is in it
     nrbpf_state *at;
     uint32_t spare;
     model holds;
@@ -38,7 +38,7 @@ typedef struct kept {                           // a state, if there is one, and
 static nrbpf_store *store;
 static nrbpf_config config;
 static model now;
-static uint64_t point;                          // how many updates there are; beside a thread, how many at least
+static uint64_t point;                          // how many updates there are; next to a thread, how many at least
 static handle handles[MOST_HANDLES];
 static uint32_t handle_count;
 static kept states[STATES];
@@ -93,7 +93,7 @@ static uint32_t count_attached(uint32_t node) {
     return count;
 }
 
-// No handle comes again while there are so few. Where there is no room left, one that is detached is forgotten.
+// No handle comes again while there are so few. If there is no room left, one that is detached is forgotten.
 static void note_handle(nrbpf_session *at, uint32_t node) {
     for (uint32_t i = 0; i < handle_count; i++) EXPECT(handles[i].at != at);
     uint32_t free = handle_count;

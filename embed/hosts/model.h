@@ -34,7 +34,7 @@ typedef struct model {
     installed programs[MOST_SPARE];
 } model;
 
-// The program files, of which the counter's name map 1 in place of map 0.
+// The program files. Those of the counter name map 1 instead of map 0.
 static inline nrbpf_file counter_file(const char *name, const char *path) {
     char *text = text_of(path), *at = strstr(text, "1851000000000000");
     EXPECT(at);
