@@ -28,6 +28,7 @@ pub mod Trying
 pub mod Whole
 pub mod Looking
 pub mod Updating
+pub mod Visits
 -- A replica that is held and has come up.
 pub mod Ready
 -- A post and a turn, or answers and a turn, in one hold of a desk.
