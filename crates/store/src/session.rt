@@ -1,6 +1,7 @@
 // A session's calls.
 
 ghost use Rattle.std.specs.Prelude.{◌≡◌, [], ◌∷◌, true, length, None, Some, Err, ◌≤◌, IfErr, IfOk};
+ghost use Rattle.maps.specs.Maps.{AreBytes};
 ghost use Rattle.verifier.specs.declared.refusal.Mode.TheVariants.{Update, Read};
 ghost use Rattle.replica.specs.StoreMeaning.{is_operation};
 ghost use Rattle.replica.specs.declared.refusals.StoreRefused.{StoreRefused};
@@ -12,6 +13,7 @@ ghost use Rattle.store_steps.specs.Questions.{first_refused};
 ghost use Rattle.loader.specs.CatalogueView.{sizes_for};
 ghost use Rattle.loader.specs.StoreState.{sizes_of};
 ghost use Rattle.store.specs.Looks.{GoesToSee, HasPage, HasReply, HasValue, HaveReplies, IsAsSeen, IsRefused, IsSight, IsTaken, MayGet, MayRead, MayReadEach, MayScan, TellsSight, key_refused, scan_refused};
+ghost use Rattle.store_steps.specs.Asking.{asked_op};
 ghost use Rattle.store_steps.specs.Views.{IsIdle, op_of, session_view};
 ghost use Rattle.store.specs.Sessions.{IsOf, SessionGoesOn, TellsUpdate, HasRoom, MayUpdate, known_of, install_of, install_refused};
 
@@ -169,12 +171,14 @@ impl Session {
         self.combining.batches
     }
 
-    // Has an update performed that is not refused, as the next operation of the history.
+    // Has an update performed that is not refused, as the next operation of the history. By six takes: it posts, and then completes. Or by four
+    // (`at_once`): it posts and claims in one hold of the desk, and answers its batch and collects in another.
     pub(crate) fn perform<R: Wait>(
         &mut self,
         rt: &R,
         store: &Store,
         asked: Asked<'_>,
+        at_once: bool,
     ) -> Result<Answer, StoreRefused>
         requires own { IsOf store.now self.old }
         requires fits { FitsCall asked }
@@ -189,33 +193,39 @@ impl Session {
             caller: self.caller,
         };
         write(&mut self.op, asked);
+        if at_once {
+            let given = ask_at_once(rt, here, &mut self.seat, &self.op, &mut self.combining);
+            return answer_of(given);
+        }
         post(rt, here, &mut self.seat, &self.op);
         let reply = complete(rt, here, &mut self.seat, &mut self.combining);
         answer_of(reply)
     }
 
-    // The same by four takes: it posts and claims in one hold of the desk, and answers its batch and collects in another.
-    fn perform_at_once<R: Wait>(
+    // Has an update program run that is not refused, by six takes or by four.
+    fn call<R: Wait>(
         &mut self,
         rt: &R,
         store: &Store,
-        asked: Asked<'_>,
+        question: Question<'_>,
+        at_once: bool,
     ) -> Result<Answer, StoreRefused>
         requires own { IsOf store.now self.old }
-        requires fits { FitsCall asked }
-        requires update { is_operation Update store.now.catalogue (operation_of asked) ≡ true }
+        requires bytes { AreBytes question.argument.now }
         ensures session { SessionGoesOn store.now self.old self.new }
-        ensures answered { TellsUpdate self.old self.new (operation_of asked.entry) result }
-        ensures goes { UpdateGoes self.old self.new (operation_of asked.entry) result }
+        ensures early { IsRefused (early_refusal store.now.catalogue Update question.entry.program question.entry.argument.now) result (self.new ≡ self.old) }
+        ensures answered { MayUpdate store.now question.entry.program question.entry.argument.now → TellsUpdate self.old self.new (asked_op question.entry) result }
+        ensures goes { MayUpdate store.now question.entry.program question.entry.argument.now → UpdateGoes self.old self.new (asked_op question.entry) result }
     {
-        let shared = store.shared();
-        let here = Here {
-            shared,
-            caller: self.caller,
-        };
-        write(&mut self.op, asked);
-        let given = ask_at_once(rt, here, &mut self.seat, &self.op, &mut self.combining);
-        answer_of(given)
+        // This opens the session's invariant for the proof: a refused call uses no other part of the session.
+        let _seat = &self.seat;
+        check_call(
+            store.catalogue(),
+            Mode::Update,
+            question.program,
+            question.argument,
+        )?;
+        self.perform(rt, store, Asked::Call(question), at_once)
     }
 
     /// Runs an update program of the store on its argument, as the next operation of the history. A number behind the catalogue's programs
@@ -256,11 +266,7 @@ impl Session {
         ensures answered { MayUpdate store.now program argument.now → TellsUpdate self.old self.new (op_of program argument.now) result }
         ensures goes { MayUpdate store.now program argument.now → UpdateGoes self.old self.new (op_of program argument.now) result }
     {
-        // This opens the session's invariant for the proof: a refused call uses no other part of the session.
-        let _seat = &self.seat;
-        check_call(store.catalogue(), Mode::Update, program, argument)?;
-        let question = Question { program, argument };
-        self.perform(rt, store, Asked::Call(question))
+        self.call(rt, store, Question { program, argument }, false)
     }
 
     /// Runs an update program as [`invoke`](Session::invoke) does, with four takes where `invoke` has six: where nobody else combines, it takes the desk
@@ -300,11 +306,7 @@ impl Session {
         ensures answered { MayUpdate store.now program argument.now → TellsUpdate self.old self.new (op_of program argument.now) result }
         ensures goes { MayUpdate store.now program argument.now → UpdateGoes self.old self.new (op_of program argument.now) result }
     {
-        // This opens the session's invariant for the proof: a refused call uses no other part of the session.
-        let _seat = &self.seat;
-        check_call(store.catalogue(), Mode::Update, program, argument)?;
-        let question = Question { program, argument };
-        self.perform_at_once(rt, store, Asked::Call(question))
+        self.call(rt, store, Question { program, argument }, true)
     }
 
     /// Installs a program in the store, as the next operation of the history: its instructions as bytes, for arguments of `arg_len` bytes. The
@@ -351,7 +353,7 @@ impl Session {
     {
         check_install(&mut self.room, mode, arg_len as u64, bytes)?;
         let program = NewProgram::new(mode, arg_len, bytes);
-        self.perform(rt, store, Asked::New(&program))
+        self.perform(rt, store, Asked::New(&program), false)
     }
 
     // Looks at the replica of the session's node, once the replica has everything that was completed when the call began.

@@ -137,7 +137,7 @@ impl Session {
     {
         check_within(&mut self.room, wanted)?;
         let program = NewProgram::new(wanted.mode, wanted.arg_len, wanted.bytes);
-        self.perform(rt, store, Asked::New(&program))
+        self.perform(rt, store, Asked::New(&program), false)
     }
 }
 
