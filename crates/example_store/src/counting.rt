@@ -10,9 +10,9 @@ use store::{
     Answer, Catalogue, ENDLESS, ReadAnswer, Session, Sizes, Store, StoreRefused, load_manifest,
 };
 
-// What the store's session is told, call by call.
+// The answers that the store's session gets, call by call.
 #[derive(Drop)]
-struct Told {
+struct Answers {
     first: Result<Answer, StoreRefused>,
     second: Result<Answer, StoreRefused>,
     seen: Result<ReadAnswer, StoreRefused>,
@@ -25,7 +25,7 @@ fn catalogue(alloc: Global) -> Option<Catalogue> {
 }
 
 // Counts twice and reads; then calls with an argument that is too short, which changes nothing.
-fn count<R: Wait>(rt: &R, store: &Store, session: &mut Session, bump: u16, peek: u16) -> Told
+fn count<R: Wait>(rt: &R, store: &Store, session: &mut Session, bump: u16, peek: u16) -> Answers
     requires own { IsOf store.now session.old }
     ensures own { IsOf store.now session.new }
 {
@@ -33,7 +33,7 @@ fn count<R: Wait>(rt: &R, store: &Store, session: &mut Session, bump: u16, peek:
     let second = session.invoke(rt, store, bump, &KEY);
     let seen = session.read(rt, store, peek, &KEY);
     let short = session.invoke(rt, store, bump, &[7]);
-    Told {
+    Answers {
         first,
         second,
         seen,
@@ -41,8 +41,8 @@ fn count<R: Wait>(rt: &R, store: &Store, session: &mut Session, bump: u16, peek:
     }
 }
 
-// The whole life of a store: what its session was told, and how many updates its log has in the end.
-fn counted<R: Wait>(rt: &R, alloc: Global) -> Option<(Told, u64)> {
+// The whole life of a store: the answers that its session got, and how many updates its log has in the end.
+fn counted<R: Wait>(rt: &R, alloc: Global) -> Option<(Answers, u64)> {
     // 1. The catalogue, and the numbers of its programs.
     let catalogue = catalogue(alloc)?;
     let bump = catalogue.number("bump")?;

@@ -33,9 +33,9 @@ struct Counted {
     second: Result<Answer, StoreRefused>,
 }
 
-// What the session of a store is told.
+// The answers that the session of a store got.
 #[derive(Drop)]
-struct Told {
+struct Answers {
     counted: Counted,
     last: Result<Answer, StoreRefused>,
 }
@@ -75,19 +75,24 @@ fn run_first<R: Wait>(
     alloc: Global,
     catalogue: Catalogue,
     programs: Programs,
-) -> Option<(Told, Closed)> {
+) -> Option<(Answers, Closed)> {
     let (store, mut sessions) = Store::open(alloc, config(), catalogue).ok()?;
     let Some(mut session) = sessions.pop() else {
         unreachable!()
     };
     let counted = count(rt, &store, &mut session, programs);
     let last = session.install(rt, &store, Mode::Update, 0, &FIVE);
-    Some((Told { counted, last }, close(store, session, sessions)))
+    Some((Answers { counted, last }, close(store, session, sessions)))
 }
 
 // A store on the state that another ended in, with its catalogue, which isn't loaded and verified again: reads, counts twice, and
 // calls the program that was installed.
-fn run_second<R: Wait>(rt: &R, alloc: Global, ended: Closed, programs: Programs) -> Option<Told> {
+fn run_second<R: Wait>(
+    rt: &R,
+    alloc: Global,
+    ended: Closed,
+    programs: Programs,
+) -> Option<Answers> {
     let (state, catalogue) = ended.into_state();
     let (store, mut sessions) = Store::open_on(alloc, config(), catalogue, &state).ok()?;
     let Some(mut session) = sessions.pop() else {
@@ -96,11 +101,11 @@ fn run_second<R: Wait>(rt: &R, alloc: Global, ended: Closed, programs: Programs)
     let counted = count(rt, &store, &mut session, programs);
     let last = session.invoke(rt, &store, INSTALLED, &[]);
     let _closed = close(store, session, sessions);
-    Some(Told { counted, last })
+    Some(Answers { counted, last })
 }
 
-// Two stores, the second on the state that the first ends in: what the session of each was told.
-fn told_by_two<R: Wait>(rt: &R, alloc: Global) -> Option<[Told; 2]> {
+// Two stores, the second on the state that the first ends in: the answers that the session of each got.
+fn answers_of_two<R: Wait>(rt: &R, alloc: Global) -> Option<[Answers; 2]> {
     let catalogue = load_manifest(alloc, MANIFEST, &FILES).ok()?;
     let programs = Programs {
         bump: catalogue.number("bump")?,
@@ -112,7 +117,7 @@ fn told_by_two<R: Wait>(rt: &R, alloc: Global) -> Option<[Told; 2]> {
 
 /// Writes what the session of each store was told.
 pub fn tell<R: Print + Wait>(rt: &R, alloc: Global) -> io::Result<()> {
-    let Some(stores) = told_by_two(rt, alloc) else {
+    let Some(stores) = answers_of_two(rt, alloc) else {
         return println!(rt; "the store can't be opened");
     };
     for told in stores {

@@ -123,14 +123,14 @@ fn close(store: Store, sessions: Vec<Session>) -> Closed
 
 // What is known in the end: how many updates were answered right, what a read then sees, and how many updates the log has.
 #[derive(Drop)]
-struct Told {
+struct Totals {
     right: u64,
     seen: Result<ReadAnswer, StoreRefused>,
     updates: u64,
 }
 
 // The whole life of the store.
-fn counted<R: Threads + Wait + Sync>(rt: &R, alloc: Global) -> Option<Told> {
+fn counted<R: Threads + Wait + Sync>(rt: &R, alloc: Global) -> Option<Totals> {
     // 1. The catalogue, and the numbers of its programs.
     let catalogue = load_manifest(alloc, MANIFEST, &FILES).ok()?;
     let programs = Programs {
@@ -144,7 +144,7 @@ fn counted<R: Threads + Wait + Sync>(rt: &R, alloc: Global) -> Option<Told> {
     let seen = read_once(rt, &store, &mut sessions, programs);
     // 4. The end. The compiler sees that no session is lost.
     let closed = close(store, sessions);
-    Some(Told {
+    Some(Totals {
         right,
         seen,
         updates: closed.log().tail(),

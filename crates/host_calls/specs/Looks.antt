@@ -2,7 +2,7 @@
 use Rattle.std.specs.Prelude.{◌≡◌, ℕ, ◌≤◌, List, ◌∷◌, length, map as each, None, Some, Option, MatchOption, Result, Ok, Err, if◌then◌else◌}
 use Rattle.ownlock.specs.declared.known.ShelfStep.{ShelfStep}
 use Rattle.ownlock.specs.declared.known.ShelfStep.TheVariants.{Put}
-use Rattle.loader.specs.CatalogueView.{sizes_for}
+use Rattle.loader.specs.CatalogueView.{CatalogueView, sizes_for}
 use Rattle.loader.specs.StoreState.{StoreState, sizes_of}
 use Rattle.oplog.specs.Sessions.{IsSessionOf}
 use Rattle.replica.specs.Refusals.{store_fault_number}
@@ -14,14 +14,12 @@ use Rattle.store_steps.specs.declared.scanning.Scan.{Scan}
 use Rattle.store_steps.specs.declared.scanning.ScanRefused.{ScanRefused}
 use Rattle.store_steps.specs.declared.steps.Question.{Question}
 use Rattle.store_steps.specs.declared.values.Value.{Value}
-use Rattle.store_steps.specs.Getting.{GetTells, get_fault_number, get_refusal}
+use Rattle.store_steps.specs.Getting.{IsUnder, get_fault_number, get_refusal}
 use Rattle.store_steps.specs.Lending.{replica_of}
 use Rattle.store_steps.specs.Questions.{first_refused}
-use Rattle.store_steps.specs.Scanning.{ScanGives, scan_fault_number, scan_refusal}
-use Rattle.store_steps.specs.Snapshots.{SnapshotTells}
+use Rattle.store_steps.specs.Scanning.{GivesIn, scan_fault_number, scan_refusal}
 use Rattle.store_steps.specs.Views.{SessionView}
-use Rattle.store.specs.Looks.{AreAnswers}
-use Rattle.store.specs.Sessions.{IsFresh}
+use Rattle.store.specs.Looks.{HaveReplies, IsSight, IsTaken}
 use Rattle.host_calls.specs.declared.attached.Looked.{Looked}
 use Rattle.host_calls.specs.declared.attached.Looked.TheVariants.{Busy, Seen, Refused, NotOpen, IsOut, NoWord}
 use Rattle.host_calls.specs.declared.handles.Answered.{Answered}
@@ -63,7 +61,7 @@ seen_key found = Seen found.point (if found.found then 1 else 0) AT_END
 -- what stands under the key at a point that is not below what was completed when the session looked
 abbrev pub TellsKey : (map : ℕ) → (key before value : List ℕ) → (old new : SessionView) → Looked → Type 0
 TellsKey map key before value old new told =
-    (found : Lookup) × (told ≡ seen_key found) × IsFresh old new found.point × GetTells new.progress old.progress.completed map key before value found
+    (found : Lookup) × (told ≡ seen_key found) × IsSight (λ (f : Lookup) (c : CatalogueView) (state : StoreState). IsUnder state.maps map key before value f) (λ (f : Lookup). f.point) old new found
 
 abbrev pub TellsGot : (map : ℕ) → (key before value : List ℕ) → (old new : AttachedView) → Looked → Type 0
 TellsGot map key before value old new told =
@@ -85,8 +83,7 @@ seen_scan s = Seen s.point s.count (next_word s.next)
 -- a page of the map, from this place on, at such a point
 abbrev pub TellsPage : (map from : ℕ) → (keys keys' values values' : List ℕ) → (old new : SessionView) → Looked → Type 0
 TellsPage map from keys keys' values values' old new told =
-    (s : Scan) × (told ≡ seen_scan s) × IsFresh old new s.point
-    × ScanGives new.progress old.progress.completed map from (length keys) (length values) keys' values' s
+    (s : Scan) × (told ≡ seen_scan s) × IsSight (λ (s : Scan) (c : CatalogueView) (state : StoreState). GivesIn c state map from (length keys) (length values) keys' values' s) (λ (s : Scan). s.point) old new s
 
 abbrev pub TellsScanned : (map from : ℕ) → (keys keys' values values' : List ℕ) → (old new : AttachedView) → Looked → Type 0
 TellsScanned map from keys keys' values values' old new told =
@@ -126,7 +123,7 @@ pub record HasCaughtUp (old new : SessionView) (point : ℕ) : Type 0 where
 pub record TellsReplies (questions : List Question) (replies : List ℕ) (old new : SessionView) (told : Looked) : Type 0 where
   pub point : ℕ
   pub seen : told ≡ Seen point (length questions) AT_END
-  pub answers : AreAnswers old new questions replies point
+  pub answers : IsSight (HaveReplies questions replies) (λ point. point) old new point
   pub up : HasCaughtUp old new point
 
 abbrev pub TellsAnswers : List Question → (before replies : List ℕ) → (old new : AttachedView) → Looked → Type 0
@@ -147,7 +144,7 @@ pub record TellsMany (asked : List Asking) (before replies : List ℕ) (old new 
 
 -- the state at a point that is not below what was completed when the session looked
 abbrev pub TellsState : StoreState → (old new : SessionView) → Looked → Type 0
-TellsState left old new told = (point : ℕ) × (told ≡ Seen point 0 AT_END) × IsFresh old new point × SnapshotTells new.progress old.progress.completed point left
+TellsState left old new told = (point : ℕ) × (told ≡ Seen point 0 AT_END) × IsSight (IsTaken left) (λ point. point) old new point
 
 -- into a state of the store's sizes; one of others is refused
 pub record TellsTaken (state left : StoreState) (old new : AttachedView) (told : Looked) : Type 0 where

@@ -1,14 +1,15 @@
 -- What a session tells of an update or a read that is asked of it.
-use Rattle.std.specs.Prelude.{◌≡◌, ◌≤◌, length, Some, Ok, Option, MatchOption}
+use Rattle.std.specs.Prelude.{◌≡◌, ◌≤◌, length, Some, Option, MatchOption}
 use Rattle.oplog.specs.Operations.{Operation}
 use Rattle.combiner.specs.declared.slots.Reply.TheVariants.{Placed, Ended}
+use Rattle.readpath.specs.declared.reading.ReadAnswer.{ReadAnswer}
 use Rattle.replica.specs.StoreMeaning.{store_meaning}
 use Rattle.replica.specs.declared.refusals.StoreRefused.{StoreRefused}
 use Rattle.replica.specs.declared.refusals.StoreRefused.TheVariants.{Ended as TheEnd}
 use Rattle.accounts.specs.declared.sessions.Pending.{Pending}
 use Rattle.accounts.specs.Accounts.{Extends, IsWellFormed}
 use Rattle.store_steps.specs.Views.{SessionView}
-use Rattle.store.specs.Sessions.{BeginsWithin, TellsRead}
+use Rattle.store.specs.Looks.{IsSight, HasReply}
 use Rattle.store_steps.specs.Stages.{TellsDone}
 use Rattle.host_calls.specs.declared.attached.Told.{Told}
 use Rattle.host_calls.specs.declared.attached.Told.TheVariants.{Busy, Again, Answered, Refused, NotOpen, IsOut, NoWord}
@@ -50,7 +51,7 @@ TellsUpdate op refused old new told =
 -- a read that isn't refused: a place was held, or it has seen all that was completed when it began, and has the reply there
 abbrev pub TellsSeen : Operation → (old new : SessionView) → Told → Type 0
 TellsSeen op old new Busy = Unit {0}
-TellsSeen op old new (Answered point reply) = BeginsWithin old new (Ok (record { point = point; reply = reply })) × TellsRead old new op (Ok (record { point = point; reply = reply }))
+TellsSeen op old new (Answered point reply) = IsSight (HasReply op) (λ (a : ReadAnswer). a.point) old new (record { point = point; reply = reply })
 TellsSeen op old new told = ⊥
 
 -- a read alike: it is refused while an update is out, and what the session waits for stays what it was

@@ -31,8 +31,8 @@ fn push_session(place: Option<Box<Attached>>, sessions: &mut Vec<Session>)
     sessions.push_reserved(session);
 }
 
-// The sessions at the places, the last first.
-fn gathered(mut places: Vec<Option<Box<Attached>>>, mut sessions: Vec<Session>) -> Vec<Session>
+// Gathers the sessions at the places, the last first.
+fn gather(mut places: Vec<Option<Box<Attached>>>, mut sessions: Vec<Session>) -> Vec<Session>
     requires idle { All IsIdleSeat places.items }
     requires room { (sessions.items ≡ []) × (length places.items ≤ vec_capacity sessions) }
     ensures sessions { result.items ≡ sessions_back places.items }
@@ -44,14 +44,14 @@ fn gathered(mut places: Vec<Option<Box<Attached>>>, mut sessions: Vec<Session>) 
     sessions
 }
 
-// The state that the store of a pool ends in. `None` where another has a part of the store, and this one is given up.
-fn ended(pool: Pool, room: Vec<Session>) -> Option<StoreState>
+// Ends the store of a pool, and gives its last state. The answer is `None` if another has a part of the store; then this part is given up.
+fn end_store(pool: Pool, room: Vec<Session>) -> Option<StoreState>
     requires whole { list_all is_some pool.places.items ≡ true }
     requires room { (room.items ≡ []) × (length pool.places.items ≤ vec_capacity room) }
     ensures state { IfSome result (IsLastOf (arc_value pool.store) (sessions_back pool.places.items)) }
 {
     let (store, places) = pool.into_parts();
-    let sessions = gathered(places, room);
+    let sessions = gather(places, room);
     let Ok(store) = Arc::try_unwrap(store) else {
         let_go(sessions);
         return None;
@@ -83,7 +83,7 @@ pub fn closed_into(alloc: Global, handle: &mut StoreHandle) -> StateHandle
         handle.answered.status = NO_MEMORY;
         return StateHandle::new(None, StateAnswered::of(NO_MEMORY));
     };
-    let state = ended(Box::into_inner(pool), room);
+    let state = end_store(Box::into_inner(pool), room);
     let status = match &state {
         Some(_) => DONE,
         None => NOT_OURS,

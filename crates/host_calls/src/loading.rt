@@ -4,7 +4,7 @@ ghost use Rattle.std.specs.Prelude.{◌≡◌, MatchResult};
 ghost use Rattle.host_calls.specs.Loadings.{IsLoadReason, IsLoaded, IsStateOf, fault_inner, load_words, text_inner};
 
 use crate::handles::{Opening, StateAnswered, StateHandle};
-use crate::opening::{NotOpened, inner_of, loaded};
+use crate::opening::{NotOpened, inner_of, load_catalogue};
 use crate::statuses::{DONE, NO_TEXT, OUT_OF_LIMITS, refusal};
 use dumps::{DumpError, DumpFault, load};
 use loader::{InstallRefusal, LoadError, MOST_SPARE};
@@ -33,7 +33,7 @@ fn state_of(alloc: Global, opening: &Opening, text: &[u8]) -> Result<StoreState,
     let Ok(text) = str::from_utf8(text) else {
         return Err(NotLoaded::NoText);
     };
-    let catalogue = match loaded(alloc, opening) {
+    let catalogue = match load_catalogue(alloc, opening) {
         Ok(catalogue) => catalogue,
         Err(NotOpened::BadLimits) => return Err(NotLoaded::BadLimits),
         Err(NotOpened::NoText) => return Err(NotLoaded::NoText),
@@ -76,7 +76,7 @@ fn text_inner(error: DumpError) -> (u64, u64)
 }
 
 // What is answered where a text is not loaded.
-fn answered(why: NotLoaded) -> StateAnswered
+fn answer_for(why: NotLoaded) -> StateAnswered
     ensures words { result ≡ load_words why }
 {
     match why {
@@ -110,6 +110,6 @@ pub fn loaded_text(alloc: Global, opening: &Opening, text: &[u8]) -> StateHandle
 {
     match state_of(alloc, opening, text) {
         Ok(state) => StateHandle::new(Some(state), StateAnswered::of(DONE)),
-        Err(why) => StateHandle::new(None, answered(why)),
+        Err(why) => StateHandle::new(None, answer_for(why)),
     }
 }

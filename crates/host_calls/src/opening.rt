@@ -70,8 +70,8 @@ fn texts<'a>(
     Ok(Some(texts))
 }
 
-// The catalogue that the manifest says.
-pub(crate) fn loaded(alloc: Global, opening: &Opening) -> Result<Catalogue, NotOpened>
+// Loads the catalogue that the manifest says.
+pub(crate) fn load_catalogue(alloc: Global, opening: &Opening) -> Result<Catalogue, NotOpened>
     ensures texts { IfErr result IsOfTexts }
     ensures loaded { MatchResult result (Says opening.now) (λ why. (on : Option State) → IsReason opening.now on why) }
 {
@@ -121,7 +121,7 @@ fn store_on(
 }
 
 // The store of these texts, on this state or on a new one, and its sessions.
-fn opened_store(
+fn open_store(
     alloc: Global,
     opening: &Opening,
     state: Option<&StoreState>,
@@ -131,7 +131,7 @@ fn opened_store(
     ensures fresh { IfOk result (λ t. t.1.items ≡ fresh_of t.0 (length t.1.items)) }
     ensures count { IfOk result (λ t. length t.1.items ≡ sessions_of (sizes_asked opening.now)) }
 {
-    let catalogue = match loaded(alloc, opening) {
+    let catalogue = match load_catalogue(alloc, opening) {
         Ok(catalogue) => catalogue,
         Err(why) => return Err(why),
     };
@@ -167,8 +167,8 @@ fn empty_places(alloc: Global, count: usize) -> Result<Vec<Option<Box<Attached>>
     Ok(places)
 }
 
-// The session, at its place.
-fn seated(
+// Seats a session at its place.
+fn seat(
     alloc: Global,
     store: &Arc<Store, Global>,
     place: usize,
@@ -190,8 +190,8 @@ fn put(places: &mut Vec<Option<Box<Attached>>>, place: usize, attached: Box<Atta
     places[place] = Some(attached);
 }
 
-// A place for each session, with it there.
-fn pooled(
+// Makes a pool with a place for each session, and seats it there.
+fn make_pool(
     alloc: Global,
     store: Store,
     slots: usize,
@@ -214,7 +214,7 @@ fn pooled(
     };
     while let Some(session) = sessions.pop() {
         let place = sessions.len();
-        let Ok(attached) = seated(alloc, &store, place, session) else {
+        let Ok(attached) = seat(alloc, &store, place, session) else {
             let_go(sessions);
             return None;
         };
@@ -228,7 +228,7 @@ fn pooled(
 }
 
 // What is answered where a store is not opened.
-fn answered(why: NotOpened) -> StoreAnswered
+fn answer_for(why: NotOpened) -> StoreAnswered
     ensures words { result ≡ words_of why }
 {
     match why {
@@ -264,26 +264,26 @@ pub(crate) fn inner_of(error: LoadError) -> (u64, u64)
 pub fn opened(alloc: Global, opening: &Opening) -> StoreHandle
     ensures opened { IsOpened opening.now None result }
 {
-    opened_with(alloc, opening, None)
+    open_with(alloc, opening, None)
 }
 
 /// `opened`, but on the state of a handle, or on a new one if the handle has none.
 pub fn opened_on(alloc: Global, opening: &Opening, state: &mut StateHandle) -> StoreHandle
     ensures opened { (state.new ≡ state.old) × IsOpened opening.now state.old.own result }
 {
-    opened_with(alloc, opening, state.own.as_ref())
+    open_with(alloc, opening, state.own.as_ref())
 }
 
-fn opened_with(alloc: Global, opening: &Opening, state: Option<&StoreState>) -> StoreHandle
+fn open_with(alloc: Global, opening: &Opening, state: Option<&StoreState>) -> StoreHandle
     ensures opened { IsOpened opening.now (state_in state.entry) result }
 {
-    let (store, sessions) = match opened_store(alloc, opening, state) {
+    let (store, sessions) = match open_store(alloc, opening, state) {
         Ok(opened) => opened,
-        Err(why) => return StoreHandle::new(None, answered(why)),
+        Err(why) => return StoreHandle::new(None, answer_for(why)),
     };
-    let Some(pool) = pooled(alloc, store, opening.slots as usize, sessions) else {
+    let Some(pool) = make_pool(alloc, store, opening.slots as usize, sessions) else {
         let why = NotOpened::Opening(OpenError::NoMemory);
-        return StoreHandle::new(None, answered(why));
+        return StoreHandle::new(None, answer_for(why));
     };
     StoreHandle::new(Some(pool), StoreAnswered::of(DONE))
 }

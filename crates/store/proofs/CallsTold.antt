@@ -1,7 +1,6 @@
 -- What a session's calls say of an answer may be told.
-use Rattle.std.proofs.Common.{◌≡◌, ℕ, List, [], ◌∷◌, ◌++◌, Option, Result, Ok, Err, Some, None, inl, refl, inr, sym, ap, ◌∙◌, subst}
+use Rattle.std.proofs.Common.{◌≡◌, [], ◌∷◌, ◌++◌, Option, Result, Ok, Err, Some, None, inl, refl, inr, sym, ap, ◌∙◌, subst}
 use Rattle.std.proofs.lemmas.Option.{none-some}
-use Rattle.maps.specs.Maps.{AreBytes}
 use Rattle.ownlock.specs.Seats.{Continues}
 use Rattle.ownlock.proofs.Export.{continues_on, continues_self}
 use Rattle.verifier.specs.declared.refusal.Mode.TheVariants.{Read}
@@ -9,7 +8,6 @@ use Rattle.loader.specs.CatalogueView.{CatalogueView}
 use Rattle.oplog.specs.Operations.{Operation}
 use Rattle.combiner.specs.declared.slots.Reply.{Reply}
 use Rattle.combiner.specs.declared.slots.Reply.TheVariants.{Ended, Placed}
-use Rattle.readpath.specs.declared.reading.ReadAnswer.{ReadAnswer}
 use Rattle.replica.specs.Refusals.{early_refusal}
 use Rattle.replica.specs.declared.refusals.StoreRefused.{StoreRefused}
 use Rattle.accounts.specs.declared.sessions.Pending.{Pending}
@@ -20,11 +18,10 @@ use Rattle.store_steps.specs.declared.steps.Caller.{Caller}
 use Rattle.store_steps.specs.declared.deeds.Stage.TheVariants.{Asked, Claimed, Idle, Ready}
 use Rattle.store_steps.specs.Stages.{IsAsking}
 use Rattle.store_steps.specs.Updating.{Answers, Begins, ClaimsIt, Combines, DeedBy, Deeds, Gives, Looks, PostsBy, Rests as NoDeed, Rounds, Then, Tries, UpdatesBy, Waits}
-use Rattle.store_steps.specs.Views.{SessionView, first_in, op_of, session_view}
-use Rattle.store.specs.CallsTold.{Asks, ClosesTold, GoesOn, IsToldRead, IsUnderWay, PolledRest, PolledUpdatesAreTold, Posts, ReadsAreTold, Rests, SessionsRest, TriedReadsAreTold, UpdatesAreTold}
-use Rattle.store.specs.Going.{ReadGoes}
+use Rattle.store_steps.specs.Views.{SessionView, first_in, session_view}
+use Rattle.store.specs.CallsTold.{Asks, ClosesTold, GoesOn, IsUnderWay, PolledRest, PolledUpdatesAreTold, Posts, ReadsAreTold, Rests, SessionsRest, UpdatesAreTold}
 use Rattle.store.specs.Opening.{setup_of}
-use Rattle.store.specs.Sessions.{IsOf, StoreView, TellsRead, TellsUpdate, known_of, said}
+use Rattle.store.specs.Sessions.{TellsUpdate, known_of, said}
 use Rattle.store.specs.declared.answers.Answer.{Answer}
 use Rattle.store_laws.specs.CallsMade.{PollsBy, noted_with}
 use Rattle.store_laws.proofs.Export.{calls_are_explained}
@@ -33,9 +30,8 @@ pub sessions_rest : SessionsRest
 sessions_rest seat caller idle =
     (ap (λ ks. (first_in ks).note.pending) idle.is ∙ idle.pending, ap (λ ks. (first_in ks).note.batch) idle.is ∙ idle.batch)
 
-read_told : (store : StoreView) (old new : SessionView) (program : ℕ) (argument : List ℕ) (a : ReadAnswer) → IsOf store old → Rests old → AreBytes argument → early_refusal store.catalogue Read program argument ≡ None
-    → ReadGoes old new (op_of program argument) (Ok a) → TellsRead old new (op_of program argument) (Ok a) → IsToldRead old new program argument a
-read_told store old new program argument a of rests bytes free goes tells = (
+pub reads_are_told : ReadsAreTold
+reads_are_told store old new program argument a of rests bytes free goes tells = (
   record {
     idle = rests;
     bytes = bytes;
@@ -45,12 +41,6 @@ read_told store old new program argument a of rests bytes free goes tells = (
   },
   goes.0.did.goes_on,
 )
-
-pub reads_are_told : ReadsAreTold
-reads_are_told = read_told
-
-pub tried_reads_are_told : TriedReadsAreTold
-tried_reads_are_told store old new program argument a of rests bytes free goes tells = read_told store old new program argument a of rests bytes free goes tells.1
 
 rounds_go : (k m : SessionKnown) → Rounds k m → Continues k.run m.run
 rounds_go k m (Begins j) = continues_self k.run

@@ -1,5 +1,5 @@
 -- What a session was told that looked at its node's replica, as its user sees it; it is idle still.
-use Rattle.std.proofs.Common.{◌≡◌, ℕ, ◌+◌, ◌≤◌, None, Ok, Err, Result, MatchResult, ap, subst, sym, ◌∙◌}
+use Rattle.std.proofs.Common.{◌≡◌, ℕ, ◌+◌, ◌≤◌, None, ap, subst, sym, ◌∙◌}
 use Rattle.loader.specs.CatalogueView.{CatalogueView}
 use Rattle.loader.specs.StoreState.{StoreState}
 use Rattle.oplog.specs.declared.configuration.TheConstants.{MAX_NODES}
@@ -32,11 +32,6 @@ lent_to P x y e h = subst P e h
 
 pub lent_both : {A : Type 0} (P : A → A → Type 0) (x y z w : A) → x ≡ y → z ≡ w → P x z → P y w
 lent_both P x y z w e f h = subst (P y) f (subst (λ a. P a z) e h)
-
--- the second of two things that are told
-pub tells_of : {A E : Type 0} (P Q : A → Type 0) (result : Result A E) → MatchResult result (λ a. P a × Q a) (λ _. ⊥) → MatchResult result Q (λ _. ⊥)
-tells_of P Q (Ok a) t = t.1
-tells_of P Q (Err e) t = t
 
 pub idle_seen : (old new : StoreSeat) (caller : Caller) (i : IsIdle old caller) (m : SessionKnown) → IsSession new m → (point : ℕ) → HasSeen i.known m point → StaysIdle old new caller
 idle_seen old new caller i m is point r = stays_idle old new caller i m is r.session r.held r.note r.extends r.well_formed

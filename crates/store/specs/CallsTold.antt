@@ -1,27 +1,29 @@
 -- What the clauses of a session's calls say of an answer is what the list of its calls asks of a read or an update.
-use Rattle.std.specs.Prelude.{◌≡◌, ℕ, List, [], Some, None, Result, Ok}
+use Rattle.std.specs.Prelude.{◌≡◌, ℕ, List, [], Some, None, Result}
 use Rattle.maps.specs.Maps.{AreBytes}
 use Rattle.ownlock.specs.Seats.{Continues}
-use Rattle.verifier.specs.declared.refusal.Mode.TheVariants.{Read}
 use Rattle.oplog.specs.Operations.{Operation}
 use Rattle.combiner.specs.Desks.{BatchView}
 use Rattle.combiner.specs.declared.slots.Reply.{Reply}
 use Rattle.readpath.specs.declared.reading.ReadAnswer.{ReadAnswer}
-use Rattle.replica.specs.Refusals.{early_refusal}
+use Rattle.replica.specs.StoreMeaning.{store_meaning}
 use Rattle.replica.specs.Views.{RepliesView}
 use Rattle.replica.specs.declared.refusals.StoreRefused.{StoreRefused}
 use Rattle.accounts.specs.declared.sessions.Pending.{Pending}
+use Rattle.accounts.specs.Told.{ReadTells}
 use Rattle.store_steps.specs.Polling.{BeginsBy, HasAskedFor}
 use Rattle.store_steps.specs.Standing.{StoreSeat}
 use Rattle.store_steps.specs.Stages.{IsPolled}
 use Rattle.store_steps.specs.Updating.{PostsBy}
+use Rattle.store_steps.specs.Whole.{ReadsBy}
 use Rattle.store_steps.specs.Views.{IsIdle, SessionView, op_of, session_view}
 use Rattle.store_steps.specs.declared.deeds.Stage.{Stage}
 use Rattle.store_steps.specs.declared.steps.Caller.{Caller}
-use Rattle.store.specs.Going.{CompleteGoes, ReadGoes, TriedReadGoes, UpdateGoes}
+use Rattle.store.specs.Going.{CompleteGoes, UpdateGoes}
+use Rattle.store.specs.Looks.{MayRead}
 use Rattle.store.specs.Opening.{ClosedView, IsClosed, setup_of}
-use Rattle.store.specs.Polled.{HasPostedFor, TellsCompleted, TellsTriedRead}
-use Rattle.store.specs.Sessions.{IsOf, StoreView, TellsRead, TellsUpdate, known_of, said}
+use Rattle.store.specs.Polled.{HasPostedFor, TellsCompleted}
+use Rattle.store.specs.Sessions.{IsOf, StoreView, TellsUpdate, known_of, said}
 use Rattle.store.specs.declared.answers.Answer.{Answer}
 use Rattle.store_laws.specs.CallsMade.{ExplainsCalls, ToldOf, WasRead, WasUpdate}
 
@@ -43,19 +45,12 @@ PolledRest =
 abbrev pub IsToldRead : (old new : SessionView) → (program : ℕ) → List ℕ → ReadAnswer → Type 0
 IsToldRead old new program argument a = WasRead (known_of old) (known_of new) (record { program = program; argument = argument }) a × Continues old.run new.run
 
--- so may each read that gets an answer, by `goes` and `answered` of `Session::read`
+-- so may each read that gets an answer: `goes` and `told` of `Session::read` and of `Polled::try_read` unfold to these two of an answer
 abbrev pub ReadsAreTold : Type 0
 ReadsAreTold =
     (store : StoreView) (old new : SessionView) (program : ℕ) (argument : List ℕ) (a : ReadAnswer) → IsOf store old → Rests old → AreBytes argument
-    → early_refusal store.catalogue Read program argument ≡ None → ReadGoes old new (op_of program argument) (Ok a)
-    → TellsRead old new (op_of program argument) (Ok a) → IsToldRead old new program argument a
-
--- and each `Polled::try_read` that gets one
-abbrev pub TriedReadsAreTold : Type 0
-TriedReadsAreTold =
-    (store : StoreView) (old new : SessionView) (program : ℕ) (argument : List ℕ) (a : ReadAnswer) → IsOf store old → Rests old → AreBytes argument
-    → early_refusal store.catalogue Read program argument ≡ None → TriedReadGoes old new (op_of program argument) (Ok (Some a))
-    → TellsTriedRead old new (op_of program argument) (Ok (Some a)) → IsToldRead old new program argument a
+    → MayRead store program argument → ReadsBy (known_of old) (known_of new) (op_of program argument) a
+    → ReadTells store_meaning new.progress old.progress.completed (op_of program argument) a.point a.reply → IsToldRead old new program argument a
 
 -- each update that is not refused early may be listed as an update, by `goes` and `answered` of `Session::invoke` and of `Session::install`
 abbrev pub UpdatesAreTold : Type 0

@@ -1,12 +1,7 @@
 -- The steps of which the calls of a session are made, as their users see them, if the calls are not refused.
-use Rattle.std.specs.Prelude.{◌≡◌, ℕ, List, Option, Result, IfOk, IfSome, MatchOption}
+use Rattle.std.specs.Prelude.{◌≡◌, Option, Result, IfOk, IfSome, MatchOption}
 use Rattle.oplog.specs.Operations.{Operation}
-use Rattle.readpath.specs.declared.reading.ReadAnswer.{ReadAnswer}
 use Rattle.replica.specs.declared.refusals.StoreRefused.{StoreRefused}
-use Rattle.store_steps.specs.declared.scanning.Scan.{Scan}
-use Rattle.store_steps.specs.declared.questions.QuestionRefused.{QuestionRefused}
-use Rattle.store_steps.specs.declared.scanning.ScanRefused.{ScanRefused}
-use Rattle.store_steps.specs.declared.steps.Question.{Question}
 use Rattle.store_steps.specs.Views.{SessionView}
 use Rattle.combiner.specs.declared.slots.Reply.{Reply}
 use Rattle.store.specs.declared.answers.Answer.{Answer}
@@ -14,8 +9,6 @@ use Rattle.store.specs.Sessions.{known_of, said}
 use Rattle.store_steps.specs.Polling.{BeginsBy}
 use Rattle.store_steps.specs.Standing.{SessionKnown}
 use Rattle.store_steps.specs.Updating.{CollectsBy, Deeds, PostsBy, UpdatesBy}
-use Rattle.store_steps.specs.Whole.{ReadsBy}
-use Rattle.store_steps.specs.Looking.{EachReadsBy, ScansBy}
 
 -- an update: its session's own, which it posts and waits for, and all that it combines meanwhile
 abbrev pub UpdateGoes : (old new : SessionView) → Operation → Result Answer StoreRefused → Type 0
@@ -33,17 +26,3 @@ BeginGoes old new op result = IfOk result (λ o. IfSome o (λ _. BeginsBy (known
 abbrev pub CompleteGoes : (old new : SessionView) → Option (Result Answer StoreRefused) → Type 0
 CompleteGoes old new result = MatchOption result (Deeds (known_of old) (known_of new))
     (λ r. (reply : Reply) × (r ≡ said reply) × ((m : SessionKnown) × Deeds (known_of old) m × CollectsBy m (known_of new) reply))
-
-abbrev pub ReadGoes : (old new : SessionView) → Operation → Result ReadAnswer StoreRefused → Type 0
-ReadGoes old new op result = IfOk result (λ a. ReadsBy (known_of old) (known_of new) op a)
-
--- and that found no place held
-abbrev pub TriedReadGoes : (old new : SessionView) → Operation → Result (Option ReadAnswer) StoreRefused → Type 0
-TriedReadGoes old new op result = IfOk result (λ o. IfSome o (λ a. ReadsBy (known_of old) (known_of new) op a))
-
-abbrev pub EachGoes : (old new : SessionView) → List Question → (replies : List ℕ) → Result ℕ QuestionRefused → Type 0
-EachGoes old new questions replies result = IfOk result (λ point. EachReadsBy (known_of old) (known_of new) questions point replies)
-
-abbrev pub ScanGoes : (old new : SessionView) → (map from key_room value_room : ℕ) → (keys values : List ℕ) → Result Scan ScanRefused → Type 0
-ScanGoes old new map from key_room value_room keys values result =
-    IfOk result (λ s. ScansBy (known_of old) (known_of new) map from key_room value_room keys values s)

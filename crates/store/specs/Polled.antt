@@ -1,12 +1,11 @@
 -- A session whose calls answer at once: what they tell.
-use Rattle.std.specs.Prelude.{◌≡◌, ◌≤◌, length, Some, Ok, Option, Result, MatchOption, MatchResult}
+use Rattle.std.specs.Prelude.{◌≡◌, ◌≤◌, length, Some, Option, Result, MatchOption, MatchResult}
 use Rattle.oplog.specs.Operations.{Operation}
 use Rattle.combiner.specs.declared.slots.Reply.{Reply}
-use Rattle.readpath.specs.declared.reading.ReadAnswer.{ReadAnswer}
 use Rattle.replica.specs.declared.refusals.StoreRefused.{StoreRefused}
 use Rattle.accounts.specs.declared.sessions.Pending.{Pending}
 use Rattle.store.specs.declared.answers.Answer.{Answer}
-use Rattle.store.specs.Sessions.{BeginsWithin, TellsRead, said}
+use Rattle.store.specs.Sessions.{said}
 use Rattle.store_steps.specs.Polling.{HasAskedFor}
 use Rattle.store_steps.specs.Stages.{IsOnItsWay, TellsDone}
 use Rattle.store_steps.specs.Views.{SessionView}
@@ -29,7 +28,3 @@ TellsAnswer old new o result = (reply : Reply) × (result ≡ said reply) × Tel
 -- a call that goes on: it waits still, or has the answer
 abbrev pub TellsCompleted : (old new : SessionView) → Pending → Option (Result Answer StoreRefused) → Type 0
 TellsCompleted old new o result = MatchOption result (IsOnItsWay old new) (λ r. TellsAnswer old new o r)
-
--- a read that isn't refused: where a place is held there is no answer, else it is a read's
-abbrev pub TellsTriedRead : (old new : SessionView) → Operation → Result (Option ReadAnswer) StoreRefused → Type 0
-TellsTriedRead old new op result = MatchResult result (λ o. MatchOption o (Unit {0}) (λ a. BeginsWithin old new (Ok a) × TellsRead old new op (Ok a))) (λ _. ⊥)

@@ -1,30 +1,24 @@
 -- A session and a store as their users see them, and what a call answers.
-use Rattle.std.specs.Prelude.{◌≡◌, ℕ, zero, suc, ◌≤◌, List, [], ◌∷◌, ◌++◌, length, Option, Result, Ok, Err, MatchResult}
+use Rattle.std.specs.Prelude.{◌≡◌, ℕ, zero, suc, ◌≤◌, List, [], ◌∷◌, ◌++◌, length, Option, None, Result, Ok, Err, MatchResult}
 use Rattle.ownlock.specs.Seats.{ShelfId, tails_in}
 use Rattle.loader.specs.CatalogueView.{CatalogueView}
 use Rattle.loader.specs.Installed.{InstalledView}
 use Rattle.oplog.specs.declared.configuration.Sizes.{Sizes}
 use Rattle.verifier.specs.declared.refusal.Mode.{Mode}
+use Rattle.verifier.specs.declared.refusal.Mode.TheVariants.{Update}
 use Rattle.oplog.specs.Calls.{NewProgram}
 use Rattle.oplog.specs.Operations.{Operation}
 use Rattle.oplog.specs.declared.records.Op.TheVariants.{Install}
-use Rattle.readpath.specs.declared.reading.ReadAnswer.{ReadAnswer}
 use Rattle.replica.specs.StoreMeaning.{store_meaning}
-use Rattle.replica.specs.Refusals.{install_refusal, IsRoomFor}
+use Rattle.replica.specs.Refusals.{early_refusal, install_refusal, IsRoomFor}
 use Rattle.combiner.specs.declared.slots.Reply.{Reply}
 use Rattle.combiner.specs.declared.slots.Reply.TheVariants.{Placed, Ended as EndedAnswer}
 use Rattle.accounts.specs.Accounts.{Extends, IsWellFormed}
 use Rattle.accounts.specs.LogSteps.{first_progress, fresh_note}
-use Rattle.accounts.specs.Told.{Tells, ReadTells, note_with}
+use Rattle.accounts.specs.Told.{Tells, note_with}
 use Rattle.store.specs.declared.answers.Answer.{Answer}
 use Rattle.replica.specs.declared.refusals.StoreRefused.{StoreRefused}
 use Rattle.replica.specs.declared.refusals.StoreRefused.TheVariants.{Ended as TheEnd}
-use Rattle.store_steps.specs.declared.questions.QuestionRefused.{QuestionRefused}
-use Rattle.store_steps.specs.declared.scanning.Scan.{Scan}
-use Rattle.store_steps.specs.declared.scanning.ScanRefused.{ScanRefused}
-use Rattle.store_steps.specs.declared.steps.Question.{Question}
-use Rattle.store_steps.specs.Questions.{EachTells}
-use Rattle.store_steps.specs.Scanning.{ScanGives}
 use Rattle.store_steps.specs.Standing.{SessionKnown, StoreSeat}
 use Rattle.store_steps.specs.Views.{SessionView, request_of, session_view}
 
@@ -68,6 +62,10 @@ known_of s = record { session = s.session; progress = s.progress; note = s.note;
 abbrev pub HasRoom : InstalledView → StoreSeat → Type 0
 HasRoom room s = IsRoomFor (session_view s).progress.catalogue.shapes room
 
+-- the store does not refuse to run this program on this argument as an update
+abbrev pub MayUpdate : StoreView → (program : ℕ) → (argument : List ℕ) → Type 0
+MayUpdate store program argument = early_refusal store.catalogue Update program argument ≡ None
+
 -- a program of this mode, for arguments of that length, which these bytes spell, as it is to be installed
 abbrev pub new_program : Mode → ℕ → List ℕ → NewProgram
 new_program mode arg_len bytes = record { mode = mode; arg_len = arg_len; bytes = bytes }
@@ -101,28 +99,3 @@ TellsUpdate old new op result = MatchResult result (TellsAnswered old new op) (T
 -- within a call the session has read the completed tail, and this point is not below what it was then
 abbrev pub IsFresh : (old new : SessionView) → ℕ → Type 0
 IsFresh old new point = (begun : ℕ) × (more : List ℕ) × (tails_in new.steps ≡ tails_in old.steps ++ begun ∷ more) × (begun ≤ point)
-
--- so is the point of a read
-abbrev pub BeginsWithin : (old new : SessionView) → Result ReadAnswer StoreRefused → Type 0
-BeginsWithin old new result = MatchResult result (λ a. IsFresh old new a.point) (λ _. ⊥)
-
--- the answer to a read that was not refused
-abbrev pub TellsRead : (old new : SessionView) → Operation → Result ReadAnswer StoreRefused → Type 0
-TellsRead old new op result = MatchResult result (λ a. ReadTells store_meaning new.progress old.progress.completed op a.point a.reply) (λ _. ⊥)
-
--- the answer to a scan that was not refused
-abbrev pub TellsScan : (old new : SessionView) → (map from key_room value_room : ℕ) → (keys values : List ℕ) → Result Scan ScanRefused → Type 0
-TellsScan old new map from key_room value_room keys values result =
-    MatchResult result (λ s. ScanGives new.progress old.progress.completed map from key_room value_room keys values s) (λ _. ⊥)
-
--- the point of a scan is not below what was completed when the session looked
-abbrev pub ScanBegins : (old new : SessionView) → Result Scan ScanRefused → Type 0
-ScanBegins old new result = MatchResult result (λ s. IsFresh old new s.point) (λ _. ⊥)
-
--- the answer to questions of which none was refused
-abbrev pub TellsEach : (old new : SessionView) → List Question → (replies : List ℕ) → Result ℕ QuestionRefused → Type 0
-TellsEach old new questions replies result = MatchResult result (λ point. EachTells new.progress old.progress.completed questions point replies) (λ _. ⊥)
-
--- nor is that of several reads
-abbrev pub EachBegins : (old new : SessionView) → Result ℕ QuestionRefused → Type 0
-EachBegins old new result = MatchResult result (λ point. IsFresh old new point) (λ _. ⊥)

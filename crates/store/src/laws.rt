@@ -1,5 +1,5 @@
 // The laws.
-ghost use Rattle.store.specs.CallsTold.{ClosesTold, PolledRest, PolledUpdatesAreTold, ReadsAreTold, SessionsRest, TriedReadsAreTold, UpdatesAreTold};
+ghost use Rattle.store.specs.CallsTold.{ClosesTold, PolledRest, PolledUpdatesAreTold, ReadsAreTold, SessionsRest, UpdatesAreTold};
 
 /// The history of a closed store (`Store::close`, `closed`) explains the calls of all its sessions, as they are listed for each. What the clauses
 /// of a session's calls say is what such a list asks: each read that gets an answer, and each update that is not refused early, may be listed.
@@ -8,7 +8,6 @@ ghost use Rattle.store.specs.CallsTold.{ClosesTold, PolledRest, PolledUpdatesAre
 pub fn calls_are_told()
     ensures closes { ClosesTold }
     ensures reads { ReadsAreTold }
-    ensures tried { TriedReadsAreTold }
     ensures updates { UpdatesAreTold }
     ensures polled { PolledUpdatesAreTold }
     ensures rest { SessionsRest }

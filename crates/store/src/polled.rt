@@ -6,9 +6,9 @@ ghost use Rattle.accounts.specs.declared.sessions.Pending.{Pending};
 ghost use Rattle.replica.specs.StoreMeaning.{is_operation};
 ghost use Rattle.replica.specs.declared.refusals.StoreRefused.{StoreRefused};
 ghost use Rattle.replica.specs.Refusals.{early_refusal};
-ghost use Rattle.store.specs.Going.{CompleteGoes, PostGoes, TriedReadGoes};
+ghost use Rattle.store.specs.Going.{CompleteGoes, PostGoes};
 ghost use Rattle.store_steps.specs.Views.{op_of};
-ghost use Rattle.store.specs.Sessions.{IsFresh, IsOf, SessionGoesOn, known_of, install_of, install_refused};
+ghost use Rattle.store.specs.Sessions.{IsOf, MayUpdate, SessionGoesOn, known_of, install_of, install_refused};
 ghost use Rattle.store_steps.specs.Stages.{HasDone};
 ghost use Rattle.store_steps.specs.Polling.{DeedsGo};
 ghost use Rattle.store_steps.specs.Updating.{PostsBy};
@@ -19,10 +19,8 @@ ghost use Rattle.store_steps.specs.declared.questions.QuestionRefused.{QuestionR
 ghost use Rattle.store_steps.specs.declared.scanning.ScanRefused.{ScanRefused};
 ghost use Rattle.store_steps.specs.Questions.{first_refused};
 ghost use Rattle.store_steps.specs.Scanning.{scan_refusal};
-ghost use Rattle.store.specs.Looks.{AnswerBy, AreAnswers, FindsBy, GoesToSee, IsFound, IsRefused, IsScan, IsSight, MayScan, PagesBy, SnapshotGoes, key_refused};
-ghost use Rattle.store_steps.specs.Snapshots.{SnapshotTells};
-ghost use Rattle.store.specs.Looks.{TellsTried, TriedGoes, IfUnanswered};
-ghost use Rattle.store.specs.Polled.{HasPostedFor, TellsCompleted, TellsPost, TellsTriedRead};
+ghost use Rattle.store.specs.Looks.{GoesToSee, HasPage, HasReply, HasValue, HaveReplies, IfUnanswered, IsAsSeen, IsRefused, IsSight, IsTaken, MayGet, MayRead, MayReadEach, MayScan, TellsTried, TriedGoes, key_refused, scan_refused};
+ghost use Rattle.store.specs.Polled.{HasPostedFor, TellsCompleted, TellsPost};
 
 use crate::answers::Answer;
 use crate::session::{Session, answer_of};
@@ -257,14 +255,11 @@ impl Polled {
         requires own { IsOf store.now self.old }
         requires idle { self.old.note.pending ≡ None }
         ensures session { SessionGoesOn store.now self.old self.new }
-        ensures early { (r : StoreRefused) → early_refusal store.now.catalogue Update program argument.now ≡ Some r → (result ≡ Err r)
-            × (self.new ≡ self.old) }
-        ensures posted { early_refusal store.now.catalogue Update program argument.now ≡ None
-            → TellsPost self.old self.new (op_of program argument.now) result }
-        ensures goes { early_refusal store.now.catalogue Update program argument.now ≡ None
-            → PostGoes self.old self.new (op_of program argument.now) result }
+        ensures early { IsRefused (early_refusal store.now.catalogue Update program argument.now) result (self.new ≡ self.old) }
+        ensures posted { MayUpdate store.now program argument.now → TellsPost self.old self.new (op_of program argument.now) result }
+        ensures goes { MayUpdate store.now program argument.now → PostGoes self.old self.new (op_of program argument.now) result }
     {
-        // (the session's invariant, where the call is refused and no other part is looked at)
+        // This opens the session's invariant for the proof: a refused call uses no other part of the session.
         let _seat = &self.seat;
         check_call(store.catalogue(), Mode::Update, program, argument)?;
         let call = Call::new(program, argument);
@@ -306,8 +301,7 @@ impl Polled {
         requires own { IsOf store.now self.old }
         requires idle { self.old.note.pending ≡ None }
         ensures session { SessionGoesOn store.now self.old self.new }
-        ensures early { (r : StoreRefused) → install_refused store.now mode arg_len bytes.now ≡ Some r → (result ≡ Err r)
-            × (self.new ≡ self.old) }
+        ensures early { IsRefused (install_refused store.now mode arg_len bytes.now) result (self.new ≡ self.old) }
         ensures posted { install_refused store.now mode arg_len bytes.now ≡ None
             → TellsPost self.old self.new (install_of mode arg_len bytes.now) result }
         ensures goes { install_refused store.now mode arg_len bytes.now ≡ None
@@ -381,7 +375,7 @@ impl Polled {
         ensures completed { (o : Pending) → self.old.note.pending ≡ Some o → TellsCompleted self.old self.new o result }
         ensures goes { CompleteGoes self.old self.new result }
     {
-        // (the session's invariant, from which the loop's begins)
+        // This opens the session's invariant for the proof: the loop's begins with it.
         let _seat = &self.seat;
         for _ in 0..DEEDS {
             match self.deed(store) {
@@ -408,8 +402,8 @@ impl Polled {
         ensures kept { IfUnanswered result (look.new ≡ look.old) }
         ensures lent { TriedGoes result (λ _. L.lent look.old look.new) }
         ensures told { L.refusal look.old store.now.catalogue ≡ None
-            → TellsTried result (IsSight (L.sees look.old look.new) L.point self.old self.new) }
-        ensures goes { TriedGoes result (GoesToSee (L.sees look.old look.new) L.point self.old self.new) }
+            → TellsTried result (IsSight (IsAsSeen (L.sees look.old look.new)) L.point self.old self.new) }
+        ensures goes { TriedGoes result (GoesToSee (IsAsSeen (L.sees look.old look.new)) L.point self.old self.new) }
     {
         let Polled { seat, caller, .. } = self;
         look.check(store.catalogue())?;
@@ -456,12 +450,10 @@ impl Polled {
         requires idle { self.old.note.pending ≡ None }
         ensures session { SessionGoesOn store.now self.old self.new }
         ensures note { self.new.note ≡ self.old.note }
-        ensures early { (r : StoreRefused) → early_refusal store.now.catalogue Read program argument.now ≡ Some r → (result ≡ Err r)
-            × (self.new ≡ self.old) }
-        ensures answered { early_refusal store.now.catalogue Read program argument.now ≡ None
-            → TellsTriedRead self.old self.new (op_of program argument.now) result }
-        ensures goes { early_refusal store.now.catalogue Read program argument.now ≡ None
-            → TriedReadGoes self.old self.new (op_of program argument.now) result }
+        ensures early { IsRefused (early_refusal store.now.catalogue Read program argument.now) result (self.new ≡ self.old) }
+        ensures told { MayRead store.now program argument.now
+            → TellsTried result (IsSight (HasReply (op_of program argument.now)) (λ a. a.point) self.old self.new) }
+        ensures goes { TriedGoes result (GoesToSee (HasReply (op_of program argument.now)) (λ a. a.point) self.old self.new) }
     {
         self.try_see(store, &mut Question { program, argument })
     }
@@ -501,15 +493,13 @@ impl Polled {
         requires idle { self.old.note.pending ≡ None }
         requires few { length questions.now ≤ 16 }
         requires room { length replies.old ≡ length questions.now }
-        ensures early { (r : QuestionRefused) → first_refused store.now.catalogue 0 questions.now ≡ Some r → (result ≡ Err r)
-            × (self.new ≡ self.old) }
+        ensures early { IsRefused (first_refused store.now.catalogue 0 questions.now) result (self.new ≡ self.old) }
         ensures kept { IfUnanswered result (replies.new ≡ replies.old) }
         ensures session { SessionGoesOn store.now self.old self.new }
         ensures note { self.new.note ≡ self.old.note }
-        ensures answered { first_refused store.now.catalogue 0 questions.now ≡ None
-            → TellsTried result (AreAnswers self.old self.new questions.now replies.new) }
-        ensures goes { first_refused store.now.catalogue 0 questions.now ≡ None
-            → TriedGoes result (AnswerBy self.old self.new questions.now replies.new) }
+        ensures told { MayReadEach store.now questions.now
+            → TellsTried result (IsSight (HaveReplies questions.now replies.new) (λ point. point) self.old self.new) }
+        ensures goes { TriedGoes result (GoesToSee (HaveReplies questions.now replies.new) (λ point. point) self.old self.new) }
     {
         self.try_see(store, &mut Reads { questions, replies })
     }
@@ -547,15 +537,13 @@ impl Polled {
     ) -> Result<Option<Scan>, ScanRefused>
         requires own { IsOf store.now self.old }
         requires idle { self.old.note.pending ≡ None }
-        ensures early { (r : ScanRefused) → scan_refusal store.now.catalogue begin.map begin.from ≡ Some r → (result ≡ Err r)
-            × (self.new ≡ self.old) }
+        ensures early { IsRefused (scan_refused store.now begin) result (self.new ≡ self.old) }
         ensures kept { IfUnanswered result ((keys.new ≡ keys.old) × (values.new ≡ values.old)) }
         ensures session { SessionGoesOn store.now self.old self.new }
         ensures note { self.new.note ≡ self.old.note }
         ensures told { MayScan store.now begin
-            → TellsTried result (IsScan self.old self.new begin (length keys.old) (length values.old) keys.new values.new) }
-        ensures goes { MayScan store.now begin
-            → TriedGoes result (PagesBy self.old self.new begin (length keys.old) (length values.old) keys.new values.new) }
+            → TellsTried result (IsSight (HasPage begin keys.old values.old keys.new values.new) (λ s. s.point) self.old self.new) }
+        ensures goes { TriedGoes result (GoesToSee (HasPage begin keys.old values.old keys.new values.new) (λ s. s.point) self.old self.new) }
     {
         self.try_see(
             store,
@@ -598,14 +586,13 @@ impl Polled {
     ) -> Result<Option<Lookup>, GetRefused>
         requires own { IsOf store.now self.old }
         requires idle { self.old.note.pending ≡ None }
-        ensures early { (r : GetRefused) → key_refused store.now of.entry (length value.old) ≡ Some r → (result ≡ Err r) × (self.new ≡ self.old) }
+        ensures early { IsRefused (key_refused store.now of.entry (length value.old)) result (self.new ≡ self.old) }
         ensures kept { IfUnanswered result (value.new ≡ value.old) }
         ensures session { SessionGoesOn store.now self.old self.new }
         ensures note { self.new.note ≡ self.old.note }
-        ensures told { key_refused store.now of.entry (length value.old) ≡ None
-            → TellsTried result (IsFound self.old self.new of.entry value.old value.new) }
-        ensures goes { key_refused store.now of.entry (length value.old) ≡ None
-            → TriedGoes result (FindsBy self.old self.new of.entry value.old value.new) }
+        ensures told { MayGet store.now of.entry value.old
+            → TellsTried result (IsSight (HasValue of.entry value.old value.new) (λ l. l.point) self.old self.new) }
+        ensures goes { TriedGoes result (GoesToSee (HasValue of.entry value.old value.new) (λ l. l.point) self.old self.new) }
     {
         self.try_see(store, &mut Get { of, value })
     }
@@ -640,9 +627,8 @@ impl Polled {
         ensures kept { IfNone result (into.new ≡ into.old) }
         ensures session { SessionGoesOn store.now self.old self.new }
         ensures note { self.new.note ≡ self.old.note }
-        ensures told { IfSome result (λ point. SnapshotTells self.new.progress self.old.progress.completed point into.new) }
-        ensures begun { IfSome result (λ point. IsFresh self.old self.new point) }
-        ensures goes { IfSome result (λ point. SnapshotGoes self.old self.new point into.new) }
+        ensures told { IfSome result (IsSight (IsTaken into.new) (λ point. point) self.old self.new) }
+        ensures goes { IfSome result (GoesToSee (IsTaken into.new) (λ point. point) self.old self.new) }
     {
         match self.try_see(store, &mut Snapshot { into }) {
             Ok(point) => point,

@@ -1,23 +1,21 @@
 // A session's calls.
 
 ghost use Rattle.std.specs.Prelude.{◌≡◌, [], ◌∷◌, true, length, None, Some, Err, ◌≤◌, IfErr, IfOk};
+ghost use Rattle.maps.specs.Maps.{AreBytes};
 ghost use Rattle.verifier.specs.declared.refusal.Mode.TheVariants.{Update, Read};
 ghost use Rattle.replica.specs.StoreMeaning.{is_operation};
 ghost use Rattle.replica.specs.declared.refusals.StoreRefused.{StoreRefused};
 ghost use Rattle.replica.specs.Refusals.{early_refusal};
 ghost use Rattle.store.specs.Asked.{FitsCall, operation_of};
-ghost use Rattle.store.specs.Going.{EachGoes, ReadGoes, ScanGoes, UpdateGoes};
+ghost use Rattle.store.specs.Going.{UpdateGoes};
 ghost use Rattle.store.specs.Sessions.{said};
 ghost use Rattle.store_steps.specs.Questions.{first_refused};
-ghost use Rattle.store.specs.Sessions.{EachBegins, TellsEach};
-ghost use Rattle.store.specs.Sessions.{ScanBegins, TellsScan};
-ghost use Rattle.store_steps.specs.declared.getting.GetRefused.{GetRefused};
 ghost use Rattle.loader.specs.CatalogueView.{sizes_for};
 ghost use Rattle.loader.specs.StoreState.{sizes_of};
-ghost use Rattle.store.specs.Looks.{GetGoes, GoesToSee, IsRefused, MayScan, SnapshotGoes, TellsGet, TellsSight, key_refused, scan_refused};
-ghost use Rattle.store_steps.specs.Snapshots.{SnapshotTells};
+ghost use Rattle.store.specs.Looks.{GoesToSee, HasPage, HasReply, HasValue, HaveReplies, IsAsSeen, IsRefused, IsSight, IsTaken, MayGet, MayRead, MayReadEach, MayScan, TellsSight, key_refused, scan_refused};
+ghost use Rattle.store_steps.specs.Asking.{asked_op};
 ghost use Rattle.store_steps.specs.Views.{IsIdle, op_of, session_view};
-ghost use Rattle.store.specs.Sessions.{IsFresh, IsOf, SessionGoesOn, TellsUpdate, TellsRead, BeginsWithin, HasRoom, known_of, install_of, install_refused};
+ghost use Rattle.store.specs.Sessions.{IsOf, SessionGoesOn, TellsUpdate, HasRoom, MayUpdate, known_of, install_of, install_refused};
 
 use crate::answers::Answer;
 use crate::asked::{Asked, write};
@@ -173,12 +171,14 @@ impl Session {
         self.combining.batches
     }
 
-    // Has an update performed that is not refused, as the next operation of the history.
+    // Has an update performed that is not refused, as the next operation of the history. By six takes: it posts, and then completes. Or by four
+    // (`at_once`): it posts and claims in one hold of the desk, and answers its batch and collects in another.
     pub(crate) fn perform<R: Wait>(
         &mut self,
         rt: &R,
         store: &Store,
         asked: Asked<'_>,
+        at_once: bool,
     ) -> Result<Answer, StoreRefused>
         requires own { IsOf store.now self.old }
         requires fits { FitsCall asked }
@@ -193,33 +193,39 @@ impl Session {
             caller: self.caller,
         };
         write(&mut self.op, asked);
+        if at_once {
+            let given = ask_at_once(rt, here, &mut self.seat, &self.op, &mut self.combining);
+            return answer_of(given);
+        }
         post(rt, here, &mut self.seat, &self.op);
         let reply = complete(rt, here, &mut self.seat, &mut self.combining);
         answer_of(reply)
     }
 
-    // The same by four takes: it posts and claims in one hold of the desk, and answers its batch and collects in another.
-    fn perform_at_once<R: Wait>(
+    // Has an update program run that is not refused, by six takes or by four.
+    fn call<R: Wait>(
         &mut self,
         rt: &R,
         store: &Store,
-        asked: Asked<'_>,
+        question: Question<'_>,
+        at_once: bool,
     ) -> Result<Answer, StoreRefused>
         requires own { IsOf store.now self.old }
-        requires fits { FitsCall asked }
-        requires update { is_operation Update store.now.catalogue (operation_of asked) ≡ true }
+        requires bytes { AreBytes question.argument.now }
         ensures session { SessionGoesOn store.now self.old self.new }
-        ensures answered { TellsUpdate self.old self.new (operation_of asked.entry) result }
-        ensures goes { UpdateGoes self.old self.new (operation_of asked.entry) result }
+        ensures early { IsRefused (early_refusal store.now.catalogue Update question.entry.program question.entry.argument.now) result (self.new ≡ self.old) }
+        ensures answered { MayUpdate store.now question.entry.program question.entry.argument.now → TellsUpdate self.old self.new (asked_op question.entry) result }
+        ensures goes { MayUpdate store.now question.entry.program question.entry.argument.now → UpdateGoes self.old self.new (asked_op question.entry) result }
     {
-        let shared = store.shared();
-        let here = Here {
-            shared,
-            caller: self.caller,
-        };
-        write(&mut self.op, asked);
-        let given = ask_at_once(rt, here, &mut self.seat, &self.op, &mut self.combining);
-        answer_of(given)
+        // This opens the session's invariant for the proof: a refused call uses no other part of the session.
+        let _seat = &self.seat;
+        check_call(
+            store.catalogue(),
+            Mode::Update,
+            question.program,
+            question.argument,
+        )?;
+        self.perform(rt, store, Asked::Call(question), at_once)
     }
 
     /// Runs an update program of the store on its argument, as the next operation of the history. A number behind the catalogue's programs
@@ -256,17 +262,11 @@ impl Session {
     ) -> Result<Answer, StoreRefused>
         requires own { IsOf store.now self.old }
         ensures session { SessionGoesOn store.now self.old self.new }
-        ensures early { (r : StoreRefused) → early_refusal store.now.catalogue Update program argument.now ≡ Some r → (result ≡ Err r)
-            × (self.new ≡ self.old) }
-        ensures answered { early_refusal store.now.catalogue Update program argument.now ≡ None
-            → TellsUpdate self.old self.new (op_of program argument.now) result }
-        ensures goes { early_refusal store.now.catalogue Update program argument.now ≡ None
-            → UpdateGoes self.old self.new (op_of program argument.now) result }
+        ensures early { IsRefused (early_refusal store.now.catalogue Update program argument.now) result (self.new ≡ self.old) }
+        ensures answered { MayUpdate store.now program argument.now → TellsUpdate self.old self.new (op_of program argument.now) result }
+        ensures goes { MayUpdate store.now program argument.now → UpdateGoes self.old self.new (op_of program argument.now) result }
     {
-        let _seat = &self.seat;
-        check_call(store.catalogue(), Mode::Update, program, argument)?;
-        let question = Question { program, argument };
-        self.perform(rt, store, Asked::Call(question))
+        self.call(rt, store, Question { program, argument }, false)
     }
 
     /// Runs an update program as [`invoke`](Session::invoke) does, with four takes where `invoke` has six: where nobody else combines, it takes the desk
@@ -302,17 +302,11 @@ impl Session {
     ) -> Result<Answer, StoreRefused>
         requires own { IsOf store.now self.old }
         ensures session { SessionGoesOn store.now self.old self.new }
-        ensures early { (r : StoreRefused) → early_refusal store.now.catalogue Update program argument.now ≡ Some r → (result ≡ Err r)
-            × (self.new ≡ self.old) }
-        ensures answered { early_refusal store.now.catalogue Update program argument.now ≡ None
-            → TellsUpdate self.old self.new (op_of program argument.now) result }
-        ensures goes { early_refusal store.now.catalogue Update program argument.now ≡ None
-            → UpdateGoes self.old self.new (op_of program argument.now) result }
+        ensures early { IsRefused (early_refusal store.now.catalogue Update program argument.now) result (self.new ≡ self.old) }
+        ensures answered { MayUpdate store.now program argument.now → TellsUpdate self.old self.new (op_of program argument.now) result }
+        ensures goes { MayUpdate store.now program argument.now → UpdateGoes self.old self.new (op_of program argument.now) result }
     {
-        let _seat = &self.seat;
-        check_call(store.catalogue(), Mode::Update, program, argument)?;
-        let question = Question { program, argument };
-        self.perform_at_once(rt, store, Asked::Call(question))
+        self.call(rt, store, Question { program, argument }, true)
     }
 
     /// Installs a program in the store, as the next operation of the history: its instructions as bytes, for arguments of `arg_len` bytes. The
@@ -351,8 +345,7 @@ impl Session {
     ) -> Result<Answer, StoreRefused>
         requires own { IsOf store.now self.old }
         ensures session { SessionGoesOn store.now self.old self.new }
-        ensures early { (r : StoreRefused) → install_refused store.now mode arg_len bytes.now ≡ Some r → (result ≡ Err r)
-            × (self.new ≡ self.old) }
+        ensures early { IsRefused (install_refused store.now mode arg_len bytes.now) result (self.new ≡ self.old) }
         ensures answered { install_refused store.now mode arg_len bytes.now ≡ None
             → TellsUpdate self.old self.new (install_of mode arg_len bytes.now) result }
         ensures goes { install_refused store.now mode arg_len bytes.now ≡ None
@@ -360,7 +353,7 @@ impl Session {
     {
         check_install(&mut self.room, mode, arg_len as u64, bytes)?;
         let program = NewProgram::new(mode, arg_len, bytes);
-        self.perform(rt, store, Asked::New(&program))
+        self.perform(rt, store, Asked::New(&program), false)
     }
 
     // Looks at the replica of the session's node, once the replica has everything that was completed when the call began.
@@ -378,8 +371,8 @@ impl Session {
         ensures kept { IfErr result (λ _. look.new ≡ look.old) }
         ensures lent { IfOk result (λ _. L.lent look.old look.new) }
         ensures told { L.refusal look.old store.now.catalogue ≡ None
-            → TellsSight (L.sees look.old look.new) L.point self.old self.new result }
-        ensures goes { IfOk result (GoesToSee (L.sees look.old look.new) L.point self.old self.new) }
+            → TellsSight (IsAsSeen (L.sees look.old look.new)) L.point self.old self.new result }
+        ensures goes { IfOk result (GoesToSee (IsAsSeen (L.sees look.old look.new)) L.point self.old self.new) }
     {
         let Session { seat, caller, .. } = self;
         look.check(store.catalogue())?;
@@ -422,13 +415,10 @@ impl Session {
         requires own { IsOf store.now self.old }
         ensures session { SessionGoesOn store.now self.old self.new }
         ensures note { self.new.note ≡ self.old.note }
-        ensures early { (r : StoreRefused) → early_refusal store.now.catalogue Read program argument.now ≡ Some r → (result ≡ Err r)
-            × (self.new ≡ self.old) }
-        ensures answered { early_refusal store.now.catalogue Read program argument.now ≡ None
-            → TellsRead self.old self.new (op_of program argument.now) result }
-        ensures begun { early_refusal store.now.catalogue Read program argument.now ≡ None → BeginsWithin self.old self.new result }
-        ensures goes { early_refusal store.now.catalogue Read program argument.now ≡ None
-            → ReadGoes self.old self.new (op_of program argument.now) result }
+        ensures early { IsRefused (early_refusal store.now.catalogue Read program argument.now) result (self.new ≡ self.old) }
+        ensures told { MayRead store.now program argument.now
+            → TellsSight (HasReply (op_of program argument.now)) (λ a. a.point) self.old self.new result }
+        ensures goes { IfOk result (GoesToSee (HasReply (op_of program argument.now)) (λ a. a.point) self.old self.new) }
     {
         self.see(rt, store, &mut Question { program, argument })
     }
@@ -471,10 +461,9 @@ impl Session {
         ensures session { SessionGoesOn store.now self.old self.new }
         ensures note { self.new.note ≡ self.old.note }
         ensures early { IsRefused (first_refused store.now.catalogue 0 questions.now) result ((self.new ≡ self.old) × (replies.new ≡ replies.old)) }
-        ensures answered { first_refused store.now.catalogue 0 questions.now ≡ None
-            → TellsEach self.old self.new questions.now replies.new result }
-        ensures begun { first_refused store.now.catalogue 0 questions.now ≡ None → EachBegins self.old self.new result }
-        ensures goes { first_refused store.now.catalogue 0 questions.now ≡ None → EachGoes self.old self.new questions.now replies.new result }
+        ensures told { MayReadEach store.now questions.now
+            → TellsSight (HaveReplies questions.now replies.new) (λ point. point) self.old self.new result }
+        ensures goes { IfOk result (GoesToSee (HaveReplies questions.now replies.new) (λ point. point) self.old self.new) }
     {
         self.see(rt, store, &mut Reads { questions, replies })
     }
@@ -519,10 +508,8 @@ impl Session {
         ensures note { self.new.note ≡ self.old.note }
         ensures early { IsRefused (scan_refused store.now begin) result ((self.new ≡ self.old) × (keys.new ≡ keys.old) × (values.new ≡ values.old)) }
         ensures told { MayScan store.now begin
-            → TellsScan self.old self.new begin.map begin.from (length keys.old) (length values.old) keys.new values.new result }
-        ensures begun { MayScan store.now begin → ScanBegins self.old self.new result }
-        ensures goes { MayScan store.now begin
-            → ScanGoes self.old self.new begin.map begin.from (length keys.old) (length values.old) keys.new values.new result }
+            → TellsSight (HasPage begin keys.old values.old keys.new values.new) (λ s. s.point) self.old self.new result }
+        ensures goes { IfOk result (GoesToSee (HasPage begin keys.old values.old keys.new values.new) (λ s. s.point) self.old self.new) }
     {
         self.see(
             rt,
@@ -571,10 +558,11 @@ impl Session {
         requires own { IsOf store.now self.old }
         ensures session { SessionGoesOn store.now self.old self.new }
         ensures note { self.new.note ≡ self.old.note }
-        ensures early { (r : GetRefused) → key_refused store.now of.entry (length value.old) ≡ Some r → (result ≡ Err r) × (self.new ≡ self.old) }
+        ensures early { IsRefused (key_refused store.now of.entry (length value.old)) result (self.new ≡ self.old) }
         ensures kept { IfErr result (λ _. value.new ≡ value.old) }
-        ensures told { key_refused store.now of.entry (length value.old) ≡ None → TellsGet self.old self.new of.entry value.old value.new result }
-        ensures goes { key_refused store.now of.entry (length value.old) ≡ None → GetGoes self.old self.new of.entry value.old value.new result }
+        ensures told { MayGet store.now of.entry value.old
+            → TellsSight (HasValue of.entry value.old value.new) (λ found. found.point) self.old self.new result }
+        ensures goes { IfOk result (GoesToSee (HasValue of.entry value.old value.new) (λ found. found.point) self.old self.new) }
     {
         self.see(rt, store, &mut Get { of, value })
     }
@@ -607,9 +595,8 @@ impl Session {
         ensures session { SessionGoesOn store.now self.old self.new }
         ensures note { self.new.note ≡ self.old.note }
         ensures sizes { sizes_of into.new ≡ sizes_of into.old }
-        ensures told { SnapshotTells self.new.progress self.old.progress.completed result into.new }
-        ensures begun { IsFresh self.old self.new result }
-        ensures goes { SnapshotGoes self.old self.new result into.new }
+        ensures told { IsSight (IsTaken into.new) (λ point. point) self.old self.new result }
+        ensures goes { GoesToSee (IsTaken into.new) (λ point. point) self.old self.new result }
     {
         match self.see(rt, store, &mut Snapshot { into }) {
             Ok(point) => point,

@@ -7,7 +7,8 @@ ghost use Rattle.replica.specs.declared.refusals.StoreRefused.{StoreRefused};
 ghost use Rattle.replica.specs.Refusals.{early_refusal};
 ghost use Rattle.store.specs.Going.{BeginGoes};
 ghost use Rattle.store.specs.Polled.{TellsAsked};
-ghost use Rattle.store.specs.Sessions.{IsOf, SessionGoesOn, known_of};
+ghost use Rattle.store.specs.Looks.{IsRefused};
+ghost use Rattle.store.specs.Sessions.{IsOf, MayUpdate, SessionGoesOn, known_of};
 ghost use Rattle.store_steps.specs.Polling.{BeginsBy, HasAskedFor};
 ghost use Rattle.store_steps.specs.Views.{op_of};
 
@@ -81,13 +82,11 @@ impl Polled {
         requires own { IsOf store.now self.old }
         requires idle { self.old.note.pending ≡ None }
         ensures session { SessionGoesOn store.now self.old self.new }
-        ensures early { (r : StoreRefused) → early_refusal store.now.catalogue Update program argument.now ≡ Some r → (result ≡ Err r)
-            × (self.new ≡ self.old) }
-        ensures asked { early_refusal store.now.catalogue Update program argument.now ≡ None
-            → TellsAsked self.old self.new (op_of program argument.now) result }
-        ensures goes { early_refusal store.now.catalogue Update program argument.now ≡ None
-            → BeginGoes self.old self.new (op_of program argument.now) result }
+        ensures early { IsRefused (early_refusal store.now.catalogue Update program argument.now) result (self.new ≡ self.old) }
+        ensures asked { MayUpdate store.now program argument.now → TellsAsked self.old self.new (op_of program argument.now) result }
+        ensures goes { MayUpdate store.now program argument.now → BeginGoes self.old self.new (op_of program argument.now) result }
     {
+        // This opens the session's invariant for the proof: a refused call uses no other part of the session.
         let _seat = &self.seat;
         check_call(store.catalogue(), Mode::Update, program, argument)?;
         let call = Call::new(program, argument);

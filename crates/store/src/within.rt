@@ -6,6 +6,7 @@ ghost use Rattle.oplog.specs.declared.records.TheConstants.{MAX_INSTALLED_BYTES}
 ghost use Rattle.replica.specs.Refusals.{IsRefusedAs, IsRoomFor};
 ghost use Rattle.replica.specs.declared.refusals.StoreRefused.{StoreRefused};
 ghost use Rattle.store.specs.Going.{PostGoes, UpdateGoes};
+ghost use Rattle.store.specs.Looks.{IsRefused};
 ghost use Rattle.store.specs.Polled.{TellsPost};
 ghost use Rattle.store.specs.Sessions.{IsOf, SessionGoesOn, TellsUpdate};
 ghost use Rattle.store.specs.Within.{install_within, outside_refusal, program_within, refused_as, within_refusal, within_refused};
@@ -129,14 +130,14 @@ impl Session {
         wanted: Confined<'_>,
     ) -> Result<Answer, StoreRefused>
         requires own { IsOf store.now self.old }
-        ensures early { (r : StoreRefused) → within_refused store.now wanted.entry ≡ Some r → (result ≡ Err r) × (self.new ≡ self.old) }
+        ensures early { IsRefused (within_refused store.now wanted.entry) result (self.new ≡ self.old) }
         ensures session { SessionGoesOn store.now self.old self.new }
         ensures answered { within_refused store.now wanted.entry ≡ None → TellsUpdate self.old self.new (install_within wanted.entry) result }
         ensures goes { within_refused store.now wanted.entry ≡ None → UpdateGoes self.old self.new (install_within wanted.entry) result }
     {
         check_within(&mut self.room, wanted)?;
         let program = NewProgram::new(wanted.mode, wanted.arg_len, wanted.bytes);
-        self.perform(rt, store, Asked::New(&program))
+        self.perform(rt, store, Asked::New(&program), false)
     }
 }
 
@@ -172,7 +173,7 @@ impl Polled {
     ) -> Result<Option<()>, StoreRefused>
         requires own { IsOf store.now self.old }
         requires idle { self.old.note.pending ≡ None }
-        ensures early { (r : StoreRefused) → within_refused store.now asked.entry ≡ Some r → (result ≡ Err r) × (self.new ≡ self.old) }
+        ensures early { IsRefused (within_refused store.now asked.entry) result (self.new ≡ self.old) }
         ensures session { SessionGoesOn store.now self.old self.new }
         ensures posted { within_refused store.now asked.entry ≡ None → TellsPost self.old self.new (install_within asked.entry) result }
         ensures goes { within_refused store.now asked.entry ≡ None → PostGoes self.old self.new (install_within asked.entry) result }

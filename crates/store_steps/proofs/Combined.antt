@@ -30,12 +30,13 @@ use Rattle.store_steps.proofs.Batched.{at_unplaced, long_placed, long_unplaced, 
 use Rattle.store_steps.proofs.Finished.{Back, reply_kept}
 use Rattle.store_steps.proofs.StoreLaws.{store_laws}
 use Rattle.store_steps.specs.declared.steps.Caller.{Caller}
-use Rattle.store_steps.specs.Shelving.{view_of}
-use Rattle.accounts.specs.Values.{TheDesk}
+use Rattle.store_steps.specs.Lending.{desk_of, with_desk}
+use Rattle.store_steps.specs.Visits.{HasDesk}
 use Rattle.accounts.specs.DeskNotes.{RepliedThere}
 use Rattle.store_steps.proofs.AtDesk.{reply_steps}
+use Rattle.store_steps.proofs.Parts.{desk_put}
 use Rattle.store_steps.proofs.Taken.{TookReplica}
-use Rattle.store_steps.proofs.TakenDesk.{BackDesk, PutsDesk, TookDesk, puts_desk}
+use Rattle.store_steps.proofs.TakenDesk.{BackDesk, PutsDesk, puts_desk, same_desk}
 
 abbrev K : Type 0
 K = SessionKnown
@@ -147,9 +148,10 @@ module _ (t a r : K) (rs : History) (old : RepliesView) (n m : NodeReplica) (new
 pub handed : (k t z : K) → t.note ≡ k.note → BackDesk k z (record t.note { batch = [] }) → HasCombined k z
 handed k t z note b = record { session = b.session; held = b.held; note = b.note ∙ ap (λ (n : SessionNote). record n { batch = [] }) note; extends = b.extends; stands = b.stands }
 
--- the desk is put back as w, whose desk y has the answers
-pub puts_replied : (caller : Caller) (k t : K) (p : ℕ) (v : Value) (batch : BatchView) (kept : RepliesView) (b : TookDesk caller k t p v) → IsReady t batch kept → (answered : BatchView) (x y : DeskView) → b.desk ≡ x → answered ≡ answered_batch kept batch → y ≡ replied answered x
-    → (w : Value) → view_of w ≡ TheDesk y → (sessions : List K) → sessions ≡ t ∷ [] → (q : ℕ) → q ≡ p → PutsDesk k t sessions RepliedThere w (record t.note { batch = [] }) q
-puts_replied caller k t p v batch kept b ready answered x y same set out w isw sessions is q at =
+-- the desk x was lent, and is put back as y, which has the answers
+pub puts_replied : (caller : Caller) (k t : K) (p : ℕ) (v : Value) (batch : BatchView) (kept : RepliesView) (b : HasDesk caller k t p v) → IsReady t batch kept → (answered : BatchView) (x y : DeskView) → desk_of v ≡ Some x → answered ≡ answered_batch kept batch → y ≡ replied answered x
+    → (sessions : List K) → sessions ≡ t ∷ [] → PutsDesk k t sessions RepliedThere (with_desk v y) (record t.note { batch = [] }) p
+puts_replied caller k t p v batch kept b ready answered x y lent set out sessions is =
+    let same = same_desk caller k t p v b x lent in
     let replies : y ≡ replied (answered_batch kept batch) b.desk = out ∙ ap (λ z. replied z x) set ∙ ap (replied (answered_batch kept batch)) (sym same) in
-    puts_desk caller k t p v b sessions is RepliedThere w y (record t.note { batch = [] }) isw (reply_steps t batch kept ready b.desk y replies) refl q at
+    puts_desk caller k t p v b sessions is RepliedThere (with_desk v y) y (record t.note { batch = [] }) (desk_put v x y lent) (reply_steps t batch kept ready b.desk y replies) refl p refl

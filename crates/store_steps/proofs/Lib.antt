@@ -26,6 +26,7 @@ pub mod Requested
 pub mod Resumed
 pub mod Turning
 pub mod Views
+pub mod PutBack
 pub mod AtOnce
 pub mod Gone
 pub mod Begun

@@ -1,9 +1,9 @@
 -- The place of its node's desk is taken, and put back after what the session did there.
-use Rattle.std.proofs.Common.{◌≡◌, ℕ, ◌<◌, List, [], ◌∷◌, length, sym, refl, ap, ◌∙◌, subst, Some, eq-eqb, if◌then◌else◌}
+use Rattle.std.proofs.Common.{◌≡◌, ℕ, ◌<◌, List, [], ◌∷◌, length, sym, refl, ap, ◌∙◌, subst, Option, None, Some, eq-eqb, if◌then◌else◌}
 use lib.ListN.{get_elem?}
-use Rattle.ownlock.specs.declared.known.ShelfStep.TheVariants.{Put, Took}
-use Rattle.ownlock.specs.Seats.{At, without, Continues, HasStepped, Run as RunOf}
-use Rattle.ownlock.specs.Knowledge.{Acquired, MayPut, MayTake, Possible}
+use Rattle.ownlock.specs.declared.known.ShelfStep.TheVariants.{Put}
+use Rattle.ownlock.specs.Seats.{At, without, Continues, IsSession, Run as RunOf}
+use Rattle.ownlock.specs.Knowledge.{Acquired, MayPut, MayTake, Possible, Takes}
 use Rattle.loader.specs.CatalogueView.{CatalogueView}
 use Rattle.oplog.specs.declared.configuration.Sizes.{Sizes}
 use Rattle.oplog.specs.Sessions.{IsSessionOf, session}
@@ -13,7 +13,7 @@ use Rattle.accounts.specs.declared.sessions.Progress.{Progress}
 use Rattle.accounts.specs.declared.sessions.SessionNote.{SessionNote}
 use Rattle.accounts.specs.Values.{TheDesk}
 use Rattle.store_steps.proofs.Parts.{IsDeskSeen, desk_or, has_desk}
-use Rattle.std.specs.Prelude.{IsSome, is_some}
+use Rattle.std.specs.Prelude.{IfSome, IsSome, MatchOption, is_some}
 use Rattle.std.proofs.lemmas.Option.{same_Some}
 use Rattle.accounts.specs.Accounts.{Extends}
 use Rattle.accounts.specs.Agreement.{desk_place}
@@ -27,7 +27,9 @@ use Rattle.store_steps.specs.declared.values.Value.TheVariants.{Log, Replica, De
 use Rattle.store_steps.specs.AtDesk.{IsAt, Steps}
 use Rattle.store_steps.specs.Lending.{desk_of}
 use Rattle.store_steps.specs.Shelving.{IsSized, session_noting, store_rules, view_of}
-use Rattle.store_steps.specs.Standing.{IsFree, SessionKnown, Stands}
+use Rattle.store_steps.specs.Standing.{IsFree, SessionKnown, Stands, StoreSeat}
+use Rattle.store_steps.specs.Visits.{HasDesk}
+use Rattle.store_steps.proofs.Resumed.{free_by}
 use Rattle.store_steps.proofs.StoreLaws.{session_laws, session_notes, store_laws}
 
 abbrev K : Type 0
@@ -41,24 +43,14 @@ L = Progress CatalogueView
 pub may_take_its_desk : (k : K) (caller : Caller) (p : ℕ) → IsFree caller k → p ≡ desk_place k.progress.config caller.node → MayTake store_rules p k
 may_take_its_desk k caller p free is = subst (λ z. MayTake store_rules z k) (sym is) (may_take_desk session_laws view_of IsSized k caller.node free.held (caller.slot, free.within, free.own, free.near))
 
--- what the session is, once it has taken its desk
-pub record TookDesk (caller : Caller) (k t : K) (p : ℕ) (v : Value) : Type 0 where
-  pub session : t.session ≡ k.session
-  pub note : t.note ≡ k.note
-  pub extends : Extends k.progress t.progress
-  pub held : t.held ≡ (p, v) ∷ []
-  pub steps : HasStepped k (Took p v) t
-  pub desk : DeskView
-  pub node : desk.node ≡ caller.node
-  pub seen : view_of v ≡ TheDesk desk
-  pub here : IsAt caller.slot t desk
-
-pub took_desk : (k t : K) (caller : Caller) (p : ℕ) (v : Value) → IsFree caller k → p ≡ desk_place k.progress.config caller.node → Acquired store_rules p k t v → TookDesk caller k t p v
+pub took_desk : (k t : K) (caller : Caller) (p : ℕ) (v : Value) → IsFree caller k → p ≡ desk_place k.progress.config caller.node → Acquired store_rules p k t v → HasDesk caller k t p v
 took_desk k t caller p v free is won =
     let taken = takes_desk session_laws view_of IsSized p caller.node k t v is won in
     let i = taken.0 in
     let node = sym taken.3 in
     record {
+      free = free;
+      place = is;
       session = i.session;
       note = i.note;
       extends = i.extends;
@@ -78,14 +70,32 @@ took_desk k t caller p v free is won =
       };
     }
 
+-- the place that was taken is that of its desk
+pub has_taken : (k : K) (caller : Caller) (p : ℕ) → IsFree caller k → p ≡ desk_place k.progress.config caller.node → (old new : StoreSeat) → IsSession old k → (q : ℕ) → q ≡ p → (v : Value) → Takes store_rules old p v new → (t : K) × IsSession new t × HasDesk caller k t q v
+has_taken k caller p free place old new is q at v won =
+    let t = won k is in
+    (t.0, t.2, subst (λ z. HasDesk caller k t.0 z v) (sym at) (took_desk k t.0 caller p v free place t.1))
+
+-- what follows from two facts of a value, if there is one
+pub if_both : {A : Type 0} (N : Type 0) (o : Option A) {P Q R : A → Type 0} → IfSome o P → MatchOption o N Q → ((x : A) → P x → Q x → R x) → IfSome o R
+if_both N None p q both = p
+if_both N (Some x) p q both = both x p q
+
+-- a session that has put its desk back, and is f, has taken it again
+pub took_again : (caller : Caller) (k t f : K) (p : ℕ) (v : Value) → HasDesk caller k t p v → f.session ≡ k.session → f.held ≡ [] → Extends k.progress f.progress → (z : K) (q : ℕ) → q ≡ p → (u w : Value) → w ≡ u → Acquired store_rules p f z u → HasDesk caller f z q w
+took_again caller k t f p v b session held extends z q at u w same won =
+    let place = b.place ∙ ap (λ (c : Sizes). desk_place c caller.node) extends.config in
+    let acquired = subst (λ (x : ℕ × Value). Acquired store_rules x.0 f z x.1) (λ i. (sym at i, sym same i)) won in
+    took_desk f z caller q w (free_by caller k f session held extends b.free) (at ∙ place) acquired
+
 -- the desk that was taken is the one that is lent
-pub same_desk : (caller : Caller) (k t : K) (p : ℕ) (v : Value) (b : TookDesk caller k t p v) (x : DeskView) → desk_of v ≡ Some x → b.desk ≡ x
+pub same_desk : (caller : Caller) (k t : K) (p : ℕ) (v : Value) (b : HasDesk caller k t p v) (x : DeskView) → desk_of v ≡ Some x → b.desk ≡ x
 same_desk caller k t p v b x e = same_Some b.desk x (sym (has_desk v b.desk b.seen) ∙ e)
 
-pub is_at : (caller : Caller) (k t : K) (p : ℕ) (v : Value) → TookDesk caller k t p v → (x : DeskView) → desk_of v ≡ Some x → IsAt caller.slot t x
+pub is_at : (caller : Caller) (k t : K) (p : ℕ) (v : Value) → HasDesk caller k t p v → (x : DeskView) → desk_of v ≡ Some x → IsAt caller.slot t x
 is_at caller k t p v b x e = subst (IsAt caller.slot t) (same_desk caller k t p v b x e) b.here
 
-pub is_desk : (caller : Caller) (k t : K) (p : ℕ) (v : Value) → TookDesk caller k t p v → IsSome (desk_of v)
+pub is_desk : (caller : Caller) (k t : K) (p : ℕ) (v : Value) → HasDesk caller k t p v → IsSome (desk_of v)
 is_desk caller k t p v b = ap is_some (has_desk v b.desk b.seen)
 
 -- ---- put back
@@ -128,7 +138,7 @@ pub record PutsDesk (k t : K) (sessions : List K) (deed : DeskDeed) (w : Value) 
   pub may : DeskMayBePut deed sessions t q w
   pub back : (l : L) (ns : List SessionNote) → Possible store_rules t l ns → (run : RunOf L SessionNote Value) → Continues t.run run → BackDesk k (desk_back deed sessions t q w l run) n
 
-module _ (caller : Caller) (k t : K) (p : ℕ) (v : Value) (b : TookDesk caller k t p v) (sessions : List K) (is : sessions ≡ t ∷ []) where
+module _ (caller : Caller) (k t : K) (p : ℕ) (v : Value) (b : HasDesk caller k t p v) (sessions : List K) (is : sessions ≡ t ∷ []) where
   at_desk : At 0 (p, v) t.held
   at_desk = ap (λ z. get_elem? z 0) b.held
 

@@ -29,15 +29,18 @@ use Rattle.store_steps.specs.declared.desks.Turn.{Turn}
 use Rattle.store_steps.specs.declared.desks.Turn.TheVariants.{Collects, Combines, Waits}
 use Rattle.store_steps.specs.declared.steps.Caller.{Caller}
 use Rattle.store_steps.specs.declared.values.Value.{Value}
-use Rattle.store_steps.specs.AtDesk.{HasAsked, IsTurn, Steps}
+use Rattle.store_steps.specs.AtDesk.{HasAsked, IsAt, IsTurn, Steps}
+use Rattle.store_steps.specs.Lending.{desk_of, with_desk}
 use Rattle.store_steps.specs.Requests.{HasPosted, HasTurned, IsBack, Turns}
 use Rattle.store_steps.specs.Views.{request_of}
 use Rattle.store_steps.specs.Shelving.{IsSized, store_rules, view_of}
 use Rattle.store_steps.specs.Standing.{SessionKnown}
+use Rattle.store_steps.specs.Visits.{HasDesk}
 use Rattle.store_steps.proofs.AtDesk.{Own, own, post_steps, turn_steps}
+use Rattle.store_steps.proofs.Parts.{desk_put}
 use Rattle.store_steps.proofs.Resumed.{asked_by}
 use Rattle.store_steps.proofs.Requested.{some_claimed, tells_on}
-use Rattle.store_steps.proofs.TakenDesk.{BackDesk, DeskMayBePut, PutsDesk, TookDesk, back_desk, back_same_desk, desk_back, may_put_desk, may_put_same_desk, puts_desk}
+use Rattle.store_steps.proofs.TakenDesk.{BackDesk, DeskMayBePut, PutsDesk, back_desk, back_same_desk, desk_back, is_at, may_put_desk, may_put_same_desk, puts_desk, same_desk}
 
 abbrev K : Type 0
 K = SessionKnown
@@ -50,22 +53,30 @@ is_back k f n b = record { session = b.session; held = b.held; extends = b.exten
 
 -- ---- a post
 
--- the desk is put back as w, whose desk is y
-module _ (caller : Caller) (k t : K) (p : ℕ) (v : Value) (op : Operation) (b : TookDesk caller k t p v) (w : Value) (y : DeskView) (isw : view_of w ≡ TheDesk y) (h : posted caller.slot op b.desk ≡ Some y) (sessions : List K) (is : sessions ≡ t ∷ []) (may : IsAllowed store_meaning k.progress.catalogue op) where
+-- the desk x was lent, and is put back as y
+module _ (caller : Caller) (k t : K) (p : ℕ) (v : Value) (op : Operation) (b : HasDesk caller k t p v) (x y : DeskView) (lent : desk_of v ≡ Some x) (h : posted caller.slot op x ≡ Some y) (sessions : List K) (is : sessions ≡ t ∷ []) (c : CatalogueView) (of : k.progress.catalogue ≡ c) (may : IsAllowed store_meaning c op) where
   abbrev request : Pending
   request = request_of t.progress op
 
   abbrev waiting : SessionNote
   waiting = record t.note { pending = Some request }
 
-  step : Steps t b.desk waiting y
-  step = post_steps caller.slot t b.desk y op h b.here (subst (λ c. IsAllowed store_meaning c op) b.extends.catalogue may)
+  there : posted caller.slot op b.desk ≡ Some y
+  there = ap (posted caller.slot op) (same_desk caller k t p v b x lent) ∙ h
 
-  pub puts_posted : (q : ℕ) → q ≡ p → PutsDesk k t sessions PostedThere w waiting q
-  puts_posted = puts_desk caller k t p v b sessions is PostedThere w y waiting isw step (post_noted view_of t caller.slot op b.desk y t.note b.here.own h)
+  step : Steps t b.desk waiting y
+  step = post_steps caller.slot t b.desk y op there b.here (subst (λ z. IsAllowed store_meaning z op) (sym of ∙ b.extends.catalogue) may)
+
+  pub puts_posted : PutsDesk k t sessions PostedThere (with_desk v y) waiting p
+  puts_posted = puts_desk caller k t p v b sessions is PostedThere (with_desk v y) y waiting (desk_put v x y lent) step (post_noted view_of t caller.slot op b.desk y t.note b.here.own there) p refl
 
   pub has_posted : (f : K) → BackDesk k f waiting → HasPosted k f op
   has_posted f back = record { back = is_back k f waiting back; request = request; op_is = refl; seen = grown_long store_meaning k.progress t.progress b.extends; note = back.note ∙ ap (λ (n : SessionNote). record n { pending = Some request }) b.note }
+
+-- who waits for no answer may post there
+pub may_post : (caller : Caller) (k t : K) (p : ℕ) (v : Value) (op : Operation) (b : HasDesk caller k t p v) (x : DeskView) → desk_of v ≡ Some x → k.note.pending ≡ None → (c : CatalogueView) → k.progress.catalogue ≡ c → IsAllowed store_meaning c op
+    → (t : K) × IsAt caller.slot t x × (t.note.pending ≡ None) × IsAllowed store_meaning t.progress.catalogue op
+may_post caller k t p v op b x lent none c of may = (t, is_at caller k t p v b x lent, ap (λ (n : SessionNote). n.pending) b.note ∙ none, subst (λ z. IsAllowed store_meaning z op) (sym of ∙ b.extends.catalogue) may)
 
 -- ---- a turn
 
@@ -87,7 +98,7 @@ stage_is k s slot x y own at node =
     let here = own_place (y.node * k.progress.config.slots) s k.session (own ∙ ap (λ z. session k.progress.config z s) node) in
     ap (λ i. option_map (λ (z : Slot). z.stage) (slice_get y.slots i)) here ∙ ap (λ o. option_map (λ (z : Slot). z.stage) o) (get_of y.slots s slot at)
 
-module _ (caller : Caller) (k t : K) (p : ℕ) (v w : Value) (o : Pending) (b : TookDesk caller k t p v) (sessions : List K) (is : sessions ≡ t ∷ []) (asked : HasAsked k o) where
+module _ (caller : Caller) (k t : K) (p : ℕ) (v w : Value) (o : Pending) (b : HasDesk caller k t p v) (sessions : List K) (is : sessions ≡ t ∷ []) (asked : HasAsked k o) where
   asked_then : HasAsked t o
   asked_then = asked_by k t o b.note asked
 
@@ -156,7 +167,7 @@ module _ (caller : Caller) (k t : K) (p : ℕ) (v w : Value) (o : Pending) (b : 
         (record { back = is_back k _ n f; turns = tells _ f.note (subst (λ z. Extends t.progress z) (sym same) can.0.0) (is_back k _ n f) });
   }
 
-  pub put_turn : (y : DeskView) → view_of w ≡ TheDesk y → (batch : BatchView) (turn : Turn) → IsTurn caller.slot b.desk y batch turn → Put batch turn
+  put_turn : (y : DeskView) → view_of w ≡ TheDesk y → (batch : BatchView) (turn : Turn) → IsTurn caller.slot b.desk y batch turn → Put batch turn
   put_turn y isw batch = by
     where
       by : (turn : Turn) → IsTurn caller.slot b.desk y batch turn → Put batch turn
@@ -185,3 +196,9 @@ module _ (caller : Caller) (k t : K) (p : ℕ) (v w : Value) (o : Pending) (b : 
                 let f = back_same_desk caller k t p v b sessions is w same l ns can run on in
                 subst (λ d. HasTurned k (desk_back d sessions t p w l run) o batch Waits) (sym deed) (record { back = is_back k _ k.note f; turns = f.note });
           }
+
+-- the desk x was lent, and is put back as y
+pub turns_there : (caller : Caller) (k t : K) (p : ℕ) (v : Value) (o : Pending) (b : HasDesk caller k t p v) (sessions : List K) (is : sessions ≡ t ∷ []) (asked : HasAsked k o) (x y : DeskView) → desk_of v ≡ Some x → (batch : BatchView) (turn : Turn) → IsTurn caller.slot x y batch turn
+    → Put caller k t p v (with_desk v y) o b sessions is asked batch turn
+turns_there caller k t p v o b sessions is asked x y lent batch turn h =
+    put_turn caller k t p v (with_desk v y) o b sessions is asked y (desk_put v x y lent) batch turn (subst (λ z. IsTurn caller.slot z y batch turn) (sym (same_desk caller k t p v b x lent)) h)

@@ -4,12 +4,9 @@ use Rattle.maps.specs.declared.shapes.Shape.{Shape}
 use Rattle.maps.specs.Maps.{Maps, value_at}
 use Rattle.maps.specs.Shapes.{key_size, value_size}
 use Rattle.loader.specs.CatalogueView.{CatalogueView}
-use Rattle.accounts.specs.declared.sessions.Progress.{Progress}
 use Rattle.store_steps.specs.declared.getting.GetRefused.{GetRefused}
 use Rattle.store_steps.specs.declared.getting.GetRefused.TheVariants.{UnknownMap, KeyLength, ValueLength}
 use Rattle.store_steps.specs.declared.getting.Lookup.{Lookup}
-use Rattle.store_steps.specs.Sights.{SightBy, SightTells}
-use Rattle.store_steps.specs.Standing.{SessionKnown}
 
 -- ---- which are refused
 
@@ -44,17 +41,8 @@ value_if false value = None
 abbrev pub IsUnder : Maps → (map : ℕ) → (key old new : List ℕ) → Lookup → Type 0
 IsUnder maps map key old new found = (value_at maps map key ≡ value_if found.found new) × (found.found ≡ false → new ≡ old)
 
--- a key was looked for by a call that began when so many operations were completed: its point lies from there to the completed tail at its end,
--- and what was found is what stands under the key after the operations before that point
-abbrev pub GetTells : Progress CatalogueView → (begun map : ℕ) → (key old new : List ℕ) → Lookup → Type 0
-GetTells l begun map key old new found = SightTells (λ c state. IsUnder state.maps map key old new found) l begun found.point
-
--- ---- by what maps have, and by what a session knows
+-- ---- by what maps have
 
 -- maps of these shapes have one of this number, with keys and values of these lengths
 abbrev pub FitsIn : List Shape → (map key room : ℕ) → Type 0
 FitsIn shapes map key room = (shape : Shape) × (slice_get shapes map ≡ Some shape) × (key ≡ key_size shape) × (room ≡ value_size shape)
-
--- the steps of a look for a key: one look, and what was found stands in the replica's maps
-abbrev pub GetsBy : (k after : SessionKnown) → (map : ℕ) → (key old new : List ℕ) → Lookup → Type 0
-GetsBy k after map key old new found = SightBy (λ c state. IsUnder state.maps map key old new found) found.point k after

@@ -10,8 +10,7 @@ pub mod Questions
 -- What each look says of a node's state, and the steps of a look.
 pub mod Sights
 pub mod Seen
--- States that are taken, and what stands under one key.
-pub mod Snapshots
+-- What stands under one key.
 pub mod Getting
 -- The steps at a desk, which the public calls on a lent desk cite.
 pub mod AtDesk
@@ -26,8 +25,8 @@ pub mod Combining
 pub mod Trying
 -- Whole calls as lists of steps.
 pub mod Whole
-pub mod Looking
 pub mod Updating
+pub mod Visits
 -- A replica that is held and has come up.
 pub mod Ready
 -- A post and a turn, or answers and a turn, in one hold of a desk.

@@ -5,11 +5,9 @@ use Rattle.loader.specs.CatalogueView.{CatalogueView}
 use Rattle.loader.specs.StoreState.{StoreState}
 use Rattle.replica.specs.Refusals.{early_refusal}
 use Rattle.replica.specs.declared.refusals.StoreRefused.{StoreRefused}
-use Rattle.accounts.specs.declared.sessions.Progress.{Progress}
 use Rattle.store_steps.specs.declared.questions.QuestionRefused.{QuestionRefused}
 use Rattle.store_steps.specs.declared.steps.Question.{Question}
 use Rattle.store_steps.specs.Asking.{asked_op}
-use Rattle.store_steps.specs.Sights.{SightTells}
 use Rattle.store_steps.specs.Views.{RepliesIn}
 
 -- ---- which are refused
@@ -34,8 +32,3 @@ first_refused c number (asked ∷ others) = refused_or number (question_refusal 
 abbrev pub EachReplies : CatalogueView → StoreState → List Question → (replies : List ℕ) → Type 0
 EachReplies c state questions replies =
     (i : ℕ) (asked : Question) → slice_get questions i ≡ Some asked → (reply : ℕ) × (slice_get replies i ≡ Some reply) × RepliesIn c (asked_op asked) state reply
-
--- reads that began when so many operations were completed have one point, from there to the completed tail at their end, and each question has the
--- reply of there
-abbrev pub EachTells : Progress CatalogueView → (begun : ℕ) → List Question → (point : ℕ) → (replies : List ℕ) → Type 0
-EachTells l begun questions point replies = SightTells (λ c state. EachReplies c state questions replies) l begun point

@@ -7,11 +7,9 @@ use Rattle.maps.specs.Shapes.{entry_count}
 use Rattle.maps.specs.Scans.{IsPage, KeyValue, Scans, given, room_in}
 use Rattle.loader.specs.CatalogueView.{CatalogueView}
 use Rattle.loader.specs.StoreState.{StoreState}
-use Rattle.accounts.specs.declared.sessions.Progress.{Progress}
 use Rattle.store_steps.specs.declared.scanning.Scan.{Scan}
 use Rattle.store_steps.specs.declared.scanning.ScanRefused.{ScanRefused}
 use Rattle.store_steps.specs.declared.scanning.ScanRefused.TheVariants.{UnknownMap, UnknownPlace}
-use Rattle.store_steps.specs.Sights.{SightTells}
 
 -- ---- which scans are refused
 
@@ -43,10 +41,6 @@ pub record Scanned (c : CatalogueView) (state : StoreState) (map from room : ℕ
 abbrev pub GivesIn : CatalogueView → StoreState → (map from key_room value_room : ℕ) → (keys values : List ℕ) → Scan → Type 0
 GivesIn c state map from key_room value_room keys values s =
     (m : Stored) × Scanned c state map from (room_in m.shape key_room value_room) m (given m.shape s.count keys values) s
-
--- the scan began when so many operations were completed: its point is between that number and the completed tail at its end
-abbrev pub ScanGives : Progress CatalogueView → (begun map from key_room value_room : ℕ) → (keys values : List ℕ) → Scan → Type 0
-ScanGives l begun map from key_room value_room keys values s = SightTells (λ c state. GivesIn c state map from key_room value_room keys values s) l begun s.point
 
 -- ---- by what a node has
 

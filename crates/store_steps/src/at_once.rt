@@ -16,6 +16,7 @@ use crate::desks::Turn;
 use crate::requests::{turn, watch};
 use crate::steps::Here;
 use crate::values::Value;
+use crate::visits::{try_take_desk, turn_and_put};
 use combiner::{Batch, Reply};
 use oplog::Op;
 use ownlock::Seat;
@@ -23,8 +24,8 @@ use replica::Replies;
 use std::marker::Brand;
 use std::sync::Wait;
 
-/// Posts an operation at the desk of the caller's node, and has a turn there in the same hold: it claims the posted requests into the batch, where nobody
-/// combines. Where another session holds the desk it answers `None`, and nothing has changed.
+/// Posts an operation at the desk of the caller's node, and has a turn there in the same hold: it claims the posted requests into the batch, unless
+/// another session combines. If another session holds the desk, the answer is `None`, and nothing has changed.
 #[inline(always)]
 pub fn try_post_and_turn(
     here: Here<'_>,
@@ -40,22 +41,16 @@ pub fn try_post_and_turn(
     ensures turned { IfSome result (λ turn. (k : SessionKnown) → IsSession seat.old k → PostsAndTurns seat.old seat.new k op.now batch.new turn) }
     ensures fresh { IfSome result FoundNoAnswer }
 {
-    let Some(mut held) = here
-        .shared
-        .shelf
-        .try_take(seat, 1 + here.shared.nodes + here.caller.node)
-    else {
+    let Some(mut held) = try_take_desk(here, seat) else {
         return None;
     };
     desks::post(held.value.desk_mut(), here.caller.slot, op);
-    let mut again = here.shared.shelf.settle::<Brand>(seat, held);
-    let turn = desks::look(again.value.desk_mut(), here.caller.slot, batch);
-    here.shared.shelf.put::<Brand>(seat, again);
-    Some(turn)
+    let again = here.shared.shelf.settle::<Brand>(seat, held);
+    Some(turn_and_put(here, seat, again, batch))
 }
 
 /// Answers the requests of the batch at the desk of the caller's node, by the outcomes that were kept of it, and has a turn there in the same hold: it
-/// collects its own answer. Where another session holds the desk it answers `None`, and nothing has changed.
+/// collects its own answer. If another session holds the desk, the answer is `None`, and nothing has changed.
 #[inline(always)]
 pub fn try_hand_over_and_turn(
     here: Here<'_>,
@@ -69,21 +64,15 @@ pub fn try_hand_over_and_turn(
     ensures stays { IfNone result ((seat.new ≡ seat.old) × (batch.new ≡ batch.old)) }
     ensures turned { IfSome result (SessionGives here.entry.caller.node seat.old seat.new batch.old replies.now batch.new) }
 {
-    let Some(mut held) = here
-        .shared
-        .shelf
-        .try_take(seat, 1 + here.shared.nodes + here.caller.node)
-    else {
+    let Some(mut held) = try_take_desk(here, seat) else {
         return None;
     };
     desks::reply(held.value.desk_mut(), batch, replies);
-    let mut again = here.shared.shelf.settle::<Brand>(seat, held);
-    let turn = desks::look(again.value.desk_mut(), here.caller.slot, batch);
-    here.shared.shelf.put::<Brand>(seat, again);
-    Some(turn)
+    let again = here.shared.shelf.settle::<Brand>(seat, held);
+    Some(turn_and_put(here, seat, again, batch))
 }
 
-// The same as the first, but it waits while another session holds the desk.
+// `try_post_and_turn`, but waits while another session holds the desk.
 #[inline(always)]
 fn post_and_turn<R: Wait>(
     rt: &R,
@@ -112,7 +101,7 @@ fn post_and_turn<R: Wait>(
     unreachable!()
 }
 
-// The same as the second, but it waits while another session holds the desk.
+// `try_hand_over_and_turn`, but waits while another session holds the desk.
 #[inline(always)]
 fn hand_over_and_turn<R: Wait>(
     rt: &R,
@@ -140,8 +129,8 @@ fn hand_over_and_turn<R: Wait>(
     unreachable!()
 }
 
-/// A whole update with as few takes as who uses a desk can have: it posts and claims in one hold of the desk, and answers its batch and collects its own
-/// answer in another. Where another session combines it waits as [`complete`](crate::complete) does.
+/// A whole update by four takes: the session posts and claims in one hold of the desk, and answers its batch and collects its own answer in
+/// another. While another session combines, it waits as [`complete`](crate::complete) does.
 pub fn ask_at_once<R: Wait>(
     rt: &R,
     here: Here<'_>,

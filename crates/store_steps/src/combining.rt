@@ -12,6 +12,7 @@ ghost use Rattle.store_steps.specs.Whole.{AnswersBy, CombinesBy, HandsOver};
 use crate::desks;
 use crate::steps::{Here, Shared, replay_and_raise, try_append_and_copy};
 use crate::values::Value;
+use crate::visits::try_take_desk;
 use combiner::Batch;
 use ownlock::{LEADER, Seat};
 use replica::Replies;
@@ -99,7 +100,7 @@ pub(crate) fn combine<R: Wait>(
 }
 
 // Takes the desk of the caller's node, answers the requests of the batch there, by the outcomes that were kept of it, and puts the
-// desk back. Where another session holds the desk it answers `None`, and nothing has changed.
+// desk back. If another session holds the desk, the answer is `None`, and nothing has changed.
 #[inline(always)]
 pub(crate) fn try_hand_over(
     here: Here<'_>,
@@ -115,11 +116,7 @@ pub(crate) fn try_hand_over(
     ensures answered { IfSome result (λ _. batch.new ≡ answered_batch replies.now batch.old) }
     ensures handed { IfSome result (λ _. Relates seat.old seat.new (λ k after. HandsOver here.entry.caller.node k after batch.old replies.now)) }
 {
-    let Some(mut held) = here
-        .shared
-        .shelf
-        .try_take(seat, 1 + here.shared.nodes + here.caller.node)
-    else {
+    let Some(mut held) = try_take_desk(here, seat) else {
         return None;
     };
     desks::reply(held.value.desk_mut(), batch, replies);

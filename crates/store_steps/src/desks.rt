@@ -42,7 +42,7 @@ pub fn post(desk: &mut Desk, slot: usize, op: &Op)
 /// Collects the answer that waits in the session's slot. Where there is none, claims the posted requests, if nobody combines:
 /// the batch has these then, and is as it was otherwise.
 #[inline(always)]
-pub fn look(desk: &mut Desk, slot: usize, batch: &mut Batch) -> Turn
+pub fn collect_or_claim(desk: &mut Desk, slot: usize, batch: &mut Batch) -> Turn
     requires own { (k : SessionKnown) × (o : Pending) × IsAt slot k desk.old × HasAsked k o }
     ensures turn { IsTurn slot desk.old desk.new batch.new result }
     ensures kept { KeepsBatch batch.old batch.new result }

@@ -16,6 +16,7 @@ mod scanning;
 mod snapshots;
 mod steps;
 mod values;
+mod visits;
 
 pub use at_once::{ask_at_once, try_hand_over_and_turn, try_post_and_turn};
 pub use batches::{Batches, Room};

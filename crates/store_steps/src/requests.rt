@@ -13,6 +13,7 @@ use crate::desks;
 use crate::desks::Turn;
 use crate::steps::Here;
 use crate::values::Value;
+use crate::visits::{try_take_desk, turn_and_put};
 use combiner::{Batch, Reply};
 use crossbeam_utils::Backoff;
 use oplog::Op;
@@ -20,7 +21,7 @@ use ownlock::{Seat, Shelf};
 use std::marker::Brand;
 use std::sync::Wait;
 
-/// Posts an operation at the desk of the caller's node, unless another session holds the desk: `None` then, and nothing has changed.
+/// Posts an operation at the desk of the caller's node. If another session holds the desk, the answer is `None`, and nothing has changed.
 #[inline(always)]
 pub fn try_post(here: Here<'_>, seat: &mut Seat<Value>, op: &Op) -> Option<()>
     requires own { seat.old.shelf ≡ here.shared.shelf.now.id }
@@ -31,11 +32,7 @@ pub fn try_post(here: Here<'_>, seat: &mut Seat<Value>, op: &Op) -> Option<()>
     ensures posted { IfSome result (λ _. SessionPosts seat.old seat.new op.now) }
     ensures goes { IfSome result (λ _. Relates seat.old seat.new (λ k after. PostsBy k after op.now)) }
 {
-    let Some(mut held) = here
-        .shared
-        .shelf
-        .try_take(seat, 1 + here.shared.nodes + here.caller.node)
-    else {
+    let Some(mut held) = try_take_desk(here, seat) else {
         return None;
     };
     desks::post(held.value.desk_mut(), here.caller.slot, op);
@@ -67,8 +64,7 @@ pub fn post<R: Wait>(rt: &R, here: Here<'_>, seat: &mut Seat<Value>, op: &Op)
     unreachable!()
 }
 
-// One turn at the desk of the caller's node: collects the answer that waits there; else claims the posted requests into the batch,
-// where nobody combines; else nothing. Where another session holds the desk it answers `None`, and nothing has changed.
+// Takes the desk of the caller's node, and has a turn there. If another session holds the desk, the answer is `None`, and nothing has changed.
 #[inline(always)]
 pub(crate) fn try_turn(here: Here<'_>, seat: &mut Seat<Value>, batch: &mut Batch) -> Option<Turn>
     requires own { seat.old.shelf ≡ here.shared.shelf.now.id }
@@ -78,16 +74,10 @@ pub(crate) fn try_turn(here: Here<'_>, seat: &mut Seat<Value>, batch: &mut Batch
     ensures turned { IfSome result (λ turn. SessionTurns seat.old seat.new batch.new turn) }
     ensures goes { IfSome result (λ turn. Relates seat.old seat.new (λ k after. TurnsBy k after batch.new turn)) }
 {
-    let Some(mut held) = here
-        .shared
-        .shelf
-        .try_take(seat, 1 + here.shared.nodes + here.caller.node)
-    else {
+    let Some(held) = try_take_desk(here, seat) else {
         return None;
     };
-    let turn = desks::look(held.value.desk_mut(), here.caller.slot, batch);
-    here.shared.shelf.put::<Brand>(seat, held);
-    Some(turn)
+    Some(turn_and_put(here, seat, held, batch))
 }
 
 // `try_turn`, but waits while another session holds the desk.

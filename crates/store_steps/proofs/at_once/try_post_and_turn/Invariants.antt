@@ -1,11 +1,7 @@
 use Rattle.accounts.specs.DeskNotes.{PostedThere, desk_noting}
 use Rattle.accounts.specs.Picks.{put_progress, put_note}
 use Rattle.store_steps.specs.Shelving.{view_of}
-use Rattle.store_steps.proofs.Turning.{deed_in}
 use Rattle.store_steps.proofs.at_once.try_post_and_turn.Given as goal
 
 abbrev pub ghosts-settle : goal.ghosts-settle
 ghosts-settle a = record { progress = put_progress a.seat.now.sessions (view_of a.held.value); note = put_note (desk_noting view_of PostedThere) a.seat.now.sessions (view_of a.held.value) }
-
-abbrev pub ghosts-put : goal.ghosts-put
-ghosts-put a = record { progress = put_progress a.seat.now.sessions (view_of a.held.value); note = put_note (desk_noting view_of (deed_in a.seat.now.sessions a.held.value)) a.seat.now.sessions (view_of a.held.value) }

@@ -1,7 +1,9 @@
 use Rattle.std.proofs.Common.{◌≡◌, ◌∙◌, None, Some, refl, ap, sym, subst}
 use Rattle.text.specs.Digits.{field_bytes}
 use Rattle.oplog.specs.Operations.{Operation}
-use Rattle.store.specs.Sessions.{TellsUpdate, TellsRead}
+use Rattle.readpath.specs.declared.reading.ReadAnswer.{ReadAnswer}
+use Rattle.store.specs.Looks.{TellsSight, HasReply}
+use Rattle.store.specs.Sessions.{TellsUpdate}
 use Rattle.verifier.specs.declared.refusal.Mode.{Mode}
 use Rattle.verifier.specs.declared.refusal.Mode.TheVariants.{Update, Read}
 use Rattle.stress.specs.declared.calls.Asked.TheVariants as asks
@@ -37,9 +39,10 @@ returns-clause-told g c =
       | in-Run+in-Read+in-Ok w ↦
           let h = w.read.ensures in
           let is : call.asked ≡ asks.Run Read w.in-Run.program = w.in-Run.is ∙ ap (λ (m : Mode). asks.Run m w.in-Run.program) w.in-Read.is in
-          let tells = h.answered (subst (λ a. asked_refusal catalogue a bytes ≡ None) is none) in
-          let mine = subst (λ a. TellsRead old w.read.new.self (operation_on a bytes) w.read.result) (sym is) tells in
-          rw (w.session-is, w.said-is) (seen old w.read.new.self t op asked h.session.same.1 h.session.grown h.session.well_formed w.in-Ok.answer (subst (λ r. TellsRead old w.read.new.self op r) w.in-Ok.is mine) h.note)
+          let tells = h.told (subst (λ a. asked_refusal catalogue a bytes ≡ None) is none) in
+          let mine = subst (λ a. TellsSight (HasReply (operation_on a bytes)) (λ (r : ReadAnswer). r.point) old w.read.new.self w.read.result) (sym is) tells in
+          let answer = subst (λ r. TellsSight (HasReply op) (λ (a : ReadAnswer). a.point) old w.read.new.self r) w.in-Ok.is mine in
+          rw (w.session-is, w.said-is) (seen old w.read.new.self t op asked h.session.same.1 h.session.grown h.session.well_formed w.in-Ok.answer answer.1 h.note)
       | in-Install w ↦
           let h = w.install.ensures in
           let is : call.asked ≡ asks.Install w.in-Install.mode w.in-Install.arg_len = w.in-Install.is in

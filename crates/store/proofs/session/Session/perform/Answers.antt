@@ -1,16 +1,76 @@
-use Rattle.std.proofs.Common.{sym, ap, ◌∙◌, subst, refl}
+use Rattle.std.proofs.Common.{◌+◌, ◌≤◌, sym, ap, ◌∙◌, subst, refl}
 use Rattle.loader.specs.CatalogueView.{CatalogueView}
-use Rattle.store_steps.specs.Asking.{SessionPosts}
-use Rattle.store_steps.specs.Views.{SessionView, session_view}
-use Rattle.store_steps.specs.Updating.{PostsBy, UpdatesBy}
+use Rattle.oplog.specs.declared.configuration.Sizes.{Sizes}
+use Rattle.oplog.specs.declared.configuration.TheConstants.{MAX_NODES}
 use Rattle.store.specs.Asked.{operation_of}
 use Rattle.store.specs.Sessions.{TellsUpdate}
 use Rattle.store_steps.proofs.Export.{seen_as}
-use Rattle.store.proofs.Invoked.{goes_on, goes_seen, has_asked, has_grown, invoked, is_idle, tells_update}
+use Rattle.store_steps.specs.Asking.{SessionPosts}
+use Rattle.store_steps.specs.AtOnce.{AsksAtOnce}
+use Rattle.store_steps.specs.Views.{SessionView, session_view}
+use Rattle.store_steps.specs.Updating.{PostsBy, UpdatesBy}
+use Rattle.store.proofs.Invoked.{goes_on, goes_seen, has_asked, has_grown, invoked, is_idle, may_ask, tells_update}
 use Rattle.store.proofs.session.Session.perform.Goals as goal
+
+-- ---- by four takes
+
+pub ask_at_once-given-requires-clause-idle : goal.ask_at_once-given-requires-clause-idle
+ask_at_once-given-requires-clause-idle g c =
+    let i = c.self.invariant.0 in
+    let k = i.known in
+    let was = sym c.self.view_is ∙ seen_as c.self.inside.seat k i.is in
+    let config = ap (λ (z : SessionView). z.progress.config) (sym was) ∙ c.requires.own.config in (
+      k,
+      i.is,
+      i.free,
+      may_ask k c.args.store.now.config config c.shared-shared.ensures.config i.pending i.batch i.within i.well_formed,
+      record {
+        places_are = c.shared-shared.ensures.places ∙ ap (λ n. 1 + n + n) (sym c.shared-shared.ensures.nodes.0);
+        few = subst (λ n. n ≤ MAX_NODES) (sym c.shared-shared.ensures.nodes.0) c.shared-shared.ensures.nodes.1;
+        nodes_are = ap (λ (z : Sizes). z.nodes) config ∙ sym c.shared-shared.ensures.nodes.0;
+        catalogue_is = ap (λ (z : SessionView). z.progress.catalogue) (sym was) ∙ (c.requires.own.catalogue ∙ sym c.shared-shared.ensures.catalogue);
+      },
+    )
 
 pub invariant_of-self : goal.invariant_of-self
 invariant_of-self g c =
+    let k = c.self.invariant.0.known in
+    let op = operation_of c.args.asked in
+    let a = subst (λ o. AsksAtOnce c.ask_at_once-given.new.seat k o c.ask_at_once-given.result) c.write.ensures.op (c.ask_at_once-given.ensures.asked k c.self.invariant.0.is) in
+    let v = invoked k a.asked a.after op c.ask_at_once-given.result a.posted a.completed in
+    let old = c.self.inside.seat in
+    let seat = c.ask_at_once-given.new.seat in
+    let grown = has_grown c.args.store.now (session_view old) (session_view seat) old.shelf seat.shelf k a.after op c.ask_at_once-given.result v (seen_as old k c.self.invariant.0.is) (seen_as seat a.after a.is) in (
+      is_idle k a.after op c.ask_at_once-given.result v old seat c.self.inside.caller c.self.invariant.0 refl a.is,
+      (c.self.invariant.1.0 ∙ ap (λ (x : CatalogueView). x.shapes) grown.catalogue, c.self.invariant.1.1),
+    )
+
+pub returns-then-at_once : goal.returns-then-at_once
+returns-then-at_once g c =
+    let k = c.self.invariant.0.known in
+    let op = operation_of c.args.asked in
+    let a = subst (λ o. AsksAtOnce c.ask_at_once-given.new.seat k o c.ask_at_once-given.result) c.write.ensures.op (c.ask_at_once-given.ensures.asked k c.self.invariant.0.is) in
+    let v = invoked k a.asked a.after op c.ask_at_once-given.result a.posted a.completed in
+    let was = sym c.self.view_is ∙ seen_as c.self.inside.seat k c.self.invariant.0.is in
+    let seat = c.ask_at_once-given.new.seat in
+    let new = session_view seat in
+    let now = seen_as seat a.after a.is in
+    let same = c.ask_at_once-given.ensures.same ∙ ap (λ (z : SessionView). z.shelf) c.self.view_is in
+    record {
+      session = goes_on c.args.store.now c.args.self.now new c.self.inside.seat.shelf seat.shelf k a.after op c.ask_at_once-given.result v was now c.requires.own same;
+      answered = subst (λ r. TellsUpdate c.args.self.now new op r) (sym c.answer_of.ensures.said) (tells_update c.args.store.now c.args.self.now new c.self.inside.seat.shelf seat.shelf k a.after op c.ask_at_once-given.result v was now c.self.invariant.0.pending c.self.invariant.0.batch);
+      goes = (
+        c.ask_at_once-given.result,
+        c.answer_of.ensures.said,
+        goes_seen (λ k f. UpdatesBy k f op c.ask_at_once-given.result) c.self.inside.seat seat c.args.self.now k a.after c.self.invariant.0.is c.self.invariant.0.free.held c.self.view_is a.is v.held
+            (subst (λ o. UpdatesBy k a.after o c.ask_at_once-given.result) c.write.ensures.op (c.ask_at_once-given.ensures.goes k a.after c.self.invariant.0.is a.is)),
+      );
+    }
+
+-- ---- by six
+
+pub invariant_of-self-2 : goal.invariant_of-self-2
+invariant_of-self-2 g c =
     let k = c.self.invariant.0.known in
     let op = operation_of c.args.asked in
     let p = subst (λ o. SessionPosts c.self.inside.seat c.post.new.seat o) c.write.ensures.op c.post.ensures.posted k c.self.invariant.0.is in
@@ -42,10 +102,10 @@ returns g c =
     let same = c.complete-reply.ensures.same ∙ (c.post.ensures.same ∙ ap (λ (z : SessionView). z.shelf) c.self.view_is) in
     record {
       session = goes_on c.args.store.now c.args.self.now new c.self.inside.seat.shelf seat.shelf k f.0 op c.complete-reply.result v was now c.requires.own same;
-      answered = subst (λ r. TellsUpdate c.args.self.now new op r) (sym c.answer_of.ensures.said) (tells_update c.args.store.now c.args.self.now new c.self.inside.seat.shelf seat.shelf k f.0 op c.complete-reply.result v was now c.self.invariant.0.pending c.self.invariant.0.batch);
+      answered = subst (λ r. TellsUpdate c.args.self.now new op r) (sym c.answer_of-2.ensures.said) (tells_update c.args.store.now c.args.self.now new c.self.inside.seat.shelf seat.shelf k f.0 op c.complete-reply.result v was now c.self.invariant.0.pending c.self.invariant.0.batch);
       goes = (
         c.complete-reply.result,
-        c.answer_of.ensures.said,
+        c.answer_of-2.ensures.said,
         goes_seen (λ k f. UpdatesBy k f op c.complete-reply.result) c.self.inside.seat seat c.args.self.now k f.0 c.self.invariant.0.is c.self.invariant.0.free.held c.self.view_is f.1 v.held
             (record { asked = p.0; posts = subst (λ o. PostsBy k p.0 o) c.write.ensures.op (c.post.ensures.goes k p.0 c.self.invariant.0.is p.1); completes = c.complete-reply.ensures.goes p.0 f.0 p.1 f.1 }),
       );

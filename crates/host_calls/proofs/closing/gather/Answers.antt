@@ -3,7 +3,7 @@ use Rattle.std.proofs.lemmas.List.Elements.{All-pop}
 use Rattle.host_calls.specs.Leaving.{sessions_at, sessions_back}
 use Rattle.host_calls.specs.Seating.{IsIdleSeat, IsSeatOf}
 use Rattle.host_calls.proofs.Gathered.{at_most_one, back_more}
-use Rattle.host_calls.proofs.closing.gathered.Goals as goal
+use Rattle.host_calls.proofs.closing.gather.Goals as goal
 
 pub loop-place-preserved : goal.loop-place-preserved
 loop-place-preserved c =

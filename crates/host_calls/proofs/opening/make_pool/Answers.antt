@@ -5,7 +5,7 @@ use Rattle.std.proofs.lemmas.List.Elements.{All-pop}
 use Rattle.store.specs.Sessions.{IsOf, fresh_session}
 use Rattle.host_calls.specs.Openings.{IsSeat}
 use Rattle.host_calls.proofs.Seats.{popped, put_there, seat_of}
-use Rattle.host_calls.proofs.opening.pooled.Goals as goal
+use Rattle.host_calls.proofs.opening.make_pool.Goals as goal
 
 pub loop-session-preserved : goal.loop-session-preserved
 loop-session-preserved c =
@@ -19,12 +19,12 @@ loop-session-preserved c =
     let more = p.more in
     let few = i.few in
     let places = c.loop-session.places.items in
-    let seat = c.in-Ok-seated.ensures.seat ∙ ap (seat_of s m) (p.last ∙ ap (fresh_session s.id s.config s.catalogue) (sym at)) in
+    let seat = c.in-Ok-seat.ensures.seat ∙ ap (seat_of s m) (p.last ∙ ap (fresh_session s.id s.config s.catalogue) (sym at)) in
     record {
       own = (All-pop (IsOf s) _ ys c.pop.result c.pop.ensures.items i.own).0;
       fresh = p.rest;
       room = ap length c.put.ensures.put ∙ (length-set places m _ ∙ i.room);
       few = omega (arith, more, few);
       seats = λ k from below. subst (λ z. IsSeat s z k) (sym c.put.ensures.put)
-          (put_there s places m (length c.args.sessions.items) c.in-Ok-seated.attached i.room (omega (arith, more, few, at)) seat (λ j later under. i.seats j (omega (arith, later, more, at)) under) k (omega (arith, from, at)) below);
+          (put_there s places m (length c.args.sessions.items) c.in-Ok-seat.attached i.room (omega (arith, more, few, at)) seat (λ j later under. i.seats j (omega (arith, later, more, at)) under) k (omega (arith, from, at)) below);
     }

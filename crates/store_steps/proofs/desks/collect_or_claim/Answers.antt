@@ -1,6 +1,6 @@
 use Rattle.store_steps.specs.declared.desks.Turn.TheVariants.{Collects}
 use Rattle.store_steps.proofs.AtDesk.{countable, claim_turn, turn_steps}
-use Rattle.store_steps.proofs.desks.look.Goals as goal
+use Rattle.store_steps.proofs.desks.collect_or_claim.Goals as goal
 
 pub collect-requires-clause-countable : goal.collect-requires-clause-countable
 collect-requires-clause-countable c = let i = c.requires.own in countable c.args.slot i.0 c.args.desk.now i.1 i.2 i.3

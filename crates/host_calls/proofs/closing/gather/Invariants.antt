@@ -2,7 +2,7 @@ use Rattle.std.specs.Prelude.{◌≡◌, ◌+◌, ◌++◌, ◌≤◌, All, leng
 use Rattle.store.specs.Sessions.{IsOf, StoreView}
 use Rattle.host_calls.specs.Leaving.{sessions_back}
 use Rattle.host_calls.specs.Seating.{IsIdleSeat, IsSeatOf}
-use Rattle.host_calls.proofs.closing.gathered.Given as goal
+use Rattle.host_calls.proofs.closing.gather.Given as goal
 
 abbrev pub decreases-loop-place : goal.decreases-loop-place
 decreases-loop-place l = length l.places.items

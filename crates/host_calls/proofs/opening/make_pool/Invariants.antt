@@ -2,7 +2,7 @@ use Rattle.std.specs.Prelude.{◌≡◌, ℕ, ◌<◌, ◌≤◌, All, length}
 use Rattle.std.specs.Arc.{arc_value}
 use Rattle.store.specs.Sessions.{IsOf}
 use Rattle.host_calls.specs.Openings.{IsSeat, fresh_of}
-use Rattle.host_calls.proofs.opening.pooled.Given as goal
+use Rattle.host_calls.proofs.opening.make_pool.Given as goal
 
 abbrev pub decreases-loop-session : goal.decreases-loop-session
 decreases-loop-session l = length l.sessions.items
