@@ -13,6 +13,8 @@ pub mod Seen
 -- States that are taken, and what stands under one key.
 pub mod Snapshots
 pub mod Getting
+-- What a store says of its maps and programs.
+pub mod Describing
 -- The steps at a desk, which the public calls on a lent desk cite.
 pub mod AtDesk
 -- An update from its post to its answer, by calls that wait, and by deeds that don't.
