@@ -342,3 +342,88 @@ nrbpf_status nrbpf_snapshot(nrbpf_session *session, nrbpf_state *into, uint64_t 
     }
     return status;
 }
+
+// ---- What a store is
+
+nrbpf_status nrbpf_try_map_info(nrbpf_session *session, uint32_t map, nrbpf_map_facts *out, size_t size) {
+    struct nrbpf_raw_map raw = {map, 0, 0, 0, 0, 0, 0};
+    if (!session || !out) {
+        return NRBPF_H7;
+    }
+    struct place *const place = place_of(session);
+    nrbpf_status status = usable(place, session);
+    if (status != NRBPF_OK) {
+        return status;
+    }
+    nrbpf_raw_map_info(&place->raw, &raw);
+    status = told(&place->raw, NULL);
+    if (status == NRBPF_OK) {
+        nrbpf_map_facts facts;
+        facts.point = raw.point;
+        facts.keys = raw.keys;
+        facts.entries = raw.entries;
+        facts.kind = (uint32_t)raw.kind;
+        facts.key_len = (uint32_t)raw.key;
+        facts.value_len = (uint32_t)raw.value;
+        put_facts(out, size, &facts, sizeof facts);
+    }
+    return status;
+}
+
+nrbpf_status nrbpf_map_info(nrbpf_session *session, uint32_t map, nrbpf_map_facts *out, size_t size) {
+    nrbpf_status status = nrbpf_try_map_info(session, map, out, size);
+    unsigned tries = 0;
+    while (status == NRBPF_BUSY) {
+        pause_behind(tries);
+        tries = one_more(tries);
+        status = nrbpf_try_map_info(session, map, out, size);
+    }
+    return status;
+}
+
+// The facts of a program, from its words.
+static nrbpf_program_facts facts_of(const struct nrbpf_raw_program *raw) {
+    nrbpf_program_facts facts;
+    memset(&facts, 0, sizeof facts);
+    facts.point = raw->point;
+    facts.is_place = (uint32_t)raw->place;
+    facts.is_there = (uint32_t)raw->present;
+    facts.mode = (uint32_t)raw->mode;
+    facts.argument_len = (uint32_t)raw->argument;
+    facts.slots = (uint32_t)raw->slots;
+    facts.maps = (uint16_t)raw->maps;
+    memcpy(facts.name, raw->name, sizeof raw->name);
+    return facts;
+}
+
+nrbpf_status nrbpf_try_program_info(nrbpf_session *session, uint16_t program, nrbpf_program_facts *out, size_t size) {
+    struct nrbpf_raw_program raw;
+    if (!session || !out) {
+        return NRBPF_H7;
+    }
+    struct place *const place = place_of(session);
+    nrbpf_status status = usable(place, session);
+    if (status != NRBPF_OK) {
+        return status;
+    }
+    memset(&raw, 0, sizeof raw);
+    raw.program = program;
+    nrbpf_raw_program_info(&place->raw, &raw);
+    status = told(&place->raw, NULL);
+    if (status == NRBPF_OK) {
+        const nrbpf_program_facts facts = facts_of(&raw);
+        put_facts(out, size, &facts, sizeof facts);
+    }
+    return status;
+}
+
+nrbpf_status nrbpf_program_info(nrbpf_session *session, uint16_t program, nrbpf_program_facts *out, size_t size) {
+    nrbpf_status status = nrbpf_try_program_info(session, program, out, size);
+    unsigned tries = 0;
+    while (status == NRBPF_BUSY) {
+        pause_behind(tries);
+        tries = one_more(tries);
+        status = nrbpf_try_program_info(session, program, out, size);
+    }
+    return status;
+}

@@ -6,6 +6,7 @@
 #include "nrbpf_raw.h"
 #include <pthread.h>
 #include <stdalign.h>
+#include <string.h>
 
 enum { MOST_SESSIONS = 128, TURNS = 512 };
 
@@ -50,6 +51,14 @@ static inline nrbpf_status refused(nrbpf_error *why, nrbpf_status status) {
         why->slot = 0;
     }
     return status;
+}
+
+// Writes as many facts as the host's struct has room for, and zeros for what this library does not know.
+static inline void put_facts(void *out, size_t size, const void *facts, size_t known) {
+    memcpy(out, facts, size < known ? size : known);
+    if (size > known) {
+        memset((char *)out + known, 0, size - known);
+    }
 }
 
 #endif

@@ -357,3 +357,26 @@ nrbpf_status nrbpf_detach(nrbpf_session *session) {
     pthread_mutex_unlock(&store->mutex);
     return status;
 }
+
+nrbpf_status nrbpf_store_info(nrbpf_store *store, nrbpf_store_facts *out, size_t size) {
+    struct nrbpf_raw_facts raw = {0, 0, 0, 0, 0, 0, 0};
+    if (!store || !out) {
+        return NRBPF_H7;
+    }
+    pthread_mutex_lock(&store->mutex);
+    nrbpf_raw_store_info(&store->raw, &raw);
+    const nrbpf_status status = (nrbpf_status)store->raw.status;
+    pthread_mutex_unlock(&store->mutex);
+    if (status == NRBPF_OK) {
+        nrbpf_store_facts facts;
+        facts.nodes = (uint32_t)raw.nodes;
+        facts.slots = (uint32_t)raw.slots;
+        facts.window = (uint32_t)raw.window;
+        facts.limit = raw.limit > UINT32_MAX ? NRBPF_ENDLESS : (uint32_t)raw.limit;
+        facts.spare = (uint32_t)raw.spare;
+        facts.maps = (uint32_t)raw.maps;
+        facts.programs = (uint32_t)raw.programs;
+        put_facts(out, size, &facts, sizeof facts);
+    }
+    return status;
+}

@@ -65,7 +65,7 @@ typedef struct nrbpf_state nrbpf_state;
 // The major number changes if a host has to be changed or compiled again. The
 // minor number changes if something is added.
 #define NRBPF_VERSION_MAJOR 2u
-#define NRBPF_VERSION_MINOR 1u
+#define NRBPF_VERSION_MINOR 2u
 #define NRBPF_VERSION (NRBPF_VERSION_MAJOR * 1000u + NRBPF_VERSION_MINOR)
 
 // Answers the version of the library. [any]
@@ -159,7 +159,7 @@ enum {
     NRBPF_S7, NRBPF_NOT_DECODED = NRBPF_S7,
     // install: the program is not accepted. The inner refusal has the letter V.
     NRBPF_S8, NRBPF_NOT_ACCEPTED = NRBPF_S8,
-    // scan, get: the store has no such map.
+    // scan, get, map_info: the store has no such map.
     NRBPF_S9, NRBPF_UNKNOWN_MAP = NRBPF_S9,
     // scan: the map has no such place.
     NRBPF_S10, NRBPF_UNKNOWN_PLACE = NRBPF_S10,
@@ -468,6 +468,87 @@ NRBPF_MUST_LOOK nrbpf_status nrbpf_read_each(
 NRBPF_MUST_LOOK nrbpf_status nrbpf_try_read_each(
     nrbpf_session *session, const nrbpf_question *questions, size_t count,
     uint64_t *replies, uint64_t *point, nrbpf_error *why);
+
+// ---- What a store is: its maps, its programs, its sizes
+//
+// Later headers may add members at the end of the three structs below. So a
+// host passes `size`, the size of its own struct. The library writes that many
+// bytes, and zeros for members that it does not know.
+
+enum { NRBPF_MAP_ARRAY = 0, NRBPF_MAP_HASH = 1 };
+
+typedef struct nrbpf_map_facts {
+    // How many updates the map had seen.
+    uint64_t point;
+    // How many keys it has. An array always has all of its keys.
+    uint64_t keys;
+    // How many keys it may have.
+    uint64_t entries;
+    // NRBPF_MAP_ARRAY or NRBPF_MAP_HASH.
+    uint32_t kind;
+    // How many bytes a key has. The key of an array is its index, in 4 bytes.
+    uint32_t key_len;
+    // How many bytes a value has.
+    uint32_t value_len;
+} nrbpf_map_facts;
+
+// Says what a map is. The first map of the manifest is 0. nrbpf_try_map_info
+// waits for nobody, and may answer BUSY. Refuse with S9, H2, H3 and H7.
+// [session]
+NRBPF_MUST_LOOK nrbpf_status nrbpf_map_info(
+    nrbpf_session *session, uint32_t map, nrbpf_map_facts *out, size_t size);
+NRBPF_MUST_LOOK nrbpf_status nrbpf_try_map_info(
+    nrbpf_session *session, uint32_t map, nrbpf_map_facts *out, size_t size);
+
+typedef struct nrbpf_program_facts {
+    // How many updates were seen.
+    uint64_t point;
+    // 1 if the number is that of a spare place. 0 if the manifest has a program
+    // of this number.
+    uint32_t is_place;
+    // 1 if there is a program of this number. 0 if nothing is installed at the
+    // place. Then all members below are 0.
+    uint32_t is_there;
+    // NRBPF_MODE_UPDATE if the program may change the maps that it names. Else
+    // NRBPF_MODE_READ.
+    uint32_t mode;
+    // How many bytes its argument has.
+    uint32_t argument_len;
+    // How many slots of 8 bytes it has.
+    uint32_t slots;
+    // The maps that it names. It reads and changes no others. Bit m is for map
+    // m.
+    uint16_t maps;
+    // Its name in the manifest, and a zero. An installed program has no name.
+    char name[34];
+} nrbpf_program_facts;
+
+// Says what the program of this number is. nrbpf_try_program_info waits for
+// nobody, and may answer BUSY. Refuse with S1, H2, H3 and H7. [session]
+NRBPF_MUST_LOOK nrbpf_status nrbpf_program_info(
+    nrbpf_session *session, uint16_t program, nrbpf_program_facts *out,
+    size_t size);
+NRBPF_MUST_LOOK nrbpf_status nrbpf_try_program_info(
+    nrbpf_session *session, uint16_t program, nrbpf_program_facts *out,
+    size_t size);
+
+typedef struct nrbpf_store_facts {
+    // As nrbpf_config has them.
+    uint32_t nodes;
+    uint32_t slots;
+    uint32_t window;
+    uint32_t limit;
+    uint32_t spare;
+    // How many maps the store has.
+    uint32_t maps;
+    // How many programs the manifest has. The numbers of the spare places come
+    // after theirs.
+    uint32_t programs;
+} nrbpf_store_facts;
+
+// Says what a store is from its opening on. Refuses with H7. [any]
+NRBPF_MUST_LOOK nrbpf_status nrbpf_store_info(
+    nrbpf_store *store, nrbpf_store_facts *out, size_t size);
 
 // ---- States: from a running store, as text, and from a text
 

@@ -120,6 +120,39 @@ struct nrbpf_raw_text {
     uint64_t length;        /* how many bytes it has; 0 if there is no text */
 };
 
+/* ---- what is said of a map, of a program and of a store: memory of the host's, all of which is written before it is passed in */
+
+struct nrbpf_raw_map {
+    /* asked */
+    uint32_t map;           /* its number */
+    /* answered */
+    uint64_t point;         /* how many operations of the history it had seen */
+    uint64_t keys;          /* how many keys it has */
+    uint64_t entries;       /* how many entries it has or may have */
+    uint64_t kind;          /* 0 an array, 1 a hash */
+    uint64_t key, value;    /* how many bytes a key and a value have */
+};
+
+struct nrbpf_raw_program {
+    /* asked */
+    uint16_t program;       /* its number */
+    /* answered */
+    uint64_t point;         /* how many operations of the history were seen */
+    uint64_t place;         /* 1 if the number is that of a place, 0 if it is that of a program of the manifest */
+    uint64_t present;       /* 1 if there is a program; else this word and the next four are 0 */
+    uint64_t mode;          /* 0 if it may change the maps that it names, 1 if not */
+    uint64_t argument;      /* how many bytes its argument has */
+    uint64_t slots;         /* how many slots of 8 bytes it has */
+    uint64_t maps;          /* the maps that it names, bit m for map m */
+    uint64_t length;        /* how many bytes its name in the manifest has; 0 of a place */
+    uint8_t name[32];       /* these, and zeros after them */
+};
+
+struct nrbpf_raw_facts {
+    uint64_t nodes, slots, window, limit, spare; /* as the store was opened; limit 2^62 is no end */
+    uint64_t maps, programs;                    /* how many it has; programs of the manifest alone */
+};
+
 /* ---- the functions */
 
 uint32_t nrbpf_raw_version(void);           /* of this interface: 1000 times the major number, and the minor one: 2000 */
@@ -200,6 +233,17 @@ void nrbpf_raw_drop_text(struct nrbpf_raw_text *at);
  * opening only manifest, files, `spare` and `limits` count. Statuses, in the state's handle: 0, H4, C1 to C6, O1 (of `spare` or `limits`), E0 to E9. With
  * any but 0 the handle has no state, and its memory is as good as room. */
 void nrbpf_raw_load(const struct nrbpf_raw_opening *opening, const uint8_t *text, size_t length, struct nrbpf_raw_state *state);
+
+/* Writes what the map is whose number is in the words. The status stands in the session's handle: 0, BUSY, S9, H2, H3; with any but 0 the words are as they
+ * were. */
+void nrbpf_raw_map_info(struct nrbpf_raw_session *session, struct nrbpf_raw_map *words);
+
+/* Writes what the program is whose number is in the words. The status stands in the session's handle: 0, BUSY, S1, H2, H3; with any but 0 the words are as
+ * they were. */
+void nrbpf_raw_program_info(struct nrbpf_raw_session *session, struct nrbpf_raw_program *words);
+
+/* Writes what the store is from its opening on. The status stands in the store's handle: 0, H2; with H2 the words are as they were. */
+void nrbpf_raw_store_info(struct nrbpf_raw_store *at, struct nrbpf_raw_facts *words);
 
 #ifdef __cplusplus
 }

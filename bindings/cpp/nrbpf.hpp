@@ -116,12 +116,6 @@ struct config : nrbpf_config {
     config &with_limits(const nrbpf_limits &of_maps) noexcept { return limits = of_maps, *this; }
 };
 
-// A map of a manifest. An array's key is its index in 4 bytes, the low one first.
-struct map_shape {
-    bool is_array;
-    std::uint32_t key, value, entries;
-};
-
 // Which maps a store has and which programs it offers: a text (docs/FORMATS.md), and the program files that it names.
 class manifest {
     std::string said;
@@ -158,18 +152,6 @@ public:
         for (const auto &words : it.lines())
             if (words.size() == 5 && words[0] == "program") it.file(words[4], text_of(folder / words[4]));
         return it;
-    }
-
-    // The shapes of the maps. A store was opened with this manifest.
-    std::vector<map_shape> maps() const {
-        std::vector<map_shape> told;
-        const auto number = [](const std::string &word) { return static_cast<std::uint32_t>(std::stoul(word)); };
-        for (const auto &words : lines()) {
-            if (words[0] != "map") continue;
-            if (words[1] == "array") told.push_back({true, 4, number(words[2]), number(words[3])});
-            else told.push_back({false, number(words[2]), number(words[3]), number(words[4])});
-        }
-        return told;
     }
 
     const std::string &text() const noexcept { return said; }
@@ -295,6 +277,34 @@ struct replies {
     std::vector<std::uint64_t> each;
 };
 
+// ---- What a store says of itself
+
+// The kind and the sizes of a map. An array's key is its index in 4 bytes, the low one first.
+struct map_shape {
+    bool is_array;
+    std::uint32_t key, value, entries;
+};
+
+// What a map is: how many updates it had seen, its shape, and how many keys it has.
+struct map_facts {
+    std::uint64_t point;
+    map_shape shape;
+    std::uint64_t keys;
+};
+
+// What the program of a number is: how many updates were seen, whether the number is that of a spare place, whether there is a program, and then its mode,
+// the bytes of its argument, its slots, the maps that it names, bit m for map m, and its name in the manifest. An installed program has no name.
+struct program_facts {
+    std::uint64_t point;
+    bool is_place, is_there;
+    mode may;
+    std::uint32_t argument_len, slots;
+    std::uint16_t maps;
+    std::string name;
+};
+
+using store_facts = nrbpf_store_facts;
+
 namespace detail {
 
 // What a store's sessions share with it.
@@ -342,6 +352,17 @@ class session {
         page it{told.point, {}, told.next == NRBPF_END ? std::nullopt : std::optional(told.next)};
         for (std::size_t k = 0; k < told.count; k++) it.entries.emplace_back(keys.substr(k * key, key), values.substr(k * value, value));
         return it;
+    }
+    template <class Call> std::optional<map_facts> tell_map(Call call, std::uint32_t map) {
+        nrbpf_map_facts told{};
+        if (!detail::is_answered(call(at, map, &told, sizeof told))) return {};
+        const map_shape shape{told.kind == NRBPF_MAP_ARRAY, told.key_len, told.value_len, static_cast<std::uint32_t>(told.entries)};
+        return map_facts{told.point, shape, told.keys};
+    }
+    template <class Call> std::optional<program_facts> tell_program(Call call, std::uint16_t program) {
+        nrbpf_program_facts told{};
+        if (!detail::is_answered(call(at, program, &told, sizeof told))) return {};
+        return program_facts{told.point, told.is_place != 0, told.is_there != 0, static_cast<mode>(told.mode), told.argument_len, told.slots, told.maps, told.name};
     }
     template <class Call> std::optional<replies> ask(Call call, const std::vector<question> &questions) {
         std::vector<nrbpf_question> asked;
@@ -461,6 +482,12 @@ public:
     replies read_each(const std::vector<question> &questions) { return *ask(nrbpf_read_each, questions); }
     std::optional<replies> try_read_each(const std::vector<question> &questions) { return ask(nrbpf_try_read_each, questions); }
 
+    // What a map is, and what the program of a number is.
+    map_facts map_info(std::uint32_t map) { return *tell_map(nrbpf_map_info, map); }
+    std::optional<map_facts> try_map_info(std::uint32_t map) { return tell_map(nrbpf_try_map_info, map); }
+    program_facts program_info(std::uint16_t program) { return *tell_program(nrbpf_program_info, program); }
+    std::optional<program_facts> try_program_info(std::uint16_t program) { return tell_program(nrbpf_try_program_info, program); }
+
     // Copies the store's state at one point of the history, and answers the point. Other nodes go on. Sessions of this node wait meanwhile.
     std::uint64_t snapshot(state &into) { return *copy(nrbpf_snapshot, into); }
     std::optional<std::uint64_t> try_snapshot(state &into) { return copy(nrbpf_try_snapshot, into); }
@@ -478,7 +505,8 @@ class store {
         nrbpf_error why{};
         detail::check(call(with.text().data(), with.text().size(), files.data(), files.size(), &out, &why), why);
         of->at.reset(out);
-        of->maps = with.maps();
+        session first = attach(); // none is attached yet, so none is in the way
+        for (std::uint32_t map = 0; map < info().maps; map++) of->maps.push_back(first.map_info(map).shape);
     }
 
 public:
@@ -496,6 +524,13 @@ public:
 
     nrbpf_store *native() const noexcept { return of->at.get(); }
     const std::vector<map_shape> &maps() const noexcept { return of->maps; }
+
+    // What it is from its opening on.
+    store_facts info() const {
+        store_facts told{};
+        detail::check(nrbpf_store_info(native(), &told, sizeof told));
+        return told;
+    }
 
     // The number of a program of the manifest.
     std::uint16_t program(std::string_view name) const {

@@ -444,6 +444,34 @@ static void limits() {
     ANSWER(endless.session.read(endless.peek, bytes_of(third)), 10000, 10000);
 }
 
+// Puts its argument under the argument's first byte, in seven slots.
+static const char put_in_map_0[] = "bf12000000000000bf1300000000000018510000000000000000000000000000b70400000000000085000000020000009500000000000000";
+
+static void a_store_tells_what_it_is() {
+    auto with = manifest("map hash 1 2 16\nmap array 8 4\nprogram put update 2 put.hex\n").file("put.hex", put_in_map_0);
+    nrbpf::store store(with, config(1, 2).with_window(64).with_spare(1));
+    const auto sizes = store.info();
+    EXPECT(sizes.nodes == 1 && sizes.slots == 2 && sizes.window == 64 && sizes.limit == NRBPF_ENDLESS && sizes.spare == 1);
+    EXPECT(sizes.maps == 2 && sizes.programs == 1 && store.maps().size() == 2);
+    const auto hash = store.maps()[0], array = store.maps()[1];
+    EXPECT(!hash.is_array && hash.key == 1 && hash.value == 2 && hash.entries == 16);
+    EXPECT(array.is_array && array.key == 4 && array.value == 8 && array.entries == 4);
+
+    auto session = store.attach(), other = store.attach(); // both are free again
+    session.update(0, std::string("\7\11", 2));
+    const auto told = session.map_info(0);
+    EXPECT(told.point == 1 && told.keys == 1 && told.shape.value == 2);
+    EXPECT(answered([&] { return other.try_map_info(1); }).keys == 4);
+    const auto put = session.program_info(0);
+    EXPECT(put.point == 1 && !put.is_place && put.is_there && put.may == nrbpf::mode::update && put.argument_len == 2 && put.slots == 7 && put.maps == 1 && put.name == "put");
+    EXPECT(!session.program_info(1).is_there);
+    session.install(nrbpf::mode::read, 5, five);
+    const auto installed = answered([&] { return other.try_program_info(1); });
+    EXPECT(installed.point == 2 && installed.is_place && installed.may == nrbpf::mode::read && installed.argument_len == 5 && installed.slots == 2 && installed.maps == 0 && installed.name.empty());
+    REFUSED(session.map_info(2), NRBPF_UNKNOWN_MAP);
+    REFUSED(session.program_info(2), NRBPF_UNKNOWN_PROGRAM);
+}
+
 // ---- How things end
 
 static void ends() {
@@ -466,7 +494,7 @@ int main() {
         {"header", header}, {"scans", scans}, {"rows", rows}, {"installs", installs}, {"installs_within", installs_within}, {"tries", tries}, {"gets_and_scans", gets_and_scans}, {"reads_at_one_point", reads_at_one_point},
         {"four_threads", four_threads}, {"tries_beside_others", tries_beside_others}, {"snapshots", snapshots},
         {"snapshots_beside_threads", snapshots_beside_threads}, {"dumps", dumps}, {"stores_go_on", stores_go_on}, {"close_next_to_a_session", close_next_to_a_session},
-        {"refused_manifests", refused_manifests}, {"refused_dumps", refused_dumps}, {"refused_calls", refused_calls}, {"limits", limits}, {"ends", ends},
+        {"refused_manifests", refused_manifests}, {"refused_dumps", refused_dumps}, {"refused_calls", refused_calls}, {"limits", limits}, {"a_store_tells_what_it_is", a_store_tells_what_it_is}, {"ends", ends},
     };
     for (const auto &[name, test] : tests) {
         try {

@@ -46,6 +46,8 @@ static void refuse_others(nrbpf_session *session) {
     nrbpf_answer answer = {77, 77};
     nrbpf_found found;
     nrbpf_scanned scanned;
+    nrbpf_map_facts map;
+    nrbpf_program_facts program;
     nrbpf_error why;
     nrbpf_state *state;
     EXPECT_STATUS(nrbpf_state_new(store, &state), NRBPF_OK);
@@ -57,6 +59,8 @@ static void refuse_others(nrbpf_session *session) {
     EXPECT_STATUS(nrbpf_install(session, NRBPF_MODE_READ, 0, exits, 8, &answer, &why), NRBPF_H3);
     EXPECT_STATUS(nrbpf_get(session, 0, argument, 4, value, 8, &found), NRBPF_H3);
     EXPECT_STATUS(nrbpf_scan(session, 0, 0, NULL, 0, NULL, 0, &scanned), NRBPF_H3);
+    EXPECT_STATUS(nrbpf_map_info(session, 0, &map, sizeof map), NRBPF_H3);
+    EXPECT_STATUS(nrbpf_program_info(session, bump, &program, sizeof program), NRBPF_H3);
     EXPECT_STATUS(nrbpf_read_each(session, NULL, 0, &reply, &point, &why), NRBPF_H3);
     EXPECT_STATUS(nrbpf_try_snapshot(session, state, &point), NRBPF_H3);
     EXPECT_STATUS(nrbpf_detach(session), NRBPF_H3);
@@ -159,7 +163,7 @@ int main(void) {
     int turns = 0, stores = 0;
     while (!while_posted() && turns < 20) turns++;
     if (turns == 20) printf("no update was ever posted and not answered: H3 is not tried\n");
-    else printf("an update that was posted was answered once, and 11 other calls were refused meanwhile\n");
+    else printf("an update that was posted was answered once, and 13 other calls were refused meanwhile\n");
     while (!at_the_end() && stores < MOST_STORES) stores++;
     if (stores == MOST_STORES) printf("no history ended while an update was posted\n");
     else printf("a history ended while an update was posted, which did nothing\n");

@@ -10,7 +10,9 @@
 // A client writes lines, and each is answered by one:
 //     take USER TOKENS    1, and they are taken; 0 where there are fewer; -7 where there is no room for another user
 //     left USER           how many there are
-// and `bad` to any other. It runs in the top folder of the repository until SIGINT or SIGTERM, and then prints what it did.
+// and `bad` to any other. To a request `GET /metrics ..` of HTTP it answers a page in Prometheus' text form, and ends the connection:
+//     curl --unix-socket SOCKET http://limiter/metrics
+// It runs in the top folder of the repository until SIGINT or SIGTERM, and then prints what it did.
 #include "../../examples/c/rate_limiter/rate_limiter.h"
 #include "../nrbpf.h"
 #include <errno.h>
@@ -240,11 +242,49 @@ static nrbpf_status call(const client *of, const char *line, nrbpf_answer *answe
     return NRBPF_UNKNOWN_PROGRAM;
 }
 
+// ---- A page of figures (Prometheus' text-based format, version 0.0.4)
+
+static void put_figure(FILE *out, const char *name, const char *kind, const char *help, uint64_t value) {
+    fprintf(out, "# HELP %s %s\n# TYPE %s %s\n%s %" PRIu64 "\n", name, help, name, kind, name, value);
+}
+
+// What the store says of its maps, each with its number as a label.
+static void put_maps(FILE *out, nrbpf_session *session) {
+    nrbpf_store_facts facts;
+    nrbpf_map_facts map[16];
+    check(nrbpf_store_info(store, &facts, sizeof facts));
+    for (uint32_t m = 0; m < facts.maps; m++) check(nrbpf_map_info(session, m, &map[m], sizeof map[m]));
+    put_figure(out, "limiter_updates_total", "counter", "Updates of the store.", map[BUCKETS].point);
+    fputs("# HELP limiter_map_keys Keys of a map.\n# TYPE limiter_map_keys gauge\n", out);
+    for (uint32_t m = 0; m < facts.maps; m++) fprintf(out, "limiter_map_keys{map=\"%" PRIu32 "\"} %" PRIu64 "\n", m, map[m].keys);
+    fputs("# HELP limiter_map_entries Keys that a map has room for.\n# TYPE limiter_map_entries gauge\n", out);
+    for (uint32_t m = 0; m < facts.maps; m++) fprintf(out, "limiter_map_entries{map=\"%" PRIu32 "\"} %" PRIu64 "\n", m, map[m].entries);
+}
+
+// Reads the rest of the request, up to an empty line, and answers it.
+static void put_page(const client *of, FILE *in, FILE *out) {
+    char line[MOST_LINE];
+    while (fgets(line, sizeof line, in) && strcmp(line, "\r\n") && strcmp(line, "\n")) {}
+    pthread_mutex_lock(&lock);
+    const uint64_t here = (uint64_t)count, all = figures.clients, away = figures.turned_away;
+    pthread_mutex_unlock(&lock);
+    fputs("HTTP/1.0 200 OK\r\nContent-Type: text/plain; version=0.0.4\r\n\r\n", out);
+    put_figure(out, "limiter_clients", "gauge", "Clients that are connected.", here);
+    put_figure(out, "limiter_clients_total", "counter", "Clients that got a session.", all);
+    put_figure(out, "limiter_turned_away_total", "counter", "Clients that got none.", away);
+    put_maps(out, of->session);
+    fflush(out);
+}
+
 // Answers its lines until it goes away.
 static void serve(client *of, FILE *in, FILE *out) {
     char line[MOST_LINE];
     while (fgets(line, sizeof line, in)) {
         nrbpf_answer answer;
+        if (strncmp(line, "GET /metrics ", 13) == 0) {
+            put_page(of, in, out);
+            return;
+        }
         nrbpf_status status = call(of, line, &answer);
         int written = status ? fputs("bad\n", out) : fprintf(out, "%" PRId64 "\n", (int64_t)answer.reply);
         if (written < 0 || fflush(out)) return;

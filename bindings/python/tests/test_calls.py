@@ -113,6 +113,38 @@ class Reads(unittest.TestCase):
             self.assertEqual(session.read_each([(peek, u32(1))] * 16), (2, [2] * 16))
 
 
+class Facts(unittest.TestCase):
+    # Puts its argument under the argument's first byte, in seven slots.
+    PUT = "bf12000000000000bf1300000000000018510000000000000000000000000000b70400000000000085000000020000009500000000000000"
+
+    def test_what_a_store_is(self):
+        text = "map hash 1 2 16\nmap array 8 4\nprogram put update 2 put.hex\n"
+        with nrbpf.open(nrbpf.Manifest(text, {"put.hex": self.PUT}), slots=2, window=64, spare=1) as store:
+            self.assertEqual(store.info(), nrbpf.StoreInfo(1, 2, 64, nrbpf.ENDLESS, 1, 2, 1))
+            shapes = (nrbpf.MapShape("hash", 1, 2, 16), nrbpf.MapShape("array", 4, 8, 4))
+            self.assertEqual(store.maps, shapes)
+            with store.attach() as session:
+                session.update(0, b"\7\11")
+                self.assertEqual(session.map_info(0), nrbpf.MapInfo(1, shapes[0], 1))
+                self.assertEqual(tried(session, lambda: session.try_map_info(1)), nrbpf.MapInfo(1, shapes[1], 4))
+                facts = nrbpf.ProgramFacts(nrbpf.Mode.UPDATE, 2, 7, frozenset({0}))
+                self.assertEqual(session.program_info(0), nrbpf.ProgramInfo(1, False, "put", facts))
+                self.assertEqual(session.program_info(1), nrbpf.ProgramInfo(1, True, None, None))
+                session.install(nrbpf.Mode.READ, 5, FIVE)
+                facts = nrbpf.ProgramFacts(nrbpf.Mode.READ, 5, 2, frozenset())
+                told = tried(session, lambda: session.try_program_info(1))
+                self.assertEqual(told, nrbpf.ProgramInfo(2, True, None, facts))
+                for call, number, status in (
+                    (session.map_info, 2, nrbpf.Status.UNKNOWN_MAP),
+                    (session.try_map_info, 1 << 32, nrbpf.Status.UNKNOWN_MAP),
+                    (session.program_info, 2, nrbpf.Status.UNKNOWN_PROGRAM),
+                    (session.try_program_info, -1, nrbpf.Status.UNKNOWN_PROGRAM),
+                ):
+                    with self.assertRaises(nrbpf.CallError) as refused:
+                        call(number)
+                    self.assertEqual(refused.exception.status, status)
+
+
 class Tries(unittest.TestCase):
     def test_updates_and_reads(self):
         with counter(nodes=2, slots=2) as (_, session, bump, peek):

@@ -1,6 +1,7 @@
 #![doc = include_str!("../README.md")]
 
 mod error;
+mod facts;
 mod manifest;
 mod session;
 mod state;
@@ -10,7 +11,8 @@ pub mod sys;
 #[doc(hidden)]
 pub use error::NAMES;
 pub use error::{Error, QuestionRefused, Refusal};
-pub use manifest::{Manifest, MapShape};
+pub use facts::{MapInfo, MapShape, ProgramFacts, ProgramInfo, StoreInfo};
+pub use manifest::Manifest;
 pub use session::{Answer, Found, Mode, Page, Question, Scan, Session, Tried, REPLY_INVALID, REPLY_NO_ROOM};
 pub use state::State;
 pub use store::{Config, Limits, NotClosed, Store, ENDLESS};

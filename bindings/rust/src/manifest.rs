@@ -12,19 +12,6 @@ pub struct Manifest {
     files: Vec<(Vec<u8>, Vec<u8>)>,
 }
 
-/// A map of a manifest.
-#[derive(Clone, Copy, Debug, PartialEq, Eq, Hash)]
-pub struct MapShape {
-    /// Whether it is an array, whose keys are its indexes in 4 bytes, the low one first; else it is a hash.
-    pub is_array: bool,
-    /// How many bytes a key has.
-    pub key: usize,
-    /// How many bytes a value has.
-    pub value: usize,
-    /// How many entries it has room for.
-    pub entries: u32,
-}
-
 impl Manifest {
     /// A manifest of this text, without any file.
     pub fn new(text: impl Into<Vec<u8>>) -> Manifest {
@@ -70,23 +57,6 @@ impl Manifest {
     fn lines(&self) -> impl Iterator<Item = Vec<String>> + '_ {
         let words = |line: &[u8]| String::from_utf8_lossy(line).split(' ').map(str::to_owned).collect();
         self.text.split(|&byte| byte == b'\n').map(words)
-    }
-
-    /// The shapes of the maps, of a manifest that a store was opened with.
-    pub(crate) fn maps(&self) -> Vec<MapShape> {
-        let number = |word: &str| word.parse().unwrap_or(0);
-        let shape = |words: Vec<String>| match words.iter().map(String::as_str).collect::<Vec<_>>()[..] {
-            ["map", "array", value, entries] => Some((true, 4, number(value), number(entries))),
-            ["map", "hash", key, value, entries] => Some((false, number(key), number(value), number(entries))),
-            _ => None,
-        };
-        let named = |(is_array, key, value, entries): (bool, u32, u32, u32)| MapShape {
-            is_array,
-            key: key as usize,
-            value: value as usize,
-            entries,
-        };
-        self.lines().filter_map(shape).map(named).collect()
     }
 
     /// Makes a call of the library on this manifest.

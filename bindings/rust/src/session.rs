@@ -153,7 +153,7 @@ impl<'a> Session<'a> {
         }
     }
 
-    fn as_ptr(&mut self) -> *mut sys::nrbpf_session {
+    pub(crate) fn as_ptr(&mut self) -> *mut sys::nrbpf_session {
         self.at.as_ptr()
     }
 
@@ -505,7 +505,7 @@ fn tried(status: u32, out: sys::nrbpf_answer, why: sys::nrbpf_error) -> Result<T
 }
 
 /// Whether a read is answered, or another session was in the way.
-fn unless_busy(status: u32, why: sys::nrbpf_error) -> Result<bool, Error> {
+pub(crate) fn unless_busy(status: u32, why: sys::nrbpf_error) -> Result<bool, Error> {
     match status {
         sys::NRBPF_BUSY => Ok(false),
         _ => check_with(status, why).map(|()| true),

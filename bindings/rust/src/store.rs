@@ -119,7 +119,7 @@ impl Store {
             sys::nrbpf_open(&config, text.as_ptr().cast(), text.len(), files.as_ptr(), files.len(), &mut out, &mut why)
         });
         check_with(status, why)?;
-        Ok(Store::at(out, manifest))
+        Store::at(out)
     }
 
     /// The same, going on from a state, which may be opened on again. Its history begins at point 0.
@@ -136,11 +136,22 @@ impl Store {
             sys::nrbpf_open_on(&config, text.as_ptr().cast(), text.len(), at, count, state.as_ptr(), &mut out, &mut why)
         });
         check_with(status, why)?;
-        Ok(Store::at(out, manifest))
+        Store::at(out)
     }
 
-    fn at(out: *mut sys::nrbpf_store, manifest: &Manifest) -> Store {
-        Store { at: NonNull::new(out).expect("an opened store is somewhere"), maps: manifest.maps() }
+    // Asks the opened store for the shapes of its maps. No session is attached yet, so none is in the way.
+    fn at(out: *mut sys::nrbpf_store) -> Result<Store, Error> {
+        let mut store = Store { at: NonNull::new(out).expect("an opened store is somewhere"), maps: Vec::new() };
+        let count = store.info().maps;
+        let mut session = store.attach(0)?;
+        let maps = (0..count).map(|map| Ok(session.map_info(map)?.shape)).collect::<Result<_, Error>>()?;
+        drop(session);
+        store.maps = maps;
+        Ok(store)
+    }
+
+    pub(crate) fn as_ptr(&self) -> *mut sys::nrbpf_store {
+        self.at.as_ptr()
     }
 
     /// The shapes of its maps, in the manifest's order.

@@ -1,14 +1,16 @@
-//! The functions and structs of `nrbpf.h`, version 2.0, as they stand there.
+//! The functions and structs of `nrbpf.h`, version 2.2, as they stand there.
 
 #![allow(missing_docs, non_camel_case_types)]
 
 use std::ffi::{c_char, c_int, c_void};
 
-pub const NRBPF_VERSION: u32 = 2_001;
+pub const NRBPF_VERSION: u32 = 2_002;
 pub const NRBPF_OK: u32 = 0;
 pub const NRBPF_BUSY: u32 = 1;
 pub const NRBPF_POSTED: u32 = 2;
 pub const NRBPF_END: u32 = u32::MAX;
+pub const NRBPF_MAP_ARRAY: u32 = 0;
+pub const NRBPF_MAP_HASH: u32 = 1;
 
 #[repr(C)]
 pub struct nrbpf_store {
@@ -102,6 +104,48 @@ pub struct nrbpf_question {
     pub argument: *const c_void,
     pub len: usize,
     pub program: u16,
+}
+
+#[repr(C)]
+#[derive(Clone, Copy, Debug, Default)]
+pub struct nrbpf_map_facts {
+    pub point: u64,
+    pub keys: u64,
+    pub entries: u64,
+    pub kind: u32,
+    pub key_len: u32,
+    pub value_len: u32,
+}
+
+#[repr(C)]
+#[derive(Clone, Copy, Debug)]
+pub struct nrbpf_program_facts {
+    pub point: u64,
+    pub is_place: u32,
+    pub is_there: u32,
+    pub mode: u32,
+    pub argument_len: u32,
+    pub slots: u32,
+    pub maps: u16,
+    pub name: [c_char; 34],
+}
+
+impl Default for nrbpf_program_facts {
+    fn default() -> nrbpf_program_facts {
+        nrbpf_program_facts { point: 0, is_place: 0, is_there: 0, mode: 0, argument_len: 0, slots: 0, maps: 0, name: [0; 34] }
+    }
+}
+
+#[repr(C)]
+#[derive(Clone, Copy, Debug, Default)]
+pub struct nrbpf_store_facts {
+    pub nodes: u32,
+    pub slots: u32,
+    pub window: u32,
+    pub limit: u32,
+    pub spare: u32,
+    pub maps: u32,
+    pub programs: u32,
 }
 
 pub type nrbpf_writer = extern "C" fn(to: *mut c_void, bytes: *const c_char, len: usize) -> c_int;
@@ -224,6 +268,11 @@ extern "C" {
         point: *mut u64,
         why: *mut nrbpf_error,
     ) -> u32;
+    pub fn nrbpf_map_info(session: *mut nrbpf_session, map: u32, out: *mut nrbpf_map_facts, size: usize) -> u32;
+    pub fn nrbpf_try_map_info(session: *mut nrbpf_session, map: u32, out: *mut nrbpf_map_facts, size: usize) -> u32;
+    pub fn nrbpf_program_info(session: *mut nrbpf_session, program: u16, out: *mut nrbpf_program_facts, size: usize) -> u32;
+    pub fn nrbpf_try_program_info(session: *mut nrbpf_session, program: u16, out: *mut nrbpf_program_facts, size: usize) -> u32;
+    pub fn nrbpf_store_info(store: *mut nrbpf_store, out: *mut nrbpf_store_facts, size: usize) -> u32;
     pub fn nrbpf_state_new(store: *mut nrbpf_store, out: *mut *mut nrbpf_state) -> u32;
     pub fn nrbpf_snapshot(session: *mut nrbpf_session, into: *mut nrbpf_state, point: *mut u64) -> u32;
     pub fn nrbpf_try_snapshot(session: *mut nrbpf_session, into: *mut nrbpf_state, point: *mut u64) -> u32;

@@ -3,7 +3,7 @@
 mod fixture;
 
 use fixture::{answer, answered, bytes_of, counter, example, key, text_of, tried, BUMP, FIVE, PEEK};
-use nrbpf::{Config, Error, Mode, Question, Session, State, Store, Tried, REPLY_NO_ROOM};
+use nrbpf::{Config, Error, Manifest, MapShape, Mode, Question, Session, State, Store, Tried, ENDLESS, REPLY_NO_ROOM};
 use std::collections::BTreeMap;
 use std::sync::atomic::{AtomicBool, Ordering};
 use std::sync::Arc;
@@ -255,5 +255,38 @@ fn a_history_has_an_end_or_none() -> Result<(), Error> {
         session.update(BUMP, &key(3))?;
     }
     assert_eq!(session.read(PEEK, &key(3))?, answer(10_000, 10_000));
+    Ok(())
+}
+
+// Puts its argument under the argument's first byte.
+const PUT: &str = "bf12000000000000bf1300000000000018510000000000000000000000000000b70400000000000085000000020000009500000000000000";
+
+#[test]
+fn a_store_tells_what_it_is() -> Result<(), Error> {
+    let manifest = Manifest::new("map hash 1 2 16\nmap array 8 4\nprogram put update 2 put.hex\n").file("put.hex", PUT);
+    let store = Store::open(Config::new(1, 2).window(64).spare(1), &manifest)?;
+    let info = store.info();
+    assert_eq!((info.nodes, info.slots, info.window, info.limit, info.spare), (1, 2, 64, ENDLESS, 1));
+    assert_eq!((info.maps, info.programs), (2, 1));
+    let shapes = [(false, 1, 2, 16), (true, 4, 8, 4)].map(|(is_array, key, value, entries)| MapShape { is_array, key, value, entries });
+    assert_eq!(store.maps(), shapes);
+
+    let mut session = store.attach(0)?;
+    session.update(0, &[7, 9])?;
+    let told = session.map_info(0)?;
+    assert_eq!((told.point, told.shape, told.keys), (1, shapes[0], 1));
+    assert_eq!(answered(|| session.try_map_info(1))?.keys, 4);
+    assert_eq!(session.map_info(2), Err(Error::UnknownMap));
+
+    let put = session.program_info(0)?;
+    assert_eq!((put.point, put.is_place, put.name.as_deref()), (1, false, Some("put")));
+    let facts = put.facts.expect("it is a program");
+    assert_eq!((facts.mode, facts.argument_len, facts.slots, facts.maps().collect::<Vec<_>>()), (Mode::Update, 2, 7, vec![0]));
+    assert_eq!(session.program_info(1)?.facts, None);
+    session.install(Mode::Read, 5, &FIVE)?;
+    let five = answered(|| session.try_program_info(1))?;
+    assert_eq!((five.point, five.is_place, five.name), (2, true, None));
+    assert_eq!(five.facts.map(|it| (it.mode, it.argument_len, it.slots, it.maps().count())), Some((Mode::Read, 5, 2, 0)));
+    assert_eq!(session.program_info(2), Err(Error::UnknownProgram));
     Ok(())
 }

@@ -1,3 +1,4 @@
 pub mod Steps
 mod Left
 mod Lending
+mod LendingBoth

@@ -12,8 +12,9 @@ ghost use Rattle.host_calls.specs.Leaving.{Leaves};
 ghost use Rattle.host_calls.specs.Openings.{IsOpened};
 ghost use Rattle.host_calls.specs.Loadings.{IsLoaded};
 ghost use Rattle.host_calls.specs.Looks.{Answers, Gets, Scans, Snaps};
+ghost use Rattle.host_calls.specs.Describing.{DescribesMap, DescribesProgram, DescribesStore};
 ghost use Rattle.host_calls.specs.States.{IsDumped, IsPart, Makes, bytes_in};
-ghost use Rattle.host_calls.specs.Rooms.{holds_session, holds_state, holds_store, holds_text};
+ghost use Rattle.host_calls.specs.Rooms.{holds_facts, holds_map, holds_program, holds_session, holds_state, holds_store, holds_text};
 ghost use Rattle.host_calls.specs.contracts.handles.SessionHandle.{the_row as the_session};
 ghost use Rattle.host_calls.specs.contracts.handles.StateHandle.{the_row as the_state};
 ghost use Rattle.host_calls.specs.contracts.handles.StoreHandle.{the_row as the_store};
@@ -21,6 +22,9 @@ ghost use Rattle.host_calls.specs.contracts.handles.TextHandle.{the_row as the_t
 
 use host_calls::calls::called;
 use host_calls::closing::{closed_into, dropped};
+use host_calls::describing::{
+    MapWords, ProgramWords, StoreWords, map_described, program_described, store_described,
+};
 use host_calls::handles::{Asking, Opening, SessionHandle, StateHandle, StoreHandle, TextHandle};
 use host_calls::loading::loaded_text;
 use host_calls::looks::{answered_each, got, scanned, snapped};
@@ -285,4 +289,43 @@ pub unsafe extern "C" fn nrbpf_raw_load(
     ensures* { ∃ₛ (λ given. sem 𝓛 (holds_state room given) ∗ ⌜ IsLoaded opening.now text.now given ⌝) }
 {
     std::ptr::write(room as *mut StateHandle, loaded_text(alloc, opening, text));
+}
+
+/// Writes what the map is whose number is in the words.
+#[unsafe(no_mangle)]
+pub unsafe extern "C" fn nrbpf_raw_map_info(at: *mut u8, words: *mut u8)
+    ghost values: { SessionHandle × MapWords }
+    requires* { sem 𝓛 (holds_session at values.0) ∗ sem 𝓛 (holds_map words values.1) }
+    ensures* { ∃ₛ (λ after. ∃ₛ (λ left. sem 𝓛 (holds_session at after) ∗ sem 𝓛 (holds_map words left) ∗ ⌜ DescribesMap values.0 after values.1 left ⌝)) }
+{
+    map_described(
+        &mut *(at as *mut SessionHandle),
+        &mut *(words as *mut MapWords),
+    );
+}
+
+/// Writes what the program is whose number is in the words.
+#[unsafe(no_mangle)]
+pub unsafe extern "C" fn nrbpf_raw_program_info(at: *mut u8, words: *mut u8)
+    ghost values: { SessionHandle × ProgramWords }
+    requires* { sem 𝓛 (holds_session at values.0) ∗ sem 𝓛 (holds_program words values.1) }
+    ensures* { ∃ₛ (λ after. ∃ₛ (λ left. sem 𝓛 (holds_session at after) ∗ sem 𝓛 (holds_program words left) ∗ ⌜ DescribesProgram values.0 after values.1 left ⌝)) }
+{
+    program_described(
+        &mut *(at as *mut SessionHandle),
+        &mut *(words as *mut ProgramWords),
+    );
+}
+
+/// Writes what the store is from its opening on.
+#[unsafe(no_mangle)]
+pub unsafe extern "C" fn nrbpf_raw_store_info(at: *mut u8, words: *mut u8)
+    ghost values: { StoreHandle × StoreWords }
+    requires* { sem 𝓛 (holds_store at values.0) ∗ sem 𝓛 (holds_facts words values.1) }
+    ensures* { ∃ₛ (λ after. ∃ₛ (λ left. sem 𝓛 (holds_store at after) ∗ sem 𝓛 (holds_facts words left) ∗ ⌜ DescribesStore values.0 after values.1 left ⌝)) }
+{
+    store_described(
+        &mut *(at as *mut StoreHandle),
+        &mut *(words as *mut StoreWords),
+    );
 }

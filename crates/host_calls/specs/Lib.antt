@@ -5,6 +5,7 @@ pub mod Codes
 pub mod Told
 pub mod Calls
 pub mod Looks
+pub mod Describing
 pub mod Seating
 pub mod Stores
 pub mod Openings

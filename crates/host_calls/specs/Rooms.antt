@@ -7,6 +7,12 @@ use Rattle.host_calls.specs.declared.handles.StoreHandle.{StoreHandle}
 use Rattle.host_calls.specs.declared.handles.SessionHandle.{SessionHandle}
 use Rattle.host_calls.specs.declared.handles.StateHandle.{StateHandle}
 use Rattle.host_calls.specs.declared.handles.TextHandle.{TextHandle}
+use Rattle.host_calls.specs.declared.describing.MapWords.{MapWords}
+use Rattle.host_calls.specs.declared.describing.ProgramWords.{ProgramWords}
+use Rattle.host_calls.specs.declared.describing.StoreWords.{StoreWords}
+use Rattle.host_calls.specs.contracts.describing.MapWords.{the_row as the_map_words}
+use Rattle.host_calls.specs.contracts.describing.ProgramWords.{the_row as the_program_words}
+use Rattle.host_calls.specs.contracts.describing.StoreWords.{the_row as the_store_words}
 use Rattle.host_calls.specs.contracts.handles.StateHandle.{the_row as the_state}
 use Rattle.host_calls.specs.contracts.handles.StoreHandle.{the_row as the_store}
 use Rattle.host_calls.specs.contracts.handles.SessionHandle.{the_row as the_session}
@@ -23,3 +29,12 @@ holds_state p h = lies_at the_state full_share p h
 
 abbrev pub holds_text : Ptr → TextHandle → Fml
 holds_text p h = lies_at the_text full_share p h
+
+abbrev pub holds_map : Ptr → MapWords → Fml
+holds_map p h = lies_at the_map_words full_share p h
+
+abbrev pub holds_program : Ptr → ProgramWords → Fml
+holds_program p h = lies_at the_program_words full_share p h
+
+abbrev pub holds_facts : Ptr → StoreWords → Fml
+holds_facts p h = lies_at the_store_words full_share p h

@@ -22,10 +22,10 @@ use store::{
 /// A session and the store that it is of.
 #[derive(Drop)]
 pub struct Attached {
-    store: Arc<Store, Global>,
+    pub(crate) store: Arc<Store, Global>,
     // The session's place in the pool of its store.
     place: usize,
-    session: Polled,
+    pub(crate) session: Polled,
 }
 
 impl Model for Attached {

@@ -5,6 +5,7 @@
 pub mod attached;
 pub mod calls;
 pub mod closing;
+pub mod describing;
 pub mod handles;
 pub mod loading;
 pub mod looks;

@@ -33,7 +33,7 @@ fn number_of(told: Looked) -> u64
 }
 
 // Writes what is told. Where nothing was seen, its point, its count and where to go on stay what they were.
-fn note(answered: &mut Answered, told: Looked)
+pub(crate) fn note(answered: &mut Answered, told: Looked)
     ensures noted { answered.new ≡ noted answered.old told }
 {
     answered.status = status_of(told);

@@ -12,7 +12,7 @@ use crate::attached::Attached;
 use std::alloc::{AllocError, Global};
 use std::marker::Model;
 use std::sync::Arc;
-use store::{Store, StoreState};
+use store::{Store, StoreInfo, StoreState};
 
 /// A store, and a place for each of its sessions, in ascending order. A place is empty while its session is attached.
 #[derive(Drop)]
@@ -137,6 +137,15 @@ impl Pool {
         ensures number { result ≡ number_named (arc_value self.now.store).catalogue.programs name.now }
     {
         self.seats.store.catalogue().number(name)
+    }
+
+    /// What the store is from its opening on.
+    pub fn info(&self) -> StoreInfo
+        ensures sizes { result.sizes ≡ (arc_value self.now.store).config }
+        ensures maps { result.maps ≡ length (arc_value self.now.store).catalogue.shapes }
+        ensures programs { result.programs ≡ length (arc_value self.now.store).catalogue.programs }
+    {
+        self.seats.store.info()
     }
 
     /// A new state of the store's sizes.

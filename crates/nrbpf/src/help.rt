@@ -1,7 +1,7 @@
 // What the help of the program says, and its version.
 
 /// The day of the newest change that a user notices (CHANGELOG).
-pub const VERSION: &str = "2.1.0";
+pub const VERSION: &str = "2.2.0";
 
 /// Of the program.
 pub const PROGRAM: &str = "\

@@ -9,6 +9,8 @@ pub mod Going
 pub mod Asked
 -- Keys, states, and what is looked for without waiting.
 pub mod Looks
+-- Calls that ask a store what it is.
+pub mod Describing
 -- The install of a program that may name some maps alone.
 pub mod Within
 -- The history that explains what the sessions of a closed store did.

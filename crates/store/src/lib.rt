@@ -5,6 +5,7 @@
 mod answers;
 mod asked;
 mod closed;
+mod describing;
 mod laws;
 mod opening;
 mod polled;
@@ -15,9 +16,10 @@ mod within;
 
 pub use answers::Answer;
 pub use closed::Closed;
+pub use describing::StoreInfo;
 pub use laws::calls_are_told;
 pub use loader::{Catalogue, LoadError, StoreState, load_manifest, load_manifest_within};
-pub use maps::MapLimits;
+pub use maps::{MapLimits, Shape};
 pub use node::NodeReplica;
 pub use oplog::{Config, ENDLESS, OpenError, Sizes};
 pub use polled::Polled;
@@ -26,8 +28,8 @@ pub use replica::{NO_PLACE, NO_PROGRAM, StoreRefused};
 pub use session::Session;
 pub use store::Store;
 pub use store_steps::{
-    Batches, Beginning, GetRefused, Lookup, MapKey, Question, QuestionRefused, Scan, ScanRefused,
-    Setup, Value, desks,
+    Batches, Beginning, GetRefused, InfoRefused, Lookup, MapInfo, MapKey, ProgramFacts,
+    ProgramInfo, Question, QuestionRefused, Scan, ScanRefused, Setup, Value, desks,
 };
 pub use verifier::Mode;
 pub use within::Confined;

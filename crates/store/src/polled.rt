@@ -388,7 +388,7 @@ impl Polled {
     }
 
     // Looks at the replica of the session's node, if nobody holds the replica, nor the log that a replica takes which lacks records.
-    fn try_see<L: Look>(
+    pub(crate) fn try_see<L: Look>(
         &mut self,
         store: &Store,
         look: &mut L,

@@ -357,7 +357,7 @@ impl Session {
     }
 
     // Looks at the replica of the session's node, once the replica has everything that was completed when the call began.
-    fn see<R: Wait, L: Look>(
+    pub(crate) fn see<R: Wait, L: Look>(
         &mut self,
         rt: &R,
         store: &Store,

@@ -394,4 +394,11 @@ impl Store {
     {
         &self.setup.catalogue
     }
+
+    // The sizes that it was opened with.
+    pub(crate) fn sizes(&self) -> Sizes
+        ensures sizes { result ≡ self.now.config }
+    {
+        self.setup.config
+    }
 }

@@ -12,6 +12,8 @@ pub mod Sights
 pub mod Seen
 -- What stands under one key.
 pub mod Getting
+-- What a store says of its maps and programs.
+pub mod Describing
 -- The steps at a desk, which the public calls on a lent desk cite.
 pub mod AtDesk
 -- An update from its post to its answer, by calls that wait, and by deeds that don't.

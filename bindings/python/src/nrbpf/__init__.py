@@ -11,9 +11,10 @@ so threads wait for each other in the store alone. Make no call in a forked chil
 """
 
 from ._errors import CallError, DumpError, Error, HostError, ManifestError, OpeningError, Pending, Status
-from ._manifest import LARGE, STANDARD, Limits, Manifest, MapShape, Sizes
+from ._facts import MapInfo, MapShape, Mode, ProgramFacts, ProgramInfo, StoreInfo
+from ._manifest import LARGE, STANDARD, Limits, Manifest, Sizes
 from ._native import VERSION
-from ._session import Answer, Found, Mode, Page, Replies, Session
+from ._session import Answer, Found, Page, Replies, Session
 from ._state import State
 from ._store import Store, open
 
@@ -43,16 +44,20 @@ __all__ = [
     "Limits",
     "Manifest",
     "ManifestError",
+    "MapInfo",
     "MapShape",
     "Mode",
     "OpeningError",
     "Page",
     "Pending",
+    "ProgramFacts",
+    "ProgramInfo",
     "Replies",
     "Session",
     "Sizes",
     "State",
     "Status",
     "Store",
+    "StoreInfo",
     "open",
 ]

@@ -6,7 +6,7 @@ import ctypes
 import os
 from collections.abc import Mapping
 from pathlib import Path
-from typing import Literal, NamedTuple, Union
+from typing import NamedTuple, Union
 
 from . import _native
 
@@ -15,15 +15,6 @@ Buffer = Union[bytes, bytearray, memoryview]
 
 def as_bytes(given: Buffer) -> bytes:
     return given if type(given) is bytes else bytes(memoryview(given))
-
-
-class MapShape(NamedTuple):
-    """A map of a manifest: its kind, the bytes of a key and of a value, and how many entries it has room for."""
-
-    kind: Literal["array", "hash"]
-    key: int
-    value: int
-    entries: int
 
 
 class Manifest:
@@ -42,22 +33,11 @@ class Manifest:
         names = {os.fsdecode(words[4]) for words in lines if words[0] == b"program" and len(words) == 5}
         return cls(text, {name: Path(folder, name).read_bytes() for name in sorted(names)})
 
-    def maps(self) -> tuple[MapShape, ...]:
-        """The shapes of the maps, of a manifest that a store was opened with."""
-        lines = (line.split(b" ") for line in self.text.split(b"\n"))
-        return tuple(_shape(words) for words in lines if words[0] == b"map")
-
     def native(self) -> tuple[bytes, int, ctypes.Array[_native.File], int]:
         """The manifest as the library takes it."""
         named = [(name.encode(), text) for name, text in self.files.items()]
         files = (_native.File * len(named))(*[_native.File(name, len(name), text, len(text)) for name, text in named])
         return self.text, len(self.text), files, len(named)
-
-
-def _shape(words: list[bytes]) -> MapShape:
-    if words[1] == b"array":
-        return MapShape("array", 4, int(words[2]), int(words[3]))
-    return MapShape("hash", int(words[2]), int(words[3]), int(words[4]))
 
 
 class Limits(NamedTuple):

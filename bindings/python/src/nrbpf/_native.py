@@ -1,4 +1,4 @@
-"""The functions and structs of nrbpf.h, version 2.0, by ctypes, which lets the interpreter's lock go while a call is
+"""The functions and structs of nrbpf.h, version 2.2, by ctypes, which lets the interpreter's lock go while a call is
 made."""
 
 from __future__ import annotations
@@ -8,7 +8,7 @@ import os
 import platform
 import sys
 
-VERSION = 2001
+VERSION = 2002
 
 
 class File(c.Structure):
@@ -56,6 +56,28 @@ class Confined(c.Structure):
     )
 
 
+class MapFacts(c.Structure):
+    _fields_ = (
+        *((name, c.c_uint64) for name in ("point", "keys", "entries")),
+        *((name, c.c_uint32) for name in ("kind", "key_len", "value_len")),
+    )
+
+
+class ProgramFacts(c.Structure):
+    _fields_ = (
+        ("point", c.c_uint64),
+        *((name, c.c_uint32) for name in ("is_place", "is_there", "mode", "argument_len", "slots")),
+        ("maps", c.c_uint16),
+        ("name", c.c_char * 34),
+    )
+
+
+class StoreFacts(c.Structure):
+    _fields_ = tuple(
+        (name, c.c_uint32) for name in ("nodes", "slots", "window", "limit", "spare", "maps", "programs")
+    )
+
+
 Writer = c.CFUNCTYPE(c.c_int, c.c_void_p, c.POINTER(c.c_char), c.c_size_t)
 
 _AT, _OUT, _SIZE, _TEXT = c.c_void_p, c.POINTER(c.c_void_p), c.c_size_t, c.c_char_p
@@ -82,6 +104,7 @@ _TAKES = {
     "attach": [_AT, c.c_uint32, _OUT],
     "detach": [_AT],
     "poll": [_AT, _ANSWER],
+    "store_info": [_AT, c.POINTER(StoreFacts), _SIZE],
     "state_new": [_AT, _OUT],
     "state_dump": [_AT, Writer, _AT],
     "state_load": [*_SOURCES, _TEXT, _SIZE, _OUT, _WHY],
@@ -95,6 +118,8 @@ _TWINS = {
     "get": _GET,
     "scan": _SCAN,
     "read_each": _EACH,
+    "map_info": [_AT, c.c_uint32, c.POINTER(MapFacts), _SIZE],
+    "program_info": [_AT, c.c_uint16, c.POINTER(ProgramFacts), _SIZE],
     "snapshot": [_AT, _AT, _POINT],
 }
 

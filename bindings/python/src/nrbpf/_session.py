@@ -3,7 +3,6 @@
 from __future__ import annotations
 
 import ctypes
-import enum
 import threading
 import time
 from collections.abc import Callable, Iterable, Iterator, Sequence
@@ -12,6 +11,7 @@ from typing import TYPE_CHECKING, Any, NamedTuple
 
 from . import _native
 from ._errors import Error, Pending, Status, check, error_of, pending, within
+from ._facts import MapInfo, Mode, ProgramInfo
 from ._manifest import Buffer, as_bytes
 from ._state import State
 
@@ -20,13 +20,6 @@ if TYPE_CHECKING:
 
 _library = _native.library
 _END = 0xFFFFFFFF
-
-
-class Mode(enum.IntEnum):
-    """What a program may do."""
-
-    UPDATE = 0
-    READ = 1
 
 
 class Answer(NamedTuple):
@@ -193,6 +186,30 @@ class Session:
         each = _Questions(questions)
         status = self._try(lambda at: _library.nrbpf_try_read_each(at, *each.native()))
         return pending(status, each.fault) or each.told()
+
+    def map_info(self, map: int) -> MapInfo:
+        """What a map is, counted from 0 as the manifest has them: its shape, and how many keys it has."""
+        told, map = _native.MapFacts(), within(map, 32, Status.UNKNOWN_MAP)
+        check(self._use(lambda at: _library.nrbpf_map_info(at, map, told, ctypes.sizeof(told))))
+        return MapInfo.of(told)
+
+    def try_map_info(self, map: int) -> MapInfo | Pending:
+        """As `map_info`, and waits for nobody."""
+        told, map = _native.MapFacts(), within(map, 32, Status.UNKNOWN_MAP)
+        status = self._try(lambda at: _library.nrbpf_try_map_info(at, map, told, ctypes.sizeof(told)))
+        return pending(status) or MapInfo.of(told)
+
+    def program_info(self, program: int) -> ProgramInfo:
+        """What the program of a number is: its mode, its name, and the maps that it names."""
+        told, program = _native.ProgramFacts(), within(program, 16, Status.UNKNOWN_PROGRAM)
+        check(self._use(lambda at: _library.nrbpf_program_info(at, program, told, ctypes.sizeof(told))))
+        return ProgramInfo.of(told)
+
+    def try_program_info(self, program: int) -> ProgramInfo | Pending:
+        """As `program_info`, and waits for nobody."""
+        told, program = _native.ProgramFacts(), within(program, 16, Status.UNKNOWN_PROGRAM)
+        status = self._try(lambda at: _library.nrbpf_try_program_info(at, program, told, ctypes.sizeof(told)))
+        return pending(status) or ProgramInfo.of(told)
 
     def snapshot(self, into: State) -> int:
         """Makes a state the store's at one point of the history, and answers the point. Sessions of the same node wait

@@ -9,7 +9,8 @@ from types import TracebackType
 
 from . import _native
 from ._errors import Status, check, error_of, within
-from ._manifest import ONE_SESSION, STANDARD, Limits, Manifest, MapShape, Sizes
+from ._facts import MapShape, StoreInfo
+from ._manifest import ONE_SESSION, STANDARD, Limits, Manifest, Sizes
 from ._session import Session
 from ._state import State
 
@@ -33,12 +34,20 @@ class Store:
             status = state.use(lambda at: _library.nrbpf_open_on(*given, at, out, fault))
         check(status, fault)
         self._at = out.value
-        self._maps = manifest.maps()
+        with self.attach() as first:  # no session is attached yet, so none is in the way
+            self._maps = tuple(first.map_info(map).shape for map in range(self.info().maps))
 
     @property
     def maps(self) -> tuple[MapShape, ...]:
-        """The shapes of its maps, as the manifest has them."""
+        """The shapes of its maps, in the manifest's order."""
         return self._maps
+
+    def info(self) -> StoreInfo:
+        """What it is from its opening on: its sizes, and how many maps and programs it has."""
+        told = _native.StoreFacts()
+        with self._lock:
+            check(_library.nrbpf_store_info(self._open(), told, ctypes.sizeof(told)))
+        return StoreInfo(*(getattr(told, name) for name in StoreInfo._fields))
 
     def shape(self, map: int) -> MapShape:
         """The shape of a map, counted from 0. S9 where there is none."""

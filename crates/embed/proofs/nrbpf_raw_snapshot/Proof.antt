@@ -1,67 +1,14 @@
 -- `nrbpf_raw_snapshot` lends both handles to `snapped`.
-use Rattle.embed.proofs.Steps.{[], ◌∷◌, ◌++◌, refl, ap, proved, full_share, id⊢, ex, ex_i, sep, emp, fact, fact_i, ftrue, flft, vunit, tables, WpFn, ‵, raw, ◌⊛◌, some, later, prop, ◌$◌, ◌∵◌, !, qed, done, move, keep, drop, use0, use1, use2, use3, split, join, fsplit, feq_i, feq_l, pick, await, regoal, suffices, group, sem, enter, of_opd, unit_lit, addr, stop, no_more, and_then, returns, alloc_all, pass_all, free_all, look_at, get, through, sets, lands_as, lft_end, unit, yes, ref_back, mem, Ptr, RawPtr, block_ptr, lies_at, in_a_block, rawptr_vals, rawptr_Tells, mut_vals, plain, nothing, heard, only, calls_at, lasts, on_entry, triple_of, Stays, walk_of, stay_dropped, Goes-dropped, ends_at, framed}
-use Rattle.embed.proofs.Lending.{lend, loan}
 use Rattle.host_calls.specs.Looks.{Snaps}
-use Rattle.host_calls.specs.contracts.handles.StateHandle.{the_row as R}
 use Rattle.host_calls.specs.contracts.handles.SessionHandle.{the_row as S}
+use Rattle.host_calls.specs.contracts.handles.StateHandle.{the_row as R}
+use Rattle.host_calls.specs.contracts.looks.snapped as g
+use Rattle.host_calls.proofs.looks.snapped.Met.{met}
 use Rattle.embed.specs.contracts.nrbpf_raw_snapshot as f
 use Rattle.embed.proofs.nrbpf_raw_snapshot.Statement.{statement}
 use Rattle.embed.proofs.nrbpf_raw_snapshot.Code as code
-use Rattle.host_calls.specs.contracts.looks.snapped as g
-use Rattle.host_calls.proofs.looks.snapped.Met.{met}
-
-abbrev stayed : Stays f.ended.signature.params f.ended.kept
-stayed = (stay_dropped _ yes, (stay_dropped _ yes, tt))
+use Rattle.embed.proofs.LendingBoth.{lends_both}
 
 pub nrbpf_raw_snapshot_spec : {M : Type 1} → statement M
 nrbpf_raw_snapshot_spec 𝓤 𝓛 𝓜 𝓡 wired =
-    let c = f.clauses 𝓛 𝓜.mem 𝓡.returns in let W = walk_of 𝓛 f.ended stayed c in let 𝓣 = tables 𝓤 𝓛.H 𝓜 𝓡 𝓡.env in
-    let goes = Goes-dropped 𝓛 0 (plain (λ _. RawPtr)) yes (λ κs x w. refl) in
-    proved 𝓛 f.ended stayed c 𝓜 𝓡 (goes, (goes, tt))
-    f.Key.name code.function (code.unfolded 𝓤 𝓛.H 𝓜 𝓡 wired)
-    (λ κs. (rawptr_vals, (rawptr_vals, tt))) (λ κs. (rawptr_Tells, (rawptr_Tells, tt))) (λ κs qs bounds a both are.
-    let y : Ptr → Ptr → W.Ghost = λ p r. ((κs, qs, bounds, (p, (r, tt)), (rawptr_vals p, (rawptr_vals r, tt))), both) in
-    let G = triple_of 𝓛 g.signature (g.spec 𝓛 𝓜.mem 𝓡.returns) in
-    qed 𝓛 (raw (on_entry 𝓛 f.signature κs qs a (y a.0 a.1.0).0.4) ∷ (‵ (lies_at S full_share a.0 both.0) ⊛ ‵ (lies_at R full_share a.1.0 both.1)) ∷ []) ∵ drop ! $ split ! $ move ! (1 ∷ []) $
-    in_a_block ! a.1.0 (λ r. lies_at R full_share r both.1) (id⊢ 𝓤 _) (λ b' o' is'. move ! (1 ∷ []) $
-    in_a_block ! a.0 (λ p. lies_at S full_share p both.0) (id⊢ 𝓤 _) (λ b o is.
-    regoal ! (λ p. prop (WpFn 𝓤 𝓛.H 𝓣.C 𝓣.Λ code.function (rawptr_vals p ++ (rawptr_vals a.1.0 ++ [])) (W.post (y p a.1.0)))) is refl $
-    regoal ! (λ r. prop (WpFn 𝓤 𝓛.H 𝓣.C 𝓣.Λ code.function (rawptr_vals (block_ptr b o) ++ (rawptr_vals r ++ [])) (W.post (y (block_ptr b o) r)))) is' refl $
-    enter ! _ _ _ _ _ $ alloc_all ! (λ l. pass_all ! refl ((tt, tt), ((tt, tt), tt)) $
-    -- [the session; the state; the locals]
-    sets ! (of_opd ! (get ! refl)) refl (tt, tt) $
-    sets ! (addr ! (through ! refl (stop !))) refl (tt, tt) $
-    sets ! (of_opd ! (get ! refl)) refl (tt, tt) $
-    sets ! (addr ! (through ! refl (stop !))) refl (tt, tt) $
-    lend ! tt S 0 both.0 b o (λ κ γ.
-    -- [the loan of the session; the lender's part of it; the token of α; the state; the locals]
-    move ! (3 ∷ []) $ lend ! tt R 1 both.1 b' o' (λ ι δ.
-    -- [the loan of the state; the lender's part of it; the token of β; the loan of the session; the lender's part of it; the token of α; the locals]
-    let r = loan S b o γ both.0 in
-    let r' = loan R b' o' δ both.1 in
-    let z : G.Ghost = (((κ ∷ [], (ι ∷ [], tt)), (full_share, (full_share, tt)), tt, (r, (r', tt)), (mut_vals r, (mut_vals r', tt))), tt) in
-    nothing ! $ move ! (1 ∷ 0 ∷ []) $ join ! $ move ! (3 ∷ 0 ∷ []) $ join ! $
-    -- [both loans; the lender's part of the state; the token of β; the lender's part of the session; the token of α; the locals]
-    nothing ! $ move ! (3 ∷ 0 ∷ []) $ join ! $ move ! (4 ∷ 0 ∷ []) $ join ! $ move ! (0 ∷ 1 ∷ []) $ join ! $
-    nothing ! $ move ! (1 ∷ 0 ∷ []) $ use2 𝓛 (raw (G.pre z)) (id⊢ 𝓤 _) $
-    calls_at ! (framed 𝓤 𝓛.H 𝓜 (tables 𝓤 𝓛.H 𝓜 𝓡 𝓡.env)) G (met 𝓤 𝓛 𝓜 𝓡 (code.calls-host_calls::looks::snapped 𝓡.env wired)) z
-    (and_then ! (get ! refl) (and_then ! (get ! refl) (no_more !))) (λ v.
-    use1 𝓛 (later (some (λ (u : Unit {0}). ((‵ (flft (κ ∷ []) full_share) ⊛ ‵ (flft (ι ∷ []) full_share) ⊛ ‵ ftrue) ⊛ ‵ (unit.own_val u (v ∷ []))) ⊛
-    some (λ (last : S.Denot × (R.Denot × Unit {0})). ‵ (lasts g.ended z.0.0 z.0.3 last) ⊛ raw (fact 𝓤 (Snaps both.0 last.0 both.1 last.1.0)))))) (id⊢ 𝓤 _) $
-    await ! tt $ pick ! (λ u. split ! $ split ! $ split ! $ lft_end ! tt $ move ! (1 ∷ []) $ split ! $ lft_end ! tt $
-    -- [β is over; nothing; α is over; the result; what the call tells; the lender's part of the state; that of the session; the locals]
-    move ! (3 ∷ []) $ feq_l ! (λ is_unit.
-    lands_as ! (ap only is_unit) refl (tt, tt) $
-    sets ! (of_opd ! (unit_lit !)) refl (tt, tt) $
-    move ! (3 ∷ []) $ pick ! (λ last. split ! $ move ! (1 ∷ []) $ heard ! (Snaps both.0 last.0 both.1 last.1.0) (λ snaps. fsplit ! $ fsplit ! $ move ! (2 ∷ []) $ fsplit ! $ fsplit ! $
-    -- [the state's last value; its borrow; nothing; the session's last value; its borrow; β is over; nothing; α is over; the lender's part of the state; that of the session; the locals]
-    move ! (5 ∷ 8 ∷ 0 ∷ []) $ use3 𝓛 (later (‵ (lies_at R full_share (block_ptr b' o') last.1.0))) (ref_back 𝓛 R (ι ∷ []) δ last.1.0 b' o') $ await ! tt $
-    -- [the state; its borrow; nothing; the session's last value; its borrow; nothing; α is over; the lender's part of the session; the locals]
-    move ! (6 ∷ 7 ∷ 3 ∷ []) $ use3 𝓛 (later (‵ (lies_at S full_share (block_ptr b o) last.0))) (ref_back 𝓛 S (κ ∷ []) γ last.0 b o) $ await ! tt $
-    returns ! (look_at ! 0 refl) $ free_all ! refl $ keep ! (1 ∷ 0 ∷ []) $
-    use0 𝓛 (raw (fact 𝓤 (Snaps both.0 last.0 both.1 last.1.0))) (fact_i 𝓤 (Snaps both.0 last.0 both.1 last.1.0) (emp 𝓤) snaps) $ move ! (1 ∷ 0 ∷ []) $ join ! $ move ! (1 ∷ 0 ∷ []) $ join ! $
-    let Left = λ (x : S.Denot) (left : R.Denot). sep 𝓤 (sem 𝓛 (lies_at S full_share (block_ptr b o) x)) (sep 𝓤 (sem 𝓛 (lies_at R full_share (block_ptr b' o') left)) (fact 𝓤 (Snaps both.0 x both.1 left))) in
-    use1 𝓛 (raw (ex 𝓤 (λ (left : R.Denot). Left last.0 left))) (ex_i 𝓤 (λ (left : R.Denot). Left last.0 left) last.1.0) $
-    use1 𝓛 (raw (ex 𝓤 (λ (x : S.Denot). ex 𝓤 (λ (left : R.Denot). Left x left)))) (ex_i 𝓤 (λ (x : S.Denot). ex 𝓤 (λ (left : R.Denot). Left x left)) last.0) $
-    suffices ! _ (ends_at 𝓛 f.ended stayed c (y (block_ptr b o) (block_ptr b' o')) vunit tt (tt, (tt, tt)) (tt, (tt, tt))) $
-    feq_i ! _ (vunit ∷ []) _ refl $ nothing ! $ nothing ! $ join ! $ nothing ! $ join ! $ nothing ! $ group ! 3 $ done !)))))))))))
+    lends_both 𝓛 S R 𝓜 𝓡 Snaps f.Key.name g.Key.name (code.unfolded 𝓤 𝓛.H 𝓜 𝓡 wired) (met 𝓤 𝓛 𝓜 𝓡 (code.calls-host_calls::looks::snapped 𝓡.env wired))
