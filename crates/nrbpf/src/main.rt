@@ -1,4 +1,4 @@
-//! A command line that checks eBPF programs, and runs them as the operations of a replicated store of maps.
+//! Checks eBPF programs, and runs them as the operations of a replicated store of maps.
 #![tactic(auto)]
 
 mod command_line;

@@ -18,8 +18,10 @@ line. A line of the text has one instruction or one label. `;` begins a comment.
     mov64 r0, 5
     exit
 
-is `b7000000050000009500000000000000`. With `-o OUT` the digits go to the file OUT. They are first written to
-OUT.part, which then replaces OUT. If the text is refused, OUT keeps its bytes.
+is `b7000000050000009500000000000000`.
+
+With `-o OUT` the digits go to the file OUT. They are first written to OUT.part, which then replaces OUT. If OUT is no
+plain file (a link, a device, a pipe), it is written itself. If the text is refused, OUT keeps its bytes.
 
 With `--explain` standard error says the reason of a refusal, its column, and what is wanted there. Then comes the
 refused line, with a mark below the column.
