@@ -9,19 +9,21 @@ use std::alloc::{AllocError, Global};
 // The command line of the program.
 fn program<'a>(alloc: Global) -> Result<Command<'a>, AllocError> {
     let program = Command::new(alloc, "nrbpf")
-        .about("A store of maps whose operations are eBPF programs")
+        .about(
+            "Checks eBPF programs, and runs them as the operations of a replicated store of maps",
+        )
         .after_help(help::PROGRAM)
         .version(help::VERSION)
         .subcommand_required(true)
         .arg_required_else_help(true)
         .arg(
-            arg!(in alloc; folder: -C <FOLDER> "The folder in which the command works: it names files from there"),
+            arg!(in alloc; folder: -C <FOLDER> "The folder to work in; the paths of files begin there"),
         )?;
     add_all(alloc, program)
 }
 
-/// The call that the words of a command line ask for, the first of them the program's name. The parser refuses words that name no
-/// command; `None` where it did not.
+/// The call that the words of a command line ask for. The first word is the program's name. The parser refuses words that name no
+/// command; `None` if it did not.
 pub fn read<'a>(alloc: Global, words: &'a [String]) -> Result<Option<Call<'a>>, Error> {
     let matches = program(alloc)?.try_get_matches_from(words)?;
     Ok(named_call(&matches))

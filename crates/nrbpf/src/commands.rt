@@ -1,4 +1,4 @@
-// The commands: each has a file, with its options, its help, what its words ask for, and what it does.
+// The commands. Each has a file with its options and help, the task that its words ask for, and what it does.
 
 mod asm_command;
 mod check_command;
@@ -78,7 +78,7 @@ pub fn add_all<'a>(alloc: Global, program: Command<'a>) -> Result<Command<'a>, A
     Ok(program)
 }
 
-/// What the command of this name is asked for.
+/// The task that the words of this command ask for.
 pub fn task_of<'a>(name: &str, matches: &ArgMatches<'a>) -> Option<Task<'a>> {
     match name {
         "check" => check_command::task(matches),
@@ -96,7 +96,7 @@ pub fn task_of<'a>(name: &str, matches: &ArgMatches<'a>) -> Option<Task<'a>> {
     }
 }
 
-/// Does what a call asks for, with what it reads and where it writes.
+/// Does what a call asks for. Reads from `inputs` and writes to `writer`.
 pub fn perform<
     R: Files + Input + AllocGlobal + Eprint + Threads + Wait + Clock + Sync,
     F: Folder,

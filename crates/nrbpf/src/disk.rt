@@ -1,4 +1,4 @@
-// Files by their paths. One that cannot be opened or read is named on standard error, as `PATH: REASON`.
+// Files by their paths. If one cannot be opened or read, standard error gets a line `PATH: REASON`.
 
 ghost use Rattle.std.specs.Prelude.{⊤, IfOk};
 ghost use Rattle.std.specs.Counts.{IsPrefixLen};
@@ -8,7 +8,7 @@ use std::io::{Eprint, Input, Read};
 use std::rt::Files;
 use std::{fs, io};
 
-/// The path that stands for standard input, and in an option for standard output.
+/// The path of standard input, and in an option of standard output.
 pub const DASH: &str = "-";
 
 /// Says on standard error why something cannot be used.
@@ -26,7 +26,7 @@ pub struct Disk<'a, R: Files + AllocGlobal + Eprint> {
 #[derive(Drop)]
 pub struct NamedFile<'a, R: Files + AllocGlobal + Eprint> {
     rt: &'a R,
-    // Where there was no memory for it, the file goes by no name.
+    // `None` if there was no memory for the name.
     name: Option<String>,
     file: R::File,
 }
@@ -68,7 +68,7 @@ enum Opened<F: Drop, I: Drop> {
     Input(I),
 }
 
-/// A file that is opened when it is first read: what is read before it is judged before it. The path `-` is standard input.
+/// A file that is opened at its first read. So the files that are read before it are judged first. The path `-` is standard input.
 #[derive(Drop)]
 pub struct LateFile<'a, R: Files + Input + Eprint> {
     rt: &'a R,
@@ -103,7 +103,7 @@ impl<'a, R: Files + Input + Eprint> LateFile<'a, R> {
         }
     }
 
-    // Reads some of it.
+    // Reads some of the file.
     fn read_some(&mut self, buf: &mut [u8]) -> io::Result<usize>
         ensures { IfOk result (λ n. IsPrefixLen n buf.new) }
     {

@@ -1,11 +1,11 @@
-// What the commands share: how one answers, and where its texts go.
+// What the commands share: how a command answers, and where its texts go.
 
 use crate::disk::DASH;
 use crate::output::say_text;
 use engine::{Answering, Command, Destination, Folder, Inputs, Notes, Parted, Status, Telling};
 use std::io::{Eprint, Read, Write};
 
-/// Does a command, and says on standard error what is to be told beside its answer.
+/// Does a command, and says its notes on standard error.
 pub fn act<R: AllocGlobal + Eprint, C: Command, F: Folder, I: Read + Drop, W: Write>(
     rt: &R,
     command: &C,
@@ -31,7 +31,7 @@ pub fn destination_of(path: Option<&str>) -> Destination {
     }
 }
 
-/// What a command handed back.
+/// The text that a command made for a file, if there is one.
 pub fn elsewhere(made: Option<Parted>) -> Option<Vec<u8>> {
     match made {
         Some(made) => made.elsewhere,

@@ -1,4 +1,4 @@
-//! A store of maps whose operations are eBPF programs, from the command line.
+//! Checks eBPF programs, and runs them as the operations of a replicated store of maps.
 #![tactic(auto)]
 
 mod command_line;
@@ -21,7 +21,7 @@ use std::sync::Wait;
 use std::thread::Threads;
 use tasks::{Call, say_sizes};
 
-// Answers a call from the files that it names, on standard output, and says on standard error what it could not say there. A file that its
+// Answers a call on standard output, from the files that the call names. Says on standard error what it could not say there. A file that the
 // task does not read is not opened.
 fn answer<R: Files + Input + Print + Eprint + AllocGlobal + Threads + Wait + Clock + Sync>(
     rt: &R,
@@ -49,7 +49,7 @@ fn answer<R: Files + Input + Print + Eprint + AllocGlobal + Threads + Wait + Clo
     status
 }
 
-// Goes to the folder in which a call works, and tells whether it is there. What is wrong is said on standard error.
+// Enters the folder of a call, and answers whether it could. Says on standard error what is wrong.
 fn enter<R: Env + Eprint>(rt: &R, call: &Call) -> bool {
     let Some(folder) = call.folder else {
         return true;
@@ -77,7 +77,7 @@ fn main(rt: HostRuntime) -> ExitCode {
     };
     match command_line::read(rt.alloc(), words.as_slice()) {
         Ok(Some(call)) if call.reads_twice() => {
-            let _ = eprintln!(rt; "error: standard input can be one file only");
+            let _ = eprintln!(rt; "error: only one file can be standard input");
             ExitCode::from(FAULT)
         }
         Ok(Some(call)) if !enter(&rt, &call) => ExitCode::from(Status::CannotRead.code()),

@@ -7,17 +7,17 @@ use std::io::{Eprint, ErrorKind, Write};
 use std::rt::Files;
 use std::{fs, io};
 
-/// Standard output. Why a write failed is said on standard error, but for one to a pipe that nobody reads any more.
+/// Standard output. If a write fails, standard error says why, except for a pipe that nobody reads any more.
 #[derive(Drop)]
 pub struct Output<'a, R: Eprint, W: Write + Drop> {
     rt: &'a R,
     writer: W,
-    /// Whether nobody reads it any more.
+    /// Whether nobody reads the output any more.
     pub is_closed: bool,
 }
 
 impl<'a, R: Eprint, W: Write + Drop> Output<'a, R, W> {
-    /// What is written goes to this writer.
+    /// An output whose bytes go to this writer.
     pub fn new(rt: &'a R, writer: W) -> Output<'a, R, W> {
         Output {
             rt,
@@ -45,11 +45,11 @@ impl<R: Eprint, W: Write + Drop> Write for Output<'_, R, W> {
     }
 }
 
-/// A file that a text is put into, where all was well before.
+/// A file for a text, which is written if all was well before.
 #[derive(Drop)]
 pub struct Target<'a> {
     path: &'a str,
-    // The path of the file that becomes the one of the path.
+    // The path of the file that replaces the file.
     part: String,
 }
 
@@ -68,7 +68,7 @@ impl<'a> Target<'a> {
         }
     }
 
-    // Writes a file next to that of the path, and puts it in its place.
+    // Writes a file next to that of the path, and then renames it to the path.
     fn replace<R: Files>(&self, rt: &R, text: &[u8]) -> io::Result<()> {
         let part = self.part.as_str();
         let mut file = fs::create(rt, part)?;
@@ -82,7 +82,7 @@ impl<'a> Target<'a> {
         written
     }
 
-    // Puts it where the path is: a plain file is replaced whole, or stays as it was. What is no plain file is a link, a device or a pipe.
+    // Puts a text at the path. A plain file is replaced whole, or keeps its bytes. A link, a device or a pipe is written itself.
     fn save<R: Files>(&self, rt: &R, text: &[u8]) -> io::Result<()> {
         match fs::symlink_metadata(rt, self.path) {
             Ok(found) if !found.is_file() => fs::write(rt, self.path, text),
@@ -90,7 +90,7 @@ impl<'a> Target<'a> {
         }
     }
 
-    // Puts a text into it: the path `-` is standard output.
+    // Puts a text into the file. The path `-` is standard output.
     fn put<R: Files + Eprint, W: Sink>(&self, rt: &R, text: &[u8], writer: &mut W) -> Status {
         let is_put = if self.path == DASH {
             writer.send(text).is_ok()
@@ -109,7 +109,7 @@ impl<'a> Target<'a> {
     }
 }
 
-/// Puts a text where it belongs, if there is one and all is well so far.
+/// Puts a text into its file, if there are both and all is well so far.
 pub fn put_after<R: Files + Eprint, W: Sink>(
     rt: &R,
     status: Status,

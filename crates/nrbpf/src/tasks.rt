@@ -13,11 +13,11 @@ use std::io::Eprint;
 /// Which programs of a manifest are explained, and how.
 #[derive(Clone, Copy)]
 pub struct Explaining<'a> {
-    /// The name of the only one.
+    /// The name of the only program to explain.
     pub name: Option<&'a str>,
-    /// Whether they are drawn.
+    /// Whether the programs are drawn.
     pub is_graph: bool,
-    /// Whether the maps that each names are told.
+    /// Whether the answer has the maps that each program names.
     pub has_maps: bool,
 }
 
@@ -33,13 +33,13 @@ pub struct Running {
 /// What is to be done.
 #[derive(Clone, Copy)]
 pub enum Task<'a> {
-    /// Check a manifest, and tell the maps that each program names or not.
+    /// Check a manifest; if true, the answer has the maps that each program names.
     Check(bool),
     /// Explain the programs of a manifest, or draw them.
     Explain(Explaining<'a>),
     /// Assemble a text.
     Assemble,
-    /// Disassemble a program file, with slots and bytes or without.
+    /// Disassemble a program file.
     Disassemble(Disassemble),
     /// Write the script of a text of calls.
     Encode,
@@ -47,28 +47,28 @@ pub enum Task<'a> {
     Decode,
     /// Run a script.
     Run(Running),
-    /// Replay a transcript, with so many places behind the programs.
+    /// Replay a transcript, with so many places for installed programs.
     Replay(u32),
     /// Take a list of steps on a store of these sizes.
     Schedule(Config),
-    /// Answer lines as they come in, with so many places behind the programs.
+    /// Answer lines while they arrive, with so many places for installed programs.
     Serve(u32),
     /// Make the calls of a script on threads, on a store of these sizes.
     Stress(Config),
 }
 
-/// What is asked for, and the paths of what it reads and writes.
+/// A task, and the paths of what it reads and writes.
 #[derive(Clone, Copy)]
 pub struct Call<'a> {
     /// What is to be done.
     pub task: Task<'a>,
-    /// What is told of it on standard error beside its answer.
+    /// Which notes standard error gets, next to the answer.
     pub telling: Telling,
-    /// The folder in which it works, where that is not the caller's.
+    /// The folder in which the program works, if not the caller's.
     pub folder: Option<&'a str>,
     /// How large the maps of the manifest may be.
     pub sizes: MapSizes,
-    /// Whether it is said there how many calls there were, and how long they took.
+    /// Whether standard error says how many calls there were, and how long they took.
     pub has_stats: bool,
     /// The manifest.
     pub manifest: Option<&'a str>,
@@ -78,14 +78,14 @@ pub struct Call<'a> {
     pub state: Option<&'a str>,
     /// The times of calls to be judged.
     pub history: Option<&'a str>,
-    /// The file for the program that is assembled, or for the state that is left.
+    /// The file for the assembled program, or for the state at the end.
     pub output: Option<&'a str>,
-    /// The file for the times of the calls that are made.
+    /// The file for the times of the calls.
     pub times: Option<&'a str>,
 }
 
 impl<'a> Call<'a> {
-    /// Whether two files are standard input, which can be read once, and which `serve` reads besides.
+    /// Whether two files are standard input, which can be read only once. `serve` reads its lines there.
     pub fn reads_twice(&self) -> bool {
         let lines = match self.task {
             Task::Serve(_) => Some(DASH),
@@ -108,7 +108,7 @@ pub fn config_of(matches: &ArgMatches) -> Option<Config> {
     })
 }
 
-// What is told beside the answer.
+// Which notes standard error gets.
 fn telling_of(matches: &ArgMatches) -> Telling {
     if matches.get_flag("lanes") {
         Telling::Lanes
@@ -146,7 +146,7 @@ pub fn named_call<'a>(matches: &ArgMatches<'a>) -> Option<Call<'a>> {
     })
 }
 
-// Says on standard error of one size that it is out of its limits, where it is.
+// If a size is out of its limits, says so on standard error.
 fn say_size<R: Eprint>(rt: &R, name: &str, size: u32, least: u32, most: u32) {
     if size < least || most < size {
         let _ = eprintln!(rt; "--{name} {size}: {least} to {most}");

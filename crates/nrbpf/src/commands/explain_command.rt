@@ -9,18 +9,19 @@ use engine::{Folder, Inputs, Status, Telling};
 use std::alloc::{AllocError, Global};
 use std::io::{Eprint, Read, Write};
 
-// What the help says behind its arguments.
+// The help's text after the arguments.
 const HELP: &str = "\
-Writes what `nrbpf check` writes, and behind it, for an author:
+Writes what `nrbpf check` writes, and then more for an author:
 
-    of each program       its instructions, a line each: its slot, its text, and what is known before it of registers
-                          and of the stack, all of it where jumps lead to, else what the line above changed
-    of a refused program  the listing up to there, the way that leads there, what broke, and what to do about it
-    of another bad line   what is wrong with it, and what to do about it
+    of each program       a line for each instruction: its slot, its text, and what is known before it of registers and
+                          the stack. At slot 0 and at a jump's target this is all that is known. Elsewhere it is what
+                          the instruction above changed
+    of a refused program  the same up to the refusal, the way that leads there, what broke, and what to do
+    of another bad line   what is wrong with it, and what to do
 
-All bad lines are told, and not the first alone; behind the bad line of a map no program is judged. Of files that are
-not UTF-8 it says what they are. Where NAME is given, it is the program of that name alone. For the manifest of
-`nrbpf check --help` it writes:
+All bad lines are explained, not only the first. After the bad line of a map no program is judged. If a file is not
+UTF-8, the answer says what the file is, and what to do. With NAME only that program's line is explained. For the
+manifest of `nrbpf check --help` the answer is:
 
     five ok 2 2
 
@@ -28,29 +29,32 @@ not UTF-8 it says what they are. Where NAME is given, it is the program of that 
        0  mov64 r0, 5              r1 = argument; r10 = stack end
        1  exit                     r0 = a number
 
-`argument +4` and `stack -8` are pointers to byte 4 of the argument and to the byte 8 below the stack's end, `value
-of map 0` is one to a value, and `value of map 0, or null` the answer of a lookup that is not tested yet.
+`argument +4` is a pointer to byte 4 of the argument. `stack -8` is a pointer to the byte 8 below the stack's end.
+`value of map 0` is a pointer to a value. `value of map 0, or null` is what a lookup answered, before its test.
 
-With `--graph` it draws the programs instead, refused ones too, as Graphviz reads it (`dot -Tsvg`): a box for the
-instructions that run from the first to the last, and an arrow for each way on, with `jump` at those that jump.
+With `--graph` the answer is a graph of the programs instead, for Graphviz (`dot -Tsvg`). Refused programs are in it
+too. A box has instructions that run one after another. An arrow leads to each box that may run next, and `jump` marks
+the arrow of a jump.
 
-With `--maps` it begins with what `nrbpf check --maps` writes. A graph stays as it is.
+With `--maps` the answer begins with what `nrbpf check --maps` writes. A graph stays the same.
 
-Exit statuses: as those of `check`: 0 all is well, 2 wrong words on the command line, 3 refused, 4 `no memory`,
-5 `cannot read` or `cannot write` (on standard error).";
+Exit statuses are those of `check`: 0 all is well; 2 the words of the command line are wrong; 3 refused;
+4 `no memory`; 5 `cannot read` or `cannot write`, on standard error.";
 
-/// Its options, arguments and help.
+/// The command's options, arguments and help.
 pub fn arguments<'a>(alloc: Global) -> Result<Command<'a>, AllocError> {
     Command::new(alloc, "explain")
-        .about("Says what is known of a manifest's programs, and what to do about refusals")
+        .about(
+            "Says what is known at each instruction of a manifest's programs, and what to do about refusals",
+        )
         .after_help(HELP)
         .arg(arg!(in alloc; --graph "Writes the programs as a graph for Graphviz instead"))?
         .arg(options::maps(alloc))?
         .arg(options::manifest(alloc))?
-        .arg(arg!(in alloc; [NAME] "The name of a program; all, where it is left out"))
+        .arg(arg!(in alloc; [NAME] "The name of the only program to explain; by default all"))
 }
 
-/// What its words ask for.
+/// The task that the command's words ask for.
 pub fn task<'a>(matches: &ArgMatches<'a>) -> Option<Task<'a>> {
     let (name, is_graph) = (matches.get_str("NAME"), matches.get_flag("graph"));
     let has_maps = matches.get_flag("maps");
@@ -61,7 +65,7 @@ pub fn task<'a>(matches: &ArgMatches<'a>) -> Option<Task<'a>> {
     }))
 }
 
-/// Explains the programs of a manifest, or the one of a name; or draws them.
+/// Explains the programs of a manifest, or only the one of a name. Or draws them.
 pub fn perform<R: AllocGlobal + Eprint, F: Folder, I: Read + Drop, W: Write>(
     rt: &R,
     asked: Explaining<'_>,

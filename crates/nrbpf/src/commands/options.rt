@@ -1,4 +1,4 @@
-// The options and arguments that several commands have.
+// The options and arguments of more than one command.
 
 use clap::builder::ValueParser;
 use clap::{Arg, Command, arg};
@@ -16,18 +16,23 @@ pub fn number<'a>(alloc: Global, name: &'a str, default: &'a str, help: &'a str)
 
 /// How many programs may be installed.
 pub fn spare<'a>(alloc: Global) -> Arg<'a> {
-    let help = "Programs that may be installed behind those of the manifest";
+    let help = "Places for installed programs, after the manifest's programs";
     number(alloc, "spare", "4", help)
 }
 
 /// Adds the sizes of a store.
 pub fn sized<'a>(alloc: Global, command: Command<'a>) -> Result<Command<'a>, AllocError> {
     let nodes = "Nodes, each with a replica of the maps";
-    let limit = "Updates that the store may have in all";
+    let limit = "Updates and installs that the history may have";
     command
         .arg(number(alloc, "nodes", "2", nodes))?
-        .arg(number(alloc, "slots", "2", "Slots of a node"))?
-        .arg(number(alloc, "window", "64", "Records that the log keeps at once"))?
+        .arg(number(
+            alloc,
+            "slots",
+            "2",
+            "Slots of each node, one for each session",
+        ))?
+        .arg(number(alloc, "window", "64", "Records that the log may keep"))?
         .arg(number(alloc, "limit", "1000000", limit))?
         .arg(spare(alloc))
 }
@@ -37,17 +42,17 @@ pub fn load<'a>(alloc: Global) -> Arg<'a> {
     arg!(in alloc; --load <FILE> "The path of the state to begin with")
 }
 
-/// The file for the state that is left.
+/// The file for the state at the end.
 pub fn dump<'a>(alloc: Global) -> Arg<'a> {
-    arg!(in alloc; output: --dump <FILE> "The path of the file for the state that is left")
+    arg!(in alloc; output: --dump <FILE> "The path of the file for the state at the end")
 }
 
-/// Whether maps may be larger than the standard limits say.
+/// Whether maps may be larger than the standard limits allow.
 pub fn large<'a>(alloc: Global) -> Arg<'a> {
-    arg!(in alloc; --large "Takes maps of up to 2147483648 entries, and of 2^40 bytes together")
+    arg!(in alloc; --large "Allows up to 2147483648 entries a map, and 2^40 bytes of all maps")
 }
 
-/// Whether the maps that a program names are told.
+/// Whether the answer has the maps that a program names.
 pub fn maps<'a>(alloc: Global) -> Arg<'a> {
     arg!(in alloc; --maps "Writes the mode of each program, and the maps that it names")
 }

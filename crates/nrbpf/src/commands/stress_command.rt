@@ -14,22 +14,22 @@ use std::sync::Wait;
 use std::thread::Threads;
 use stress::{Counts, Leaving, OpenGate, Stress};
 
-// What the help says behind its arguments.
+// The help's text after the arguments.
 const HELP: &str = "\
-Opens a new store of that many nodes with the maps and the programs of the manifest (`nrbpf check --help`), and
-gives the calls of the script (`nrbpf run --help`) to its sessions in turn: call J, from 0, to session J modulo the
-number of sessions, one for each slot of each node. Each session makes its calls on a thread of its own.
+Opens a new store with --nodes nodes, and the maps and the programs of the manifest (`nrbpf check --help`). Each slot
+of each node has a session, on a thread of its own. The sessions make the calls of the script (`nrbpf run --help`) in
+turn: session J modulo the number of sessions makes call J, from 0.
 
 Writes a transcript, as `nrbpf replay` reads it:
-    u INDEX NAME HEX REPLY           an update: its index in the history, from 0, and what it replied, in their order
-    i INDEX MODE ARGLEN HEX REPLY    an install, among the updates: it replies the number of its program
-    r POINT NAME HEX REPLY           a read: it has seen the first POINT updates, and stands behind them
-    e NAME HEX                       last, an update that was told that the history has ended: it changed nothing
-    e MODE ARGLEN HEX                the same of an install
+    u INDEX NAME HEX REPLY           an update: its index in the history, from 0, and its reply, in the order of INDEX
+    i INDEX MODE ARGLEN HEX REPLY    an install, among the updates: its reply is the number of its program
+    r POINT NAME HEX REPLY           a read, after the first POINT updates and installs, which it has seen
+    e NAME HEX                       last, an update that changed nothing, because the history had ended
+    e MODE ARGLEN HEX                last, an install that changed nothing, because the history had ended
 
-A program that was installed stands by its number in the place of NAME.
+An installed program has its number instead of NAME.
 
-Which index a call gets is another from run to run; `nrbpf replay` writes `good U R E` for each transcript. With the
+The index of a call may be another in each run. `nrbpf replay` writes `good U R E` for each transcript. With the
 manifest of examples/counter, the script
 
     bump 00000000
@@ -37,28 +37,28 @@ manifest of examples/counter, the script
 
 writes `u 0 bump 00000000 1` and `u 1 bump 00000000 2`.
 
-With `--history FILE` the times of the calls are put into FILE, for `nrbpf replay --history FILE`: which calls had ended
-before others began, by one counter that all threads raise, before and behind each call. Raising it is a memory
-barrier, so it's worth a run with it and one without. `--load` and `--dump` are those of `nrbpf run`; what is loaded is to be
-given to `nrbpf replay --load` too. `--stats` says on standard error how many calls there were, how long they took, and how many
-updates sessions appended at once, for the sessions of their node.
+With `--history FILE` the times of the calls go to FILE, for `nrbpf replay --history FILE`. They say which calls had
+ended before others began. All threads raise one counter before and after each call. Raising it is a memory barrier,
+which may hide what another run would show. So make a run without it too.
+
+`--load` and `--dump` are those of `nrbpf run`. Give `nrbpf replay` the same `--load` and `--spare`. `--stats` says on
+standard error how many calls there were, how long they took, and how many requests a combiner claimed together.
 
 Refusals, before any thread starts:
-    line N bad          line N is no comment, no empty line, and nothing that a session could be asked for: `run`
-                        would find it bad, or answer it by refused S1 to S3 or S6 to S8
-    refused O1          --nodes is not from 1 to 8, --slots from 1 to 16, --window from 16 to 4096, --limit
-                        from 1 to 1000000 or --spare from 0 to 16
+    line N bad          line N is bad for `run`, or `run` would answer it by refused S1 to S3 or S6 to S8
+    refused O1          a size is out of its limits: --nodes 1 to 8, --slots 1 to 16, --window 16 to 4096,
+                        --limit 1 to 1000000, --spare 0 to 16
     line N: C..         the manifest is refused (`nrbpf check --help`)
     line N: E..         the state is refused (`nrbpf run --help`)
     not UTF-8           the manifest, a program file, the script or the state is not UTF-8
 
-Exit statuses: 0 all is well, 2 wrong words on the command line, 3 refused, 4 `no memory`,
-5 `cannot read` or `cannot write` (on standard error).";
+Exit statuses: 0 all is well; 2 the words of the command line are wrong; 3 refused; 4 `no memory`;
+5 `cannot read` or `cannot write`, on standard error.";
 
-/// Its options, arguments and help.
+/// The command's options, arguments and help.
 pub fn arguments<'a>(alloc: Global) -> Result<Command<'a>, AllocError> {
     let command = Command::new(alloc, "stress")
-        .about("Makes the calls of a script on threads")
+        .about("Makes the calls of a script on several threads, and writes a transcript")
         .after_help(HELP);
     options::sized(alloc, command)?
         .arg(options::large(alloc))?
@@ -67,12 +67,12 @@ pub fn arguments<'a>(alloc: Global) -> Result<Command<'a>, AllocError> {
         .arg(arg!(in alloc; times: --history <FILE>
             "The path of the file for the times of the calls"))?
         .arg(arg!(in alloc; --stats
-            "Says on standard error how many calls there were, how long they took, and in which batches"))?
+            "Says on standard error how many calls there were, how long they took, and how large the batches"))?
         .arg(options::manifest(alloc))?
         .arg(options::script(alloc))
 }
 
-/// What its words ask for.
+/// The task that the command's words ask for.
 pub fn task<'a>(matches: &ArgMatches<'a>) -> Option<Task<'a>> {
     Some(Task::Stress(config_of(matches)?))
 }
@@ -87,7 +87,7 @@ fn leaving_of(call: &Call<'_>) -> Leaving {
     Leaving { times, state }
 }
 
-// How many that are for each; none where there are none.
+// How many of all there are for each; 0 if `count` is 0.
 fn for_each(all: u128, count: u64) -> u128 {
     match count {
         0 => 0,
@@ -95,7 +95,7 @@ fn for_each(all: u128, count: u64) -> u128 {
     }
 }
 
-// Says on standard error how many calls there were, how long they took, and in how large batches.
+// Says on standard error how many calls there were, how long they took, and how large the batches were.
 fn say_counts<R: Eprint>(rt: &R, counts: Counts) {
     let (updates, reads, ended) = (counts.updates, counts.reads, counts.ended);
     let calls = updates.saturating_add(reads).saturating_add(ended);
@@ -118,8 +118,8 @@ fn say_counts<R: Eprint>(rt: &R, counts: Counts) {
     );
 }
 
-/// Makes the calls of a script on threads, on the state of a file, or on a new one; puts the times of its calls and the state that it leaves
-/// into files, where all was written, and says how many calls there were.
+/// Makes the calls of a script on threads, from the state of a file or from a new one. If all was written, puts the times of its calls and the
+/// state that it leaves into files. Says how many calls there were.
 pub fn perform<
     R: Files + AllocGlobal + Eprint + Threads + Wait + Clock + Sync,
     F: Folder,
