@@ -44,12 +44,12 @@ pub record IsExplanation (maps : Bool) (name : Option (List ℕ)) (read : Option
   pub text : a.text ≡ checked.text ++ more
   pub told : IsTold name read more
 
--- a refusal before a graph is a remark in the graph's language
+-- what comes before a graph: a refusal, as a remark in the graph's language
 abbrev pub remark_of : Verdict → List ℕ → List ℕ
 remark_of verdicts.Refused text = codes "// " ++ text
 remark_of verdict text = []
 
--- `explain --graph`: what is no text is not drawn, and `check` answers that. Else the verdict is that of `check`, and its refusal stands before what is
+-- `explain --graph`: what is no text is not drawn, and `check` answers that. Else the verdict is that of `check`, and its refusal comes before what is
 -- drawn. The words of the drawing aren't defined
 abbrev pub IsGraph : Option TextsRead → Answer → Type 0
 IsGraph None a = a ≡ not_text

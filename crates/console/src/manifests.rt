@@ -143,7 +143,7 @@ impl<F: Folder> Command for Explain<'_, F> {
     }
 }
 
-// What stands before a graph: the refusal of a refused manifest.
+// What comes before a graph: the refusal of a refused manifest.
 fn remark(alloc: Global, checked: &Reply) -> Result<Vec<u8>, AllocError>
     ensures { IfOk result (λ v. v.items ≡ remark_of checked.now.verdict checked.now.text.items) }
 {

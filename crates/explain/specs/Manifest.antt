@@ -54,11 +54,11 @@ nothing_above = record { shapes = []; bad_map = None; names = [] }
 abbrev pub has_map : Above → Bool
 has_map a = nat_lt 0 (length a.shapes) || is_some a.bad_map
 
--- a program of this name stands above
+-- a program above has this name
 abbrev pub has_name : Above → List ℕ → Bool
 has_name a name = list_any (λ n. bytes_eq n name) a.names
 
--- as many programs stand above as a manifest may have
+-- there are as many programs above as a manifest may have
 abbrev pub is_full : Above → Bool
 is_full a = nat_le MAX_PROGRAMS (length a.names)
 

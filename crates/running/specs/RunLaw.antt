@@ -112,7 +112,7 @@ pub data IsRefusedRun (g : Given) (script : List ℕ) : List ℕ → Type 0 wher
 
 -- ---- what is written
 
--- with `--signed` each line has the negative reply that it tells beside it
+-- with `--signed` a line that tells a negative reply ends with it
 abbrev pub with_signs : Bool → List ℕ → List ℕ
 with_signs is_signed text = if is_signed then signed_text text else text
 
@@ -142,7 +142,7 @@ handed_back done = option_and_then (λ p. (parted_of p).elsewhere) done.made
 
 -- ---- the laws
 
--- what was written and handed back, where the script says this
+-- what was written and handed back for this script
 abbrev pub IsDone : Bool → Destination → Given → List ℕ → List ℕ → Performed Parted → Type 0
 IsDone is_signed to g script text done =
     IsWritten (IsGoodText is_signed to g script) (IsRefusedText is_signed to g script) text done.status × IsHandedBack g script to done.status (handed_back done)
