@@ -2,3 +2,4 @@ pub mod SlotLines
 pub mod Uncolumned
 pub mod MapLines
 pub mod Checked
+pub mod Graphs

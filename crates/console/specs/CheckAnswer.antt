@@ -1,5 +1,5 @@
 -- What `check` and `explain` answer, as a function of the manifest and of the files that were read.
-use Rattle.std.specs.Prelude.{◌≡◌, ℕ, Bool, true, false, List, ◌++◌, Option, Some, None, IfSome, Result, Ok, Err}
+use Rattle.std.specs.Prelude.{◌≡◌, ℕ, Bool, true, false, List, [], ◌++◌, codes, Option, Some, None, IfSome, Result, Ok, Err}
 use Rattle.explain.specs.Manifest.{has_program, no_program, TellsOfManifest}
 use Rattle.engine.specs.declared.replies.Verdict.{Verdict}
 use Rattle.engine.specs.declared.replies.Verdict.TheVariants as verdicts
@@ -44,7 +44,15 @@ pub record IsExplanation (maps : Bool) (name : Option (List ℕ)) (read : Option
   pub text : a.text ≡ checked.text ++ more
   pub told : IsTold name read more
 
--- `explain --graph`: what is no text is not drawn, and `check` answers that; else its verdict is that of `check`, and the words of the drawing aren't defined
+-- what comes before a graph: a refusal, as a remark in the graph's language
+abbrev pub remark_of : Verdict → List ℕ → List ℕ
+remark_of verdicts.Refused text = codes "// " ++ text
+remark_of verdict text = []
+
+-- `explain --graph`: what is no text is not drawn, and `check` answers that. Else the verdict is that of `check`, and its refusal comes before what is
+-- drawn. The words of the drawing aren't defined
 abbrev pub IsGraph : Option TextsRead → Answer → Type 0
 IsGraph None a = a ≡ not_text
-IsGraph (Some t) a = a.verdict ≡ (check_answer (Some t)).verdict
+IsGraph (Some t) a =
+    let checked = check_answer (Some t) in
+    (a.verdict ≡ checked.verdict) × (drawn : List ℕ) × (a.text ≡ remark_of checked.verdict checked.text ++ drawn)

@@ -1,7 +1,7 @@
 // The commands of a manifest: `check`, and `explain` in words or as a graph.
 
 ghost use Rattle.std.specs.Prelude.{◌≡◌, option_map, IfOk};
-ghost use Rattle.console.specs.CheckAnswer.{IsChecked, IsExplanation, IsGraph, IsTold, check_answer};
+ghost use Rattle.console.specs.CheckAnswer.{IsChecked, IsExplanation, IsGraph, IsTold, check_answer, remark_of};
 ghost use Rattle.engine.specs.Reading.{texts_in};
 ghost use Rattle.engine.specs.Report.{answer_of};
 
@@ -143,6 +143,18 @@ impl<F: Folder> Command for Explain<'_, F> {
     }
 }
 
+// What comes before a graph: the refusal of a refused manifest.
+fn remark(alloc: Global, checked: &Reply) -> Result<Vec<u8>, AllocError>
+    ensures { IfOk result (λ v. v.items ≡ remark_of checked.now.verdict checked.now.text.items) }
+{
+    let mut text = Vec::new(alloc);
+    if let Verdict::Refused = checked.verdict {
+        text.extend_from_slice(b"// ")?;
+        text.extend_from_slice(&checked.text)?;
+    }
+    Ok(text)
+}
+
 impl Command for Draw<'_> {
     type Made = Reply;
 
@@ -155,11 +167,7 @@ impl Command for Draw<'_> {
         };
         let files = lent(alloc, &texts.files)?;
         let graph = graph_manifest(alloc, texts.manifest.as_str(), &files, self.name)?;
-        let mut text = Vec::new(alloc);
-        if let Verdict::Refused = checked.verdict {
-            text.extend_from_slice(b"// ")?;
-            text.extend_from_slice(&checked.text)?;
-        }
+        let mut text = remark(alloc, &checked)?;
         text.extend_from_slice(graph.as_str().as_bytes())?;
         let verdict = checked.verdict;
         Ok(Reply { text, verdict })

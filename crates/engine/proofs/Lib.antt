@@ -7,6 +7,7 @@ pub mod FoundTexts
 pub mod GatheredFiles
 pub mod Gatherings
 pub mod Reports
+pub mod Written
 pub mod Openings
 pub mod InTurn
 pub mod AfterStrangers

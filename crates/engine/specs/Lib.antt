@@ -13,6 +13,7 @@ pub mod Notes
 pub mod Report
 pub mod Parted
 pub mod Engine
+pub mod Written
 pub mod Transfer
 -- The steps between reading and writing.
 pub mod Unread

@@ -1,8 +1,9 @@
 -- The refusal of the loader stands in what is told of a manifest.
-use Rattle.std.proofs.Common.{◌≡◌, ℕ, ◌≤◌, Bool, true, false, cond, eqb, ltb, ◌||◌, List, [], ◌∷◌, ◌++◌, length, map, Option, Some, None, Result, Ok, Err, refl, sym, ap, subst, ◌∙◌, append_assoc, arith}
-use Rattle.std.specs.Prelude.{not, codes, is_some, bytes_eq, MatchResult}
+use Rattle.std.proofs.Common.{◌≡◌, ℕ, ◌≤◌, Bool, true, false, cond, eqb, leb, ltb, ◌||◌, List, [], ◌∷◌, ◌++◌, length, map, Option, Some, None, Result, Ok, Err, refl, sym, ap, subst, ◌∙◌, append_assoc, arith}
+use Rattle.std.specs.Prelude.{not, codes, is_some, bytes_eq, is_err, MatchOption, MatchResult}
 use Rattle.std.specs.List.{list_any}
-use Rattle.std.proofs.lemmas.Bool.{le-leb, ltb-false, ne_eqb}
+use Rattle.std.proofs.lemmas.Bool.{le-leb, lt-leb, ltb-false, ltb-true, ne_eqb}
+use Rattle.std.proofs.lemmas.Option.{same_Some}
 use Rattle.std.proofs.lemmas.List.{length-map, map-append}
 use Rattle.text.specs.Digits.{spaced_bytes}
 use Rattle.text.specs.Lines.{lines_of, next_line}
@@ -22,12 +23,13 @@ use Rattle.loader.specs.Grammar.{ProgramLine, Meaning, Comment, Map, Program, li
 use Rattle.loader.specs.CatalogueView.{Entry, CatalogueView, names_of}
 use Rattle.loader.specs.ProgramFiles.{◌>>=◌, Files, file_named, or_bad_line, or_bad_hex, or_decode, bytes_of_hex, instructions_of, unless_refused, checked_program, entry_for}
 use Rattle.loader.specs.Loading.{are_few, is_taken, with_map, with_entry, with_program, after_meaning, after_line, after_lines, either, loaded, loaded_within}
+use Rattle.explain.specs.declared.files.manifest.TheConstants.{MAX_PROGRAMS}
 use Rattle.loader.proofs.Export.{entry_from, after_map, after_program}
 use Rattle.explain.specs.Listing.{head_text, refusal_text, IsReason}
-use Rattle.explain.specs.Manifest.{Above, nothing_above, entry_named, has_map, is_misplaced, so_far, with_line, with_shapes, refused_by, line_fault, named_words, slot_fault, IsJudged, TellsOfRead, TellsOfFile, TellsWhereMap, TellsOfProgram, TellsOfLine, TellsOfLines, TellsOfAll}
+use Rattle.explain.specs.Manifest.{Above, nothing_above, has_map, has_name, is_full, is_misplaced, map_fault, with_line, with_shape, refused_by, line_fault, named_words, slot_fault, IsJudged, TellsOfRead, TellsOfFile, TellsWhereMap, TellsOfProgram, TellsOfLine, TellsOfLines, TellsOfAll}
 use Rattle.explain.specs.Told.{BeginsWith, BeginsIf}
-use Rattle.explain.specs.FirstFault.{TellsVerdict, TellsRefusal, HasRefusal}
-use Rattle.explain.proofs.Judged.{beyond}
+use Rattle.explain.specs.FirstFault.{HasRead, HasRefusal, RulesAreShared, TellsRefusal, TellsVerdict}
+use Rattle.explain.proofs.Judged.{full}
 use Rattle.explain.proofs.MapLines.{taken}
 
 -- ---- texts
@@ -81,24 +83,49 @@ err_is x y is = cc
 
 -- explain and the loader keep the same maps and names, and no map is bad
 record Alike (a : Above) (c : CatalogueView) : Type 0 where
-  shapes : c.shapes ≡ a.shapes
-  names : names_of c.programs ≡ a.names
+  read : HasRead c a
   good : a.bad_map ≡ None
 
-names_kept : (ns : List (List ℕ)) → names_of (map entry_named ns) ≡ ns
-names_kept [] = refl
-names_kept (n ∷ ns) = ap (λ xs. n ∷ xs) (names_kept ns)
+module _ (a : Above) (c : CatalogueView) (k : HasRead c a) where
+  same_count : length c.programs ≡ length a.names
+  same_count = sym (length-map c.programs (λ e. e.name)) ∙ ap length k.names
+
+  same_name : (name : List ℕ) → is_taken c.programs name ≡ has_name a name
+  same_name name = ap (λ ns. list_any (λ m. bytes_eq m name) ns) k.names
+
+  abbrev MapIs : Result CatalogueView LoadFault → Option LoadFault → Type 0
+  MapIs r o = MatchResult r (λ _. o ≡ None) (λ why. o ≡ Some why)
+
+  by_tests : (b f : Bool) (w : CatalogueView) → MapIs (cond b (Err BadLine) (cond f (Ok w) (Err TooMany))) (cond b (Some BadLine) (cond f None (Some TooMany)))
+  by_tests true f w = refl
+  by_tests false true w = refl
+  by_tests false false w = refl
+
+  -- the loader finds the same fault in a map
+  same_map : (s : Shape) → MapIs (with_map standard c s) (map_fault a s)
+  unfolding with_map
+  same_map s =
+      let after : CatalogueView = record c { shapes = c.shapes ++ s ∷ [] } in
+      subst (λ m. MapIs (with_map standard c s) (cond (ltb 0 m) (Some BadLine) (cond (are_few standard (a.shapes ++ s ∷ [])) None (Some TooMany)))) same_count
+      (subst (λ ss. MapIs (with_map standard c s) (cond (ltb 0 (length c.programs)) (Some BadLine) (cond (are_few standard (ss ++ s ∷ [])) None (Some TooMany)))) k.shapes
+      (by_tests (ltb 0 (length c.programs)) (are_few standard (c.shapes ++ s ∷ [])) after))
+
+  by_count : (n : ℕ) (w : CatalogueView) → is_err (cond {A = Result CatalogueView LoadFault} (ltb n MAX_PROGRAMS) (Ok w) (Err TooMany)) ≡ leb MAX_PROGRAMS n
+  by_count n w = by (ltb n MAX_PROGRAMS) refl
+    where
+      by : (b : Bool) → ltb n MAX_PROGRAMS ≡ b → is_err (cond {A = Result CatalogueView LoadFault} b (Ok w) (Err TooMany)) ≡ leb MAX_PROGRAMS n
+      by true few = sym (lt-leb _ _ (ltb-true _ _ few))
+      by false many = sym (le-leb _ _ (ltb-false _ _ many))
+
+  -- and takes one more program unless it is one too many
+  same_room : (entry : Entry) → is_err (with_entry c entry) ≡ is_full a
+  unfolding with_entry
+  same_room entry = by_count (length c.programs) (record c { programs = c.programs ++ entry ∷ [] }) ∙ ap (λ n. leb MAX_PROGRAMS n) same_count
+
+pub rules_are_shared : RulesAreShared
+rules_are_shared a c k = record { map = same_map a c k; name = same_name a c k; room = same_room a c k }
 
 module _ (a : Above) (c : CatalogueView) (k : Alike a c) where
-  same_names : names_of (so_far a).programs ≡ names_of c.programs
-  same_names = names_kept a.names ∙ sym k.names
-
-  same_count : length (so_far a).programs ≡ length c.programs
-  same_count = sym (length-map (so_far a).programs (λ e. e.name)) ∙ ap length same_names ∙ length-map c.programs (λ e. e.name)
-
-  same_taken : (name : List ℕ) → is_taken (so_far a).programs name ≡ is_taken c.programs name
-  same_taken name = ap (λ ns. list_any (λ m. bytes_eq m name) ns) same_names
-
   none_is : (ss : List Shape) → not (ltb 0 (length ss) || false) ≡ eqb (length ss) 0
   none_is [] = refl
   none_is (s ∷ ss) =
@@ -107,40 +134,33 @@ module _ (a : Above) (c : CatalogueView) (k : Alike a c) where
       rw (some, other) refl
 
   no_map_is : not (has_map a) ≡ eqb (length c.shapes) 0
-  no_map_is = ap (λ o. not (ltb 0 (length a.shapes) || is_some o)) k.good ∙ ap (λ ss. not (ltb 0 (length ss) || false)) (sym k.shapes) ∙ none_is c.shapes
+  no_map_is = ap (λ o. not (ltb 0 (length a.shapes) || is_some o)) k.good ∙ ap (λ ss. not (ltb 0 (length ss) || false)) (sym k.read.shapes) ∙ none_is c.shapes
 
   same_place : (name : List ℕ) → is_misplaced a name ≡ (eqb (length c.shapes) 0 || is_taken c.programs name)
-  same_place name = ap (λ b. b || is_taken (so_far a).programs name) no_map_is ∙ ap (λ b. eqb (length c.shapes) 0 || b) (same_taken name)
+  same_place name = ap (λ b. b || has_name a name) no_map_is ∙ ap (λ b. eqb (length c.shapes) 0 || b) (sym (same_name a c k.read name))
 
 -- ---- a map
 
-map_by : (b f : Bool) (x y : CatalogueView) (n : ℕ) (why : LoadFault) (text : List ℕ) → cond b (Err BadLine) (cond f (Ok x) (Err TooMany)) ≡ Err why
-    → MatchResult (cond b (Err BadLine) (cond f (Ok y) (Err TooMany))) (λ _. text ≡ []) (λ w. BeginsIf true (line_fault n w) text) → TellsRefusal n why text
-map_by true f x y n why text is told = subst (λ w. TellsRefusal n w text) (err_is _ _ is) (bad_line_told n text told)
-map_by false true x y n why text is told = absurd cc
-map_by false false x y n why text is told = subst (λ w. TellsRefusal n w text) (err_is _ _ is) (too_many_told n text told)
+-- what is told of a map that has a fault
+fault_told : (n : ℕ) (why : LoadFault) (text : List ℕ) (b f : Bool) → cond b (Some BadLine) (cond f None (Some TooMany)) ≡ Some why → BeginsIf true (line_fault n why) text → TellsRefusal n why text
+fault_told n why text true f is told = subst (λ w. BeginsIf true (line_fault n w) text → TellsRefusal n w text) (same_Some _ _ is) (bad_line_told n text) told
+fault_told n why text false true is told = absurd cc
+fault_told n why text false false is told = subst (λ w. BeginsIf true (line_fault n w) text → TellsRefusal n w text) (same_Some _ _ is) (too_many_told n text) told
 
 map_refused : (a : Above) (c : CatalogueView) (s : Shape) (n : ℕ) (why : LoadFault) (text : List ℕ) → Alike a c → with_map standard c s ≡ Err why
-    → MatchResult (with_map standard (so_far a) s) (λ _. text ≡ []) (λ w. BeginsIf true (line_fault n w) text) → TellsRefusal n why text
-unfolding with_map
+    → MatchOption (map_fault a s) (text ≡ []) (λ w. BeginsIf true (line_fault n w) text) → TellsRefusal n why text
 map_refused a c s n why text k is told =
-    map_by (ltb 0 (length c.programs)) (are_few standard (c.shapes ++ s ∷ [])) _ (record (so_far a) { shapes = a.shapes ++ s ∷ [] }) n why text is
-    (subst
-    (λ m. MatchResult (cond (ltb 0 m) (Err BadLine) (cond (are_few standard (c.shapes ++ s ∷ [])) (Ok (record (so_far a) { shapes = a.shapes ++ s ∷ [] })) (Err TooMany))) (λ _. text ≡ []) (λ w. BeginsIf true (line_fault n w) text))
-    (same_count a c k)
-    (subst
-    (λ ss. MatchResult (cond (ltb 0 (length (so_far a).programs)) (Err BadLine) (cond (are_few standard (ss ++ s ∷ [])) (Ok (record (so_far a) { shapes = a.shapes ++ s ∷ [] })) (Err TooMany))) (λ _. text ≡ []) (λ w. BeginsIf true (line_fault n w) text))
-    (sym k.shapes) told))
+    let fault : map_fault a s ≡ Some why = subst (λ r. MatchResult r (λ _. map_fault a s ≡ None) (λ w. map_fault a s ≡ Some w)) is (same_map a c k.read s) in
+    fault_told n why text (ltb 0 (length a.names)) (are_few standard (a.shapes ++ s ∷ [])) fault (subst (λ o. MatchOption o (text ≡ []) (λ w. BeginsIf true (line_fault n w) text)) fault told)
 
-map_kept : (a : Above) (c w : CatalogueView) (s : Shape) (n : ℕ) → Alike a c → with_map standard c s ≡ Ok w → Alike (with_shapes n a (with_map standard (so_far a) s)) w
+map_kept : (a : Above) (c w : CatalogueView) (s : Shape) (n : ℕ) → Alike a c → with_map standard c s ≡ Ok w → Alike (with_shape n a s (map_fault a s)) w
 map_kept a c w s n k is =
     let after = after_map standard c s w is in
-    let none : length a.names ≡ 0 = ap length (sym k.names) ∙ length-map c.programs (λ e. e.name) ∙ ap length after.0 in
-    let few : are_few standard (a.shapes ++ s ∷ []) ≡ true = ap (λ ss. are_few standard (ss ++ s ∷ [])) (sym k.shapes) ∙ after.1 in
-    subst (λ r. Alike (with_shapes n a r) w) (sym (taken a s none few))
+    let none : length a.names ≡ 0 = sym (same_count a c k.read) ∙ ap length after.0 in
+    let few : are_few standard (a.shapes ++ s ∷ []) ≡ true = ap (λ ss. are_few standard (ss ++ s ∷ [])) (sym k.read.shapes) ∙ after.1 in
+    subst (λ r. Alike (with_shape n a s r) w) (sym (taken a s none few))
     (record {
-      shapes = ap (λ x. x.shapes) (sym after.2) ∙ ap (λ ss. ss ++ s ∷ []) k.shapes;
-      names = ap (λ x. names_of x.programs) (sym after.2) ∙ k.names;
+      read = record { shapes = ap (λ x. x.shapes) (sym after.2) ∙ ap (λ ss. ss ++ s ∷ []) k.read.shapes; names = ap (λ x. names_of x.programs) (sym after.2) ∙ k.read.names };
       good = k.good;
     })
 
@@ -150,13 +170,10 @@ program_kept : (files : Files) (a : Above) (c w : CatalogueView) (p : ProgramLin
 program_kept files a c w p k is =
     let after = after_program files c p w is in
     let entry = entry_from files c.shapes p after.entry after.read in
-    record {
-      shapes = ap (λ x. x.shapes) (sym after.same) ∙ k.shapes;
-      names =
-          ap (λ x. names_of x.programs) (sym after.same) ∙ map-append (λ e. e.name) c.programs (after.entry ∷ []) ∙ ap (λ ns. ns ++ after.entry.name ∷ []) k.names
-          ∙ ap (λ m. a.names ++ m ∷ []) entry.name;
-      good = k.good;
-    }
+    let names =
+    ap (λ x. names_of x.programs) (sym after.same) ∙ map-append (λ e. e.name) c.programs (after.entry ∷ []) ∙ ap (λ ns. ns ++ after.entry.name ∷ []) k.read.names
+    ∙ ap (λ m. a.names ++ m ∷ []) entry.name in
+    record { read = record { shapes = ap (λ x. x.shapes) (sym after.same) ∙ k.read.shapes; names = names }; good = k.good }
 
 module _ (n : ℕ) (a : Above) (p : ProgramLine) (own : List ℕ) (good : a.bad_map ≡ None) (f : Checked → Entry) (w : LoadFault) where
   by_verdict : (v : Option Refused) (ch : Checked) (program : List Form) → verdict program (signature a.shapes p.arg_len p.mode) ≡ v → (unless_refused ch v >>= λ x. Ok (f x)) ≡ Err w
@@ -206,9 +223,9 @@ module _ (files : Files) (n : ℕ) (a : Above) (c : CatalogueView) (p : ProgramL
   by_number : (b : Bool) (x : CatalogueView) → ltb (length c.programs) 256 ≡ b → cond b (Ok x) (Err TooMany) ≡ Err why → HasRefusal n why text
   by_number true x was is = absurd cc
   by_number false x was is =
-      let names : length c.programs ≡ length a.names = sym (length-map c.programs (λ e. e.name)) ∙ ap length k.names in
+      let names = same_count a c k.read in
       let many : 256 ≤ length a.names = omega (arith, ltb-false _ _ was, names) in
-      let begins : BeginsWith (line_fault n TooMany) told.beyond = subst (λ b. BeginsIf b (line_fault n TooMany) told.beyond) (beyond a many) told.number in
+      let begins : BeginsWith (line_fault n TooMany) told.beyond = subst (λ b. BeginsIf b (line_fault n TooMany) told.beyond) (full a many) told.number in
       subst (λ w. HasRefusal n w text) (err_is _ _ is)
       (behind n TooMany told.misplaced (told.beyond ++ told.own) text told.whole
       (at_once n TooMany _ (begins_in (refused_by n 5) told.beyond told.own _ refl (begins_sooner (refused_by n 5) (codes "\n") told.beyond begins))))
@@ -217,7 +234,7 @@ module _ (files : Files) (n : ℕ) (a : Above) (c : CatalogueView) (p : ProgramL
   unfolding with_entry
   by_entry (Err w) was has is =
       let own : TellsOfFile files n a p told.own = subst (λ b. TellsWhereMap b files n a p told.own) has told.file in
-      let here = entry_refused files n a p told.own w k.good (subst (λ ss. entry_for files ss p ≡ Err w) k.shapes was) own in
+      let here = entry_refused files n a p told.own w k.good (subst (λ ss. entry_for files ss p ≡ Err w) k.read.shapes was) own in
       subst (λ x. HasRefusal n x text) (err_is w why is) (behind n w told.misplaced (told.beyond ++ told.own) text told.whole (behind n w told.beyond told.own _ refl (at_once n w told.own here)))
   by_entry (Ok entry) was has is = by_number _ _ refl is
 
@@ -274,4 +291,4 @@ walk files n a c (l ∷ ls) text e k is told =
 
 pub refusal_is_told : (files : Files) (manifest text : List ℕ) (e : LoadRefusal) → loaded manifest files ≡ Err e → TellsOfAll files None manifest text → HasRefusal e.line e.why text
 unfolding loaded_within
-refusal_is_told files manifest text e is told = walk files 1 nothing_above _ (lines_of manifest) text e (record { shapes = refl; names = refl; good = refl }) is told
+refusal_is_told files manifest text e is told = walk files 1 nothing_above _ (lines_of manifest) text e (record { read = record { shapes = refl; names = refl }; good = refl }) is told

@@ -2,8 +2,8 @@
 use Rattle.std.proofs.Common.{◌≡◌, ℕ, ◌<◌, Bool, true, false, ◌||◌, List, [], ◌∷◌, ◌++◌, length, Option, Some, None, Result, Ok, Err, refl, sym, ap, subst, ◌∙◌, append_assoc, arith}
 use Rattle.std.specs.Prelude.{not, nat_lt, ◌≤◌, codes, is_some}
 use Rattle.std.specs.List.{concat}
-use Rattle.std.proofs.lemmas.Bool.{ltb-true, lt-ltb, le-ltb}
-use Rattle.std.proofs.lemmas.List.{append-nil, length-map}
+use Rattle.std.proofs.lemmas.Bool.{ltb-true, le-leb, lt-leb}
+use Rattle.std.proofs.lemmas.List.{append-nil}
 use Rattle.text.specs.Digits.{spaced_bytes}
 use Rattle.insn.specs.declared.instruction.Form.{Form}
 use Rattle.insn.specs.declared.decoding.DecodeRefusal.{DecodeRefusal}
@@ -14,11 +14,10 @@ use Rattle.loader.specs.declared.refusals.LoadFault.{LoadFault}
 use Rattle.loader.specs.declared.refusals.LoadFault.TheVariants.{BadLine, BadHex, Decode, TooMany}
 use Rattle.loader.specs.Grammar.{ProgramLine}
 use Rattle.loader.specs.ProgramFiles.{Files, file_named, bytes_of_hex, instructions_of}
-use Rattle.loader.specs.Loading.{is_taken, with_entry}
 use Rattle.loader.proofs.Export.{shapes_are_ok}
 use Rattle.explain.specs.Explanation.{IsWithin}
 use Rattle.explain.specs.Listing.{TellsOf}
-use Rattle.explain.specs.Manifest.{Above, entry_named, has_map, is_beyond, so_far, line_fault, named_words, not_judged, program_in, program_of_text, refused_by, slot_fault, IsJudged, TellsIfAsked, TellsOfFile, TellsOfRead, TellsOfProgram, TellsWhereMap}
+use Rattle.explain.specs.Manifest.{Above, has_map, has_name, is_full, line_fault, named_words, not_judged, program_in, program_of_text, refused_by, slot_fault, IsJudged, TellsIfAsked, TellsOfFile, TellsOfRead, TellsOfProgram, TellsWhereMap}
 use Rattle.explain.specs.Told.{BeginsWith, BeginsIf, Adds}
 
 -- ---- what a file spells
@@ -86,8 +85,8 @@ module _ (n : ℕ) (a : Above) (p : ProgramLine) (old new : List ℕ) where
   if_asked files asked is told = subst (λ b. Adds (TellsIfAsked b files n a p) old new) (sym is) told
 
   -- the program's place, number and file
-  pub all_told : (files : Files) (now after : List ℕ) → Adds (BeginsIf (not (has_map a) || is_taken (so_far a).programs p.name) (line_fault n BadLine)) old now
-      → Adds (BeginsIf (is_beyond a) (line_fault n TooMany)) now after → Adds (TellsWhereMap (has_map a) files n a p) after new → Adds (TellsOfProgram files n a p) old new
+  pub all_told : (files : Files) (now after : List ℕ) → Adds (BeginsIf (not (has_map a) || has_name a p.name) (line_fault n BadLine)) old now
+      → Adds (BeginsIf (is_full a) (line_fault n TooMany)) now after → Adds (TellsWhereMap (has_map a) files n a p) after new → Adds (TellsOfProgram files n a p) old new
   all_told files now after x y z = (
     x.0 ++ (y.0 ++ z.0),
     z.1 ∙ ap (λ t. t ++ z.0) (y.1 ∙ ap (λ t. t ++ y.0) x.1) ∙ append_assoc (old ++ x.0) y.0 z.0 ∙ append_assoc old x.0 (y.0 ++ z.0),
@@ -96,16 +95,11 @@ module _ (n : ℕ) (a : Above) (p : ProgramLine) (old new : List ℕ) where
 
 -- ---- how many programs stand above
 
-counted : (a : Above) → length (so_far a).programs ≡ length a.names
-counted a = length-map a.names entry_named
+pub full : (a : Above) → 256 ≤ length a.names → is_full a ≡ true
+full a many = le-leb _ _ many
 
-pub beyond : (a : Above) → 256 ≤ length a.names → is_beyond a ≡ true
-unfolding with_entry
-beyond a many = rw (counted a, le-ltb _ _ many) refl
-
-pub not_beyond : (a : Above) → length a.names < 256 → is_beyond a ≡ false
-unfolding with_entry
-not_beyond a few = rw (counted a, lt-ltb _ _ few) refl
+pub not_full : (a : Above) → length a.names < 256 → is_full a ≡ false
+not_full a few = lt-leb _ _ few
 
 -- ---- that it can be judged
 

@@ -1,6 +1,6 @@
 -- What a line does to what stands above the next.
-use Rattle.std.proofs.Common.{◌≡◌, ℕ, ◌<◌, Bool, true, false, leb, ◌&&◌, List, [], ◌∷◌, ◌++◌, length, map, Option, Some, None, Result, Ok, Err, refl, sym, ap, subst, ◌∙◌, arith, sum_by}
-use Rattle.std.specs.Prelude.{nat_lt, slice_get, is_none, codes, MatchResult, if◌then◌else◌, nat_eq, option_map}
+use Rattle.std.proofs.Common.{◌≡◌, ℕ, ◌<◌, Bool, true, false, leb, ◌&&◌, List, [], ◌∷◌, ◌++◌, length, Option, Some, None, refl, sym, ap, subst, ◌∙◌, arith, sum_by}
+use Rattle.std.specs.Prelude.{slice_get, is_none, codes, MatchOption, if◌then◌else◌, nat_eq, option_map}
 use Rattle.std.specs.Option.{option_or}
 use Rattle.std.specs.List.{starts_with}
 use Rattle.std.proofs.lemmas.List.Elements.{All-push}
@@ -12,34 +12,24 @@ use Rattle.maps.specs.Shapes.{room_of, IsShapeOk, AreShapesOk, standard}
 use Rattle.loader.specs.declared.refusals.LoadFault.{LoadFault}
 use Rattle.loader.specs.declared.refusals.LoadFault.TheVariants.{BadLine, TooMany}
 use Rattle.loader.specs.Grammar.{Map}
-use Rattle.loader.specs.CatalogueView.{CatalogueView}
-use Rattle.loader.specs.Loading.{are_few, with_map}
+use Rattle.loader.specs.Loading.{are_few}
 use Rattle.loader.specs.Refusal.{fault_number}
 use Rattle.loader.proofs.Export.{shapes_are_within}
 use Rattle.explain.specs.declared.files.manifest.Explanation.{Explanation}
 use Rattle.explain.specs.Explanation.{above_of, name_of, IsWithin, TakesLine, TakesMap}
-use Rattle.explain.specs.Manifest.{Above, entry_named, so_far, with_bad_map, with_shapes, refused_by, line_fault}
+use Rattle.explain.specs.Manifest.{Above, map_fault, with_bad_map, with_shape, refused_by, line_fault}
 use Rattle.explain.specs.Told.{BeginsIf, Adds}
 use Rattle.explain.proofs.Texts.{adds_nothing}
 
--- ---- what the loader says of a map
-
-some_name : (ns : List (List ℕ)) → 0 < length ns → nat_lt 0 (length (map entry_named ns)) ≡ true
-some_name [] some = absurd (omega (arith, some))
-some_name (n ∷ ns) some = le-leb 1 _ (omega arith)
-
-no_name : (ns : List (List ℕ)) → length ns ≡ 0 → nat_lt 0 (length (map entry_named ns)) ≡ false
-no_name [] none = refl
-no_name (n ∷ ns) none = absurd (omega (arith, none))
+-- ---- what is wrong with a map
 
 -- where there is no first, there is none
 pub first_none : {X : Type 0} (xs : List X) → slice_get xs 0 ≡ None → length xs ≡ 0
 first_none [] none = refl
 first_none (x ∷ xs) none = absurd cc
 
-pub behind_program : (a : Above) (s : Shape) → 0 < length a.names → with_map standard (so_far a) s ≡ Err BadLine
-unfolding with_map
-behind_program a s some = rw (some_name a.names some) refl
+pub behind_program : (a : Above) (s : Shape) → 0 < length a.names → map_fault a s ≡ Some BadLine
+behind_program a s some = rw (le-leb 1 _ some) refl
 
 few_when : (b c : Bool) → b ≡ true → c ≡ true → (b && c) ≡ true
 few_when true c p q = q
@@ -62,33 +52,31 @@ pub few_of : (ss : List Shape) → AreShapesOk ss → are_few standard ss ≡ tr
 few_of ss ok =
     few_when (leb (length ss) MAX_MAPS) (leb (sum_by room_of ss) MAX_TOTAL_BYTES) (le-leb (length ss) MAX_MAPS ok.many.1) (le-leb (sum_by room_of ss) MAX_TOTAL_BYTES ok.room)
 
-pub taken : (a : Above) (s : Shape) → length a.names ≡ 0 → are_few standard (a.shapes ++ s ∷ []) ≡ true → with_map standard (so_far a) s ≡ Ok (record (so_far a) { shapes = a.shapes ++ s ∷ [] })
-unfolding with_map
-taken a s none few = rw (no_name a.names none, few) refl
+pub taken : (a : Above) (s : Shape) → length a.names ≡ 0 → are_few standard (a.shapes ++ s ∷ []) ≡ true → map_fault a s ≡ None
+taken a s none few = rw (none, few) refl
 
 pub takes_map : (a : Above) (s : Shape) → length a.names ≡ 0 → AreShapesOk (a.shapes ++ s ∷ []) → TakesMap a s (record a { shapes = a.shapes ++ s ∷ [] }) None
 takes_map a s none ok =
     let after : Above = record a { shapes = a.shapes ++ s ∷ [] } in
     record {
       told =
-          subst (λ r. MatchResult r (λ c. (no_rule ≡ None) × (after ≡ record a { shapes = c.shapes })) (λ why. (None ≡ Some (fault_number why)) × (after ≡ a)))
+          subst (λ r. MatchOption r ((no_rule ≡ None) × (after ≡ record a { shapes = a.shapes ++ s ∷ [] })) (λ why. (None ≡ Some (fault_number why)) × (after ≡ a)))
           (sym (taken a s none (few_of _ ok))) (refl, refl);
       within = record { each = ok.each; few = few_of _ ok };
     }
 
-pub too_many : (a : Above) (s : Shape) → length a.names ≡ 0 → IsWithin a → IsShapeOk s → (AreShapesOk (a.shapes ++ s ∷ []) → ⊥) → with_map standard (so_far a) s ≡ Err TooMany
-unfolding with_map
+pub too_many : (a : Above) (s : Shape) → length a.names ≡ 0 → IsWithin a → IsShapeOk s → (AreShapesOk (a.shapes ++ s ∷ []) → ⊥) → map_fault a s ≡ Some TooMany
 too_many a s none within ok bad =
     let some : 0 < length (a.shapes ++ s ∷ []) = omega (arith, length_push a.shapes s) in
     let off : are_few standard (a.shapes ++ s ∷ []) ≡ false = by_bool _ (λ few. bad (shapes_are_within standard _ some (All-push IsShapeOk a.shapes s within.each ok) few)) in
-    rw (no_name a.names none, off) refl
+    rw (none, off) refl
 
-pub refuses_map : (a : Above) (s : Shape) (why : LoadFault) → IsWithin a → with_map standard (so_far a) s ≡ Err why → TakesMap a s a (Some (fault_number why))
+pub refuses_map : (a : Above) (s : Shape) (why : LoadFault) → IsWithin a → map_fault a s ≡ Some why → TakesMap a s a (Some (fault_number why))
 refuses_map a s why within is =
     record {
       told =
           subst
-          (λ r. MatchResult r (λ c. (Some (fault_number why) ≡ None) × (a ≡ record a { shapes = c.shapes })) (λ e. (Some (fault_number why) ≡ Some (fault_number e)) × (a ≡ a)))
+          (λ r. MatchOption r ((Some (fault_number why) ≡ None) × (a ≡ record a { shapes = a.shapes ++ s ∷ [] })) (λ e. (Some (fault_number why) ≡ Some (fault_number e)) × (a ≡ a)))
           (sym is) (refl, refl);
       within = within;
     }
@@ -107,24 +95,24 @@ bad_line e f line old new within is told =
       name = ap (λ g. g.name) is;
     }
 
-map_good : (r : Result CatalogueView LoadFault) (all : Bool) (n : ℕ) (a b : Above)
-    → MatchResult r (λ c. (no_rule ≡ None) × (b ≡ record a { shapes = c.shapes })) (λ why. (None ≡ Some (fault_number why)) × (b ≡ a))
-    → MatchResult r (λ _. no_text ≡ []) (λ why. BeginsIf all (line_fault n why) []) × (b ≡ with_shapes n a r)
-map_good (Ok c) all n a b h = (refl, h.1)
-map_good (Err why) all n a b h = absurd cc
+map_good : (r : Option LoadFault) (all : Bool) (n : ℕ) (s : Shape) (a b : Above)
+    → MatchOption r ((no_rule ≡ None) × (b ≡ record a { shapes = a.shapes ++ s ∷ [] })) (λ why. (None ≡ Some (fault_number why)) × (b ≡ a))
+    → MatchOption r (no_text ≡ []) (λ why. BeginsIf all (line_fault n why) []) × (b ≡ with_shape n a s r)
+map_good None all n s a b h = (refl, h.1)
+map_good (Some why) all n s a b h = absurd cc
 
-map_bad : (r : Result CatalogueView LoadFault) (all : Bool) (n k : ℕ) (a b : Above) (text : List ℕ)
-    → MatchResult r (λ c. (Some k ≡ None) × (b ≡ record a { shapes = c.shapes })) (λ why. (Some k ≡ Some (fault_number why)) × (b ≡ a))
+map_bad : (r : Option LoadFault) (all : Bool) (n k : ℕ) (s : Shape) (a b : Above) (text : List ℕ)
+    → MatchOption r ((Some k ≡ None) × (b ≡ record a { shapes = a.shapes ++ s ∷ [] })) (λ why. (Some k ≡ Some (fault_number why)) × (b ≡ a))
     → BeginsIf all (refused_by n k ++ codes "\n") text
-    → MatchResult r (λ _. text ≡ []) (λ why. BeginsIf all (line_fault n why) text) × (with_bad_map true n b ≡ with_shapes n a r)
-map_bad (Ok c) all n k a b text h told = absurd cc
-map_bad (Err why) all n k a b text h told =
+    → MatchOption r (text ≡ []) (λ why. BeginsIf all (line_fault n why) text) × (with_bad_map true n b ≡ with_shape n a s r)
+map_bad None all n k s a b text h told = absurd cc
+map_bad (Some why) all n k s a b text h told =
     let same : k ≡ fault_number why = cc in
     (subst (λ m. BeginsIf all (refused_by n m ++ codes "\n") text) same told, ap (λ x. with_bad_map true n x) h.1)
 
 pub map_taken : (e f : Explanation) (s : Shape) (line old : List ℕ) → TakesMap (above_of e) s (above_of f) None → f ≡ record e { shapes = f.shapes } → TakesLine e.line line (Some (Map s)) e f old old
 map_taken e f s line old taken is =
-    let both = map_good (with_map standard (so_far (above_of e)) s) (is_none (name_of e)) e.line (above_of e) (above_of f) taken.told in
+    let both = map_good (map_fault (above_of e) s) (is_none (name_of e)) e.line s (above_of e) (above_of f) taken.told in
     record { told = adds_nothing _ old both.0; above = both.1; within = taken.within; files = ap (λ g. g.files) is; name = ap (λ g. g.name) is }
 
 pub map_refused : (e f g : Explanation) (s : Shape) (k : ℕ) (line old new : List ℕ) → TakesMap (above_of e) s (above_of f) (Some k) → f ≡ record e { shapes = f.shapes }
@@ -135,7 +123,7 @@ map_refused e f g s k line old new taken is noted told =
     let begins : BeginsIf (is_none (name_of e)) (refused_by e.line k ++ codes "\n") told.0 =
     subst (λ n. BeginsIf (is_none (name_of e)) (refused_by n k ++ codes "\n") told.0) number
     (subst (λ o. BeginsIf (is_none o) (refused_by g.line k ++ codes "\n") told.0) (ap (λ o. option_map (λ x. x.now) o) name) told.2) in
-    let both = map_bad (with_map standard (so_far (above_of e)) s) (is_none (name_of e)) e.line k (above_of e) (above_of f) told.0 taken.told begins in
+    let both = map_bad (map_fault (above_of e) s) (is_none (name_of e)) e.line k s (above_of e) (above_of f) told.0 taken.told begins in
     let bad : above_of g ≡ with_bad_map true e.line (above_of f) = ap above_of noted ∙ ap (λ n. with_bad_map true n (above_of f)) (ap (λ x. x.line) is) in
     record {
       told = (told.0, told.1, both.0);

@@ -1,5 +1,5 @@
 -- What is known of the lines above. Clauses of private functions alone cite this.
-use Rattle.std.specs.Prelude.{◌≡◌, ℕ, true, List, ◌++◌, map, codes, String, Result, is_none, Option, Some, None, option_map, MatchResult}
+use Rattle.std.specs.Prelude.{◌≡◌, ℕ, true, List, [], ◌∷◌, ◌++◌, map, codes, String, Result, is_none, Option, Some, None, option_map, MatchOption}
 use Rattle.std.specs.List.{All}
 use Rattle.std.specs.String.{string_bytes}
 use Rattle.insn.specs.declared.instruction.Form.{Form}
@@ -10,10 +10,10 @@ use Rattle.loader.specs.declared.grammar.ProgramLine.{ProgramLine as TheLine}
 use Rattle.loader.specs.Grammar.{Meaning, Program}
 use Rattle.loader.specs.LineShown.{program_of}
 use Rattle.loader.specs.ProgramFiles.{files_of}
-use Rattle.loader.specs.Loading.{are_few, with_map}
+use Rattle.loader.specs.Loading.{are_few}
 use Rattle.loader.specs.Refusal.{fault_number}
 use Rattle.explain.specs.declared.files.manifest.Explanation.{Explanation}
-use Rattle.explain.specs.Manifest.{Above, so_far, has_map, is_asked, refused_by, with_line, IsJudged, TellsIfAsked, TellsOfLine, TellsOfRead, TellsWhereMap}
+use Rattle.explain.specs.Manifest.{Above, has_map, map_fault, is_asked, refused_by, with_line, IsJudged, TellsIfAsked, TellsOfLine, TellsOfRead, TellsWhereMap}
 use Rattle.explain.specs.Told.{Adds, BeginsIf}
 
 abbrev pub above_of : Explanation → Above
@@ -57,7 +57,7 @@ pub record IsWithin (a : Above) : Type 0 where
 
 -- a map is taken, or the rule is told that keeps it out
 pub record TakesMap (a : Above) (shape : Shape) (b : Above) (rule : Option ℕ) : Type 0 where
-  pub told : MatchResult (with_map standard (so_far a) shape) (λ c. (rule ≡ None) × (b ≡ record a { shapes = c.shapes })) (λ why. (rule ≡ Some (fault_number why)) × (b ≡ a))
+  pub told : MatchOption (map_fault a shape) ((rule ≡ None) × (b ≡ record a { shapes = a.shapes ++ shape ∷ [] })) (λ why. (rule ≡ Some (fault_number why)) × (b ≡ a))
   pub within : IsWithin b
 
 -- one line more: what is told of it stands behind what stood there, and it stands above the next

@@ -1,5 +1,5 @@
 -- What is told of a manifest, line by line.
-use Rattle.std.specs.Prelude.{◌≡◌, ℕ, Bool, true, false, not, ◌&&◌, ◌||◌, nat_eq, nat_lt, List, [], ◌∷◌, ◌++◌, length, map, codes, decimal, Option, Some, None, is_none, is_some, is_err, Result, Ok, Err, MatchResult, if◌then◌else◌, bytes_eq}
+use Rattle.std.specs.Prelude.{◌≡◌, ℕ, Bool, true, false, not, ◌&&◌, ◌||◌, nat_eq, nat_le, nat_lt, List, [], ◌∷◌, ◌++◌, length, codes, decimal, Option, Some, None, is_none, is_some, Result, MatchOption, MatchResult, if◌then◌else◌, bytes_eq}
 use Rattle.std.specs.Option.{option_or}
 use Rattle.std.specs.List.{concat, list_any, starts_with}
 use Rattle.text.specs.Lines.{lines_of, next_line}
@@ -7,15 +7,13 @@ use Rattle.insn.specs.declared.instruction.Form.{Form}
 use Rattle.insn.specs.declared.decoding.DecodeRefusal.{DecodeRefusal}
 use Rattle.insn.specs.Refusal.{fault_number as slot_fault_number}
 use Rattle.maps.specs.declared.shapes.Shape.{Shape}
-use Rattle.verifier.specs.declared.refusal.Mode.TheVariants.{Read}
-use Rattle.verifier.specs.Accepted.{checked}
 use Rattle.maps.specs.Shapes.{standard}
 use Rattle.loader.specs.declared.refusals.LoadFault.{LoadFault}
 use Rattle.loader.specs.declared.refusals.LoadFault.TheVariants.{BadLine, BadHex, Decode, TooMany}
 use Rattle.loader.specs.Grammar.{ProgramLine, Meaning, Comment, Map, Program, line_meaning}
-use Rattle.loader.specs.CatalogueView.{Entry, CatalogueView}
+use Rattle.explain.specs.declared.files.manifest.TheConstants.{MAX_PROGRAMS}
 use Rattle.loader.specs.ProgramFiles.{◌>>=◌, Files, file_named, or_bad_line, bytes_of_hex, instructions_of}
-use Rattle.loader.specs.Loading.{is_taken, with_entry, with_map}
+use Rattle.loader.specs.Loading.{are_few}
 use Rattle.loader.specs.Refusal.{fault_number}
 use Rattle.explain.specs.Listing.{TellsOf}
 use Rattle.explain.specs.Told.{BeginsWith, BeginsIf}
@@ -56,28 +54,35 @@ nothing_above = record { shapes = []; bad_map = None; names = [] }
 abbrev pub has_map : Above → Bool
 has_map a = nat_lt 0 (length a.shapes) || is_some a.bad_map
 
--- a program of this name, of which the loader asks nothing else while it reads the lines below
-abbrev pub entry_named : List ℕ → Entry
-entry_named name = record { name = name; checked = checked [] [] 0 Read }
+-- a program above has this name
+abbrev pub has_name : Above → List ℕ → Bool
+has_name a name = list_any (λ n. bytes_eq n name) a.names
 
--- what the loader goes by: the maps, and programs of these names
-abbrev pub so_far : Above → CatalogueView
-so_far a = record { shapes = a.shapes; programs = map entry_named a.names; places = 0; opening = None }
+-- there are as many programs above as a manifest may have
+abbrev pub is_full : Above → Bool
+is_full a = nat_le MAX_PROGRAMS (length a.names)
+
+-- what is wrong with one more map: C1 after a program, C5 if the maps are then too many or too large
+abbrev pub map_fault : Above → Shape → Option LoadFault
+map_fault a shape =
+    if nat_lt 0 (length a.names) then Some BadLine
+    else if are_few standard (a.shapes ++ shape ∷ []) then None
+    else Some TooMany
 
 -- line n is that of a bad map, if it is that of a map
 abbrev pub with_bad_map : Bool → ℕ → Above → Above
 with_bad_map is_map n a = record a { bad_map = option_or a.bad_map (if is_map then Some n else None) }
 
--- the loader takes the map of line n, or it is bad
-abbrev pub with_shapes : ℕ → Above → Result CatalogueView LoadFault → Above
-with_shapes n a (Ok c) = record a { shapes = c.shapes }
-with_shapes n a (Err why) = with_bad_map true n a
+-- the map of line n is one of the store's, or it is bad
+abbrev pub with_shape : ℕ → Above → Shape → Option LoadFault → Above
+with_shape n a shape None = record a { shapes = a.shapes ++ shape ∷ [] }
+with_shape n a shape (Some why) = with_bad_map true n a
 
 -- line n stands above too: a bad line that begins with `map` is that of a map, and the name of a refused program is taken
 abbrev pub with_line : ℕ → List ℕ → Option Meaning → Above → Above
 with_line n line None a = with_bad_map (starts_with nat_eq line (codes "map")) n a
 with_line n line (Some Comment) a = a
-with_line n line (Some (Map shape)) a = with_shapes n a (with_map standard (so_far a) shape)
+with_line n line (Some (Map shape)) a = with_shape n a shape (map_fault a shape)
 with_line n line (Some (Program p)) a = record a { names = a.names ++ p.name ∷ [] }
 
 -- ---- how what is told of a refused line begins
@@ -141,11 +146,7 @@ TellsWhereMap false files n a p text = text ≡ []
 
 -- a program stands before any map, or its name is taken
 abbrev pub is_misplaced : Above → List ℕ → Bool
-is_misplaced a name = not (has_map a) || is_taken (so_far a).programs name
-
--- as many programs stand above as the loader takes: with 256 it takes no other
-abbrev pub is_beyond : Above → Bool
-is_beyond a = is_err (with_entry (so_far a) (entry_named []))
+is_misplaced a name = not (has_map a) || has_name a name
 
 -- C1 before any map or where the name is taken, C5 where it is the 257th program, and what is told of its file
 pub record TellsOfProgram (files : Files) (n : ℕ) (a : Above) (p : ProgramLine) (text : List ℕ) : Type 0 where
@@ -153,7 +154,7 @@ pub record TellsOfProgram (files : Files) (n : ℕ) (a : Above) (p : ProgramLine
   pub beyond : List ℕ
   pub own : List ℕ
   pub place : BeginsIf (is_misplaced a p.name) (line_fault n BadLine) misplaced
-  pub number : BeginsIf (is_beyond a) (line_fault n TooMany) beyond
+  pub number : BeginsIf (is_full a) (line_fault n TooMany) beyond
   pub file : TellsWhereMap (has_map a) files n a p own
   pub whole : text ≡ misplaced ++ (beyond ++ own)
 
@@ -164,12 +165,12 @@ TellsIfAsked false files n a p text = text ≡ []
 
 -- ---- what is told of lines
 
--- of a line that is bad by itself its fault; of a map the loader's, where it takes it not; nothing of another line that is good or isn't asked for
+-- of a line that is bad by itself its fault; of a map its own, if it has one; nothing of another line that is good or isn't asked for
 abbrev pub TellsOfLine : Files → Option (List ℕ) → ℕ → Above → Option Meaning → List ℕ → Type 0
 TellsOfLine files name n a None text = BeginsIf (is_none name) (line_fault n BadLine) text
 TellsOfLine files name n a (Some Comment) text = text ≡ []
 TellsOfLine files name n a (Some (Map shape)) text =
-    MatchResult (with_map standard (so_far a) shape) (λ _. text ≡ []) (λ why. BeginsIf (is_none name) (line_fault n why) text)
+    MatchOption (map_fault a shape) (text ≡ []) (λ why. BeginsIf (is_none name) (line_fault n why) text)
 TellsOfLine files name n a (Some (Program p)) text = TellsIfAsked (is_asked name (Some (Program p))) files n a p text
 
 -- of one line after another, from line n on; C1 behind the last where there is no map and no name is given

@@ -10,5 +10,5 @@ mod refusals;
 mod sentences;
 
 pub use files::{explain_assembly, explain_manifest, explain_stranger, graph_manifest};
-pub use laws::refusal_is_told;
+pub use laws::{refusal_is_told, rules_are_shared};
 pub use programs::{Subject, explain_program};

@@ -1,5 +1,10 @@
 // What the commands share: how a command answers, and where its texts go.
 
+ghost use Rattle.std.specs.Prelude.{◌≡◌, codes, option_and_then, option_map, bytes_eq, if◌then◌else◌};
+ghost use Rattle.std.specs.Option.{option_map_or};
+ghost use Rattle.engine.specs.declared.parted.Destination.TheVariants as destinations;
+ghost use Rattle.engine.specs.Parted.{parted_of};
+
 use crate::disk::DASH;
 use crate::output::say_text;
 use engine::{Answering, Command, Destination, Folder, Inputs, Notes, Parted, Status, Telling};
@@ -23,7 +28,9 @@ where
 }
 
 /// Where the text of a path goes: the path `-` is standard output.
-pub fn destination_of(path: Option<&str>) -> Destination {
+pub fn destination_of(path: Option<&str>) -> Destination
+    ensures { result ≡ option_map_or (λ p. if bytes_eq p.now (codes "-") then destinations.Writer else destinations.Elsewhere) path.entry destinations.Nowhere }
+{
     match path {
         None => Destination::Nowhere,
         Some(path) if path == DASH => Destination::Writer,
@@ -32,7 +39,9 @@ pub fn destination_of(path: Option<&str>) -> Destination {
 }
 
 /// The text that a command made for a file, if there is one.
-pub fn elsewhere(made: Option<Parted>) -> Option<Vec<u8>> {
+pub fn elsewhere(made: Option<Parted>) -> Option<Vec<u8>>
+    ensures { option_map (λ v. v.items) result ≡ option_and_then (λ p. (parted_of p).elsewhere) made }
+{
     match made {
         Some(made) => made.elsewhere,
         None => None,

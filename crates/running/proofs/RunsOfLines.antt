@@ -247,15 +247,15 @@ module _ (c : CatalogueView) (is_whole : IsCatalogue c) (h : History) (updates :
 
     module _ (mode : Mode) (call : TheCall) (why : StoreRefused) where
       abbrev Why : Type 0
-      Why = IsWhy limit c h mode call why
+      Why = IsWhy limit c (length h) mode call why
 
       short_or : (p : Checked) → program_at c call.program ≡ Some p → (b : Bool) → eqb (length call.argument) p.arg_len ≡ b → (if b then mode_refusal mode p.mode else Some ArgumentLength) ≡ Some why → Why
       short_or p named true fits e =
           let other = other_mode mode p.mode why e in
-          subst (IsWhy limit c h mode call) (sym other.0) (p, named, eqb-true _ _ fits, other.1)
+          subst (IsWhy limit c (length h) mode call) (sym other.0) (p, named, eqb-true _ _ fits, other.1)
       short_or p named false fits e =
           let same : ArgumentLength ≡ why = cc in
-          subst (IsWhy limit c h mode call) same (inl (p, named, λ equal. false≢true (sym fits ∙ eq-eqb _ _ equal)))
+          subst (IsWhy limit c (length h) mode call) same (inl (p, named, λ equal. false≢true (sym fits ∙ eq-eqb _ _ equal)))
 
       why_program : (o : Option Checked) → program_at c call.program ≡ o → call.program < length c.programs → program_refusal mode call.argument o ≡ Some why → Why
       why_program None named below e = absurd (none_below c call.program below named)
@@ -265,11 +265,11 @@ module _ (c : CatalogueView) (is_whole : IsCatalogue c) (h : History) (updates :
       why_long true short behind within e = absurd cc
       why_long false short behind within e =
           let same : ArgumentLength ≡ why = cc in
-          subst (IsWhy limit c h mode call) same (inr (behind, within, leb-false _ _ short))
+          subst (IsWhy limit c (length h) mode call) same (inr (behind, within, leb-false _ _ short))
 
       why_place : (b : Bool) → ltb call.program (length c.programs + c.places) ≡ b → length c.programs ≤ call.program → (if b then place_refusal call.argument else Some UnknownProgram) ≡ Some why → Why
       why_place true within behind e = why_long (leb (length call.argument) MAX_ARG_LEN) refl behind (ltb-true _ _ within) e
-      why_place false within behind e = let same : UnknownProgram ≡ why = cc in subst (IsWhy limit c h mode call) same (ltb-false _ _ within)
+      why_place false within behind e = let same : UnknownProgram ≡ why = cc in subst (IsWhy limit c (length h) mode call) same (ltb-false _ _ within)
 
       why_number : (b : Bool) → ltb call.program (length c.programs) ≡ b
           → (if b then offered_refusal c mode call.program call.argument else if nat_lt call.program (length c.programs + c.places) then place_refusal call.argument else Some UnknownProgram) ≡ Some why → Why
@@ -279,7 +279,7 @@ module _ (c : CatalogueView) (is_whole : IsCatalogue c) (h : History) (updates :
       why_early : early_refusal c mode call.program call.argument ≡ Some why → Why
       why_early e = why_number (ltb call.program (length c.programs)) refl e
 
-    why_install : (new : NewProgram) (why : StoreRefused) → install_refusal c.shapes new ≡ Some why → IsWhyInstall limit c h new why
+    why_install : (new : NewProgram) (why : StoreRefused) → install_refusal c.shapes new ≡ Some why → IsWhyInstall limit c (length h) new why
     why_install new UnknownProgram e = e
     why_install new ArgumentLength e = e
     why_install new WrongMode e = e
@@ -296,7 +296,7 @@ module _ (c : CatalogueView) (is_whole : IsCatalogue c) (h : History) (updates :
 
     invoke_goes : (call : TheCall) → AreBytes call.argument → (o : Option StoreRefused) → early_refusal c Update call.program call.argument ≡ o
         → Goes (InvokeAt call) (option_map_or (refused h) o (performed limit c h (Run call) Update))
-    invoke_goes call bytes (Some why) e = (inl (stops (IsWhy limit c h Update call) why (why_early Update call why e)), updates)
+    invoke_goes call bytes (Some why) e = (inl (stops (IsWhy limit c (length h) Update call) why (why_early Update call why e)), updates)
     invoke_goes call bytes None e = by_room (ltb (length h) limit) refl
       where
         is : is_operation Update c (Run call) ≡ true
@@ -304,16 +304,16 @@ module _ (c : CatalogueView) (is_whole : IsCatalogue c) (h : History) (updates :
 
         by_room : (b : Bool) → ltb (length h) limit ≡ b → Goes (InvokeAt call) (cond b (update_of call) (refused h Ended))
         by_room true room = (inr (update_turn call is (ltb-true _ _ room)), grown (Run call) is)
-        by_room false room = (inl (stops (IsWhy limit c h Update call) Ended (refl, (are_tested Update c (Run call)).0 is, ltb-false _ _ room)), updates)
+        by_room false room = (inl (stops (IsWhy limit c (length h) Update call) Ended (refl, (are_tested Update c (Run call)).0 is, ltb-false _ _ room)), updates)
 
     read_goes : (call : TheCall) → AreBytes call.argument → (o : Option StoreRefused) → early_refusal c Read call.program call.argument ≡ o
         → Goes (ReadAt call) (option_map_or (refused h) o (performed limit c h (Run call) Read))
-    read_goes call bytes (Some why) e = (inl (stops (IsWhy limit c h Read call) why (why_early Read call why e)), updates)
+    read_goes call bytes (Some why) e = (inl (stops (IsWhy limit c (length h) Read call) why (why_early Read call why e)), updates)
     read_goes call bytes None e = (inr (read_turn call (is_asked Read c call.program call.argument e bytes)), updates)
 
     install_goes : (new : NewProgram) → AreBytes new.bytes → (o : Option StoreRefused) → install_refusal c.shapes new ≡ o
         → Goes (Install new) (option_map_or (refused h) o (submitted limit install_told c h (AnInstall new)))
-    install_goes new bytes (Some why) e = (inl (stops (IsWhyInstall limit c h new) why (why_install new why e)), updates)
+    install_goes new bytes (Some why) e = (inl (stops (IsWhyInstall limit c (length h) new) why (why_install new why e)), updates)
     install_goes new bytes None e = by_room (ltb (length h) limit) refl
       where
         is : is_operation Update c (AnInstall new) ≡ true
@@ -321,7 +321,7 @@ module _ (c : CatalogueView) (is_whole : IsCatalogue c) (h : History) (updates :
 
         by_room : (b : Bool) → ltb (length h) limit ≡ b → Goes (Install new) (cond b (install_of new) (refused h Ended))
         by_room true room = (inr (install_turn new is (ltb-true _ _ room)), grown (AnInstall new) is)
-        by_room false room = (inl (stops (IsWhyInstall limit c h new) Ended ((are_tested Update c (AnInstall new)).0 is, ltb-false _ _ room)), updates)
+        by_room false room = (inl (stops (IsWhyInstall limit c (length h) new) Ended ((are_tested Update c (AnInstall new)).0 is, ltb-false _ _ room)), updates)
 
     -- ---- a call by its program's name
 
@@ -353,7 +353,7 @@ module _ (c : CatalogueView) (is_whole : IsCatalogue c) (h : History) (updates :
           where
             by_room : (b : Bool) → ltb (length h) limit ≡ b → Goes (Call call) (cond b (update_of one) (refused h Ended))
             by_room true room = let u = update_turn one (is_of Update m) (ltb-true _ _ room) in (inr (k, numbered_so, inl (u, its_run Update u.done m u.does)), grown (Run one) (is_of Update m))
-            by_room false room = (inl (stops (IsWhyNamed limit c h call) Ended (inr (k, program, numbered_so, named, (m, (are_tested Update c (Run one)).0 (is_of Update m), ltb-false _ _ room)))), updates)
+            by_room false room = (inl (stops (IsWhyNamed limit c (length h) call) Ended (inr (k, program, numbered_so, named, (m, (are_tested Update c (Run one)).0 (is_of Update m), ltb-false _ _ room)))), updates)
 
       by_program : (o : Option Checked) → program_at c k ≡ o → Goes (Call call) (performed_by limit c h one o)
       by_program None e = absurd (offered_at c call.name k numbered_so e)
@@ -361,10 +361,10 @@ module _ (c : CatalogueView) (is_whole : IsCatalogue c) (h : History) (updates :
         where
           by_length : (b : Bool) → eqb (length call.argument) program.arg_len ≡ b → Goes (Call call) (cond b (performed limit c h (Run one) program.mode) (refused h ArgumentLength))
           by_length true fits = by_mode program e (eqb-true _ _ fits) program.mode refl
-          by_length false fits = (inl (stops (IsWhyNamed limit c h call) ArgumentLength (inr (k, program, numbered_so, e, inl (program, e, λ same. false≢true (sym fits ∙ eq-eqb _ _ same))))), updates)
+          by_length false fits = (inl (stops (IsWhyNamed limit c (length h) call) ArgumentLength (inr (k, program, numbered_so, e, inl (program, e, λ same. false≢true (sym fits ∙ eq-eqb _ _ same))))), updates)
 
     by_number : (call : ProgramCall) → AreBytes call.argument → (o : Option ℕ) → number_named c.programs call.name ≡ o → Goes (Call call) (option_map_or (numbered limit c h call.argument) o (refused h UnknownProgram))
-    by_number call bytes None e = (inl (stops (IsWhyNamed limit c h call) UnknownProgram (inl (e, refl))), updates)
+    by_number call bytes None e = (inl (stops (IsWhyNamed limit c (length h) call) UnknownProgram (inl (e, refl))), updates)
     by_number call bytes (Some k) e = by_program call bytes k e (program_at c k) refl
 
     pub goes : (m : Meaning) → HasBytes m → Goes m (taken limit c h m)

@@ -6,6 +6,8 @@ pub mod KeptRun
 pub mod CalledRun
 -- Laws: each line that a run writes for a call is a run of its program.
 pub mod RunLines
+-- Laws: what a run writes, from the bytes that it reads to its lines.
+pub mod RunLaw
 -- Laws: where it doesn't matter how many updates a history may have.
 pub mod LimitLaws
 -- Laws: a run that is cut in two, where the second part begins on the state that the first left.

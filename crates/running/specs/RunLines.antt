@@ -67,26 +67,35 @@ pub record IsRefusedTurn (Why : StoreRefused → Type 0) (h : History) (turn : T
 -- ---- on a history that has so many records at most
 
 module _ (limit : ℕ) where
-  -- a call by a number is refused for this reason, as one of this mode: no program and no place has the number (S1), the argument has another
-  -- length (S2), it has its length and the program has the other mode (S3), or nothing else refuses an update and the history has all its own (S4)
-  abbrev pub IsWhy : CatalogueView → History → Mode → TheCall → StoreRefused → Type 0
-  IsWhy c h mode call UnknownProgram = length c.programs + c.places ≤ call.program
-  IsWhy c h mode call ArgumentLength = HasOtherLength c call
-  IsWhy c h mode call WrongMode = (p : Checked) × (program_at c call.program ≡ Some p) × (length call.argument ≡ p.arg_len) × (p.mode ≢ mode)
-  IsWhy c h mode call Ended = (mode ≡ Update) × IsOperation Update c (Run call) × (limit ≤ length h)
-  IsWhy c h mode call why = ⊥
+  -- a call by a number is refused for this reason after so many updates, as one of this mode: no program and no place has the number (S1), the
+  -- argument has another length (S2), it has its length and the program has the other mode (S3), or nothing else refuses an update and the history
+  -- has all its own (S4)
+  abbrev pub IsWhy : CatalogueView → ℕ → Mode → TheCall → StoreRefused → Type 0
+  IsWhy c updates mode call UnknownProgram = length c.programs + c.places ≤ call.program
+  IsWhy c updates mode call ArgumentLength = HasOtherLength c call
+  IsWhy c updates mode call WrongMode = (p : Checked) × (program_at c call.program ≡ Some p) × (length call.argument ≡ p.arg_len) × (p.mode ≢ mode)
+  IsWhy c updates mode call Ended = (mode ≡ Update) × IsOperation Update c (Run call) × (limit ≤ updates)
+  IsWhy c updates mode call why = ⊥
 
   -- a call by a name: no program has the name, or the program that has it is refused so as one of its own mode
-  abbrev pub IsWhyNamed : CatalogueView → History → ProgramCall → StoreRefused → Type 0
-  IsWhyNamed c h call why =
+  abbrev pub IsWhyNamed : CatalogueView → ℕ → ProgramCall → StoreRefused → Type 0
+  IsWhyNamed c updates call why =
       ((number_named c.programs call.name ≡ None) × (why ≡ UnknownProgram))
       ⊎ ((k : ℕ) × (p : Checked) × (number_named c.programs call.name ≡ Some k) × (program_at c k ≡ Some p)
-      × IsWhy c h p.mode (record { program = k; argument = call.argument }) why)
+      × IsWhy c updates p.mode (record { program = k; argument = call.argument }) why)
 
   -- an install: by its bytes and the length of its argument, S6, S7 or S8, or where nothing else refuses it S4
-  abbrev pub IsWhyInstall : CatalogueView → History → NewProgram → StoreRefused → Type 0
-  IsWhyInstall c h new Ended = IsOperation Update c (AnInstall new) × (limit ≤ length h)
-  IsWhyInstall c h new why = install_refusal c.shapes new ≡ Some why
+  abbrev pub IsWhyInstall : CatalogueView → ℕ → NewProgram → StoreRefused → Type 0
+  IsWhyInstall c updates new Ended = IsOperation Update c (AnInstall new) × (limit ≤ updates)
+  IsWhyInstall c updates new why = install_refusal c.shapes new ≡ Some why
+
+  -- for such a reason a line that says this is refused: a call by the name or by the number of its program, or an install
+  abbrev pub IsWhySaid : CatalogueView → ℕ → Meaning → StoreRefused → Type 0
+  IsWhySaid c updates Comment why = ⊥
+  IsWhySaid c updates (Call call) why = IsWhyNamed c updates call why
+  IsWhySaid c updates (InvokeAt call) why = IsWhy c updates Update call why
+  IsWhySaid c updates (ReadAt call) why = IsWhy c updates Read call why
+  IsWhySaid c updates (Install new) why = IsWhyInstall c updates new why
 
   -- an update wrote its index in the history and what it does; the history goes on with it, and with the maps that it leaves
   pub record IsUpdateTurn (c : CatalogueView) (h : History) (call : TheCall) (turn : Turn) : Type 0 where
@@ -111,7 +120,7 @@ module _ (limit : ℕ) where
   -- a call by its name is refused, or it is an update or a read that runs the program of that name
   abbrev pub CallTurn : CatalogueView → History → ProgramCall → Turn → Type 0
   CallTurn c h call turn =
-      IsRefusedTurn (IsWhyNamed c h call) h turn
+      IsRefusedTurn (IsWhyNamed c (length h) call) h turn
       ⊎ ((k : ℕ) × (number_named c.programs call.name ≡ Some k)
       × (((u : IsUpdateTurn c h (record { program = k; argument = call.argument }) turn) × CallRuns c h (record { program = k; argument = call.argument }) Update u.done)
       ⊎ ((r : IsReadTurn c h (record { program = k; argument = call.argument }) turn) × CallRuns c h (record { program = k; argument = call.argument }) Read r.done)))
@@ -120,9 +129,9 @@ module _ (limit : ℕ) where
   abbrev pub MeaningTurn : CatalogueView → History → Turn → Meaning → Type 0
   MeaningTurn c h turn Comment = (turn.text ≡ []) × (turn.history ≡ h)
   MeaningTurn c h turn (Call call) = CallTurn c h call turn
-  MeaningTurn c h turn (InvokeAt call) = IsRefusedTurn (IsWhy c h Update call) h turn ⊎ IsUpdateTurn c h call turn
-  MeaningTurn c h turn (ReadAt call) = IsRefusedTurn (IsWhy c h Read call) h turn ⊎ IsReadTurn c h call turn
-  MeaningTurn c h turn (Install new) = IsRefusedTurn (IsWhyInstall c h new) h turn ⊎ IsInstallTurn c h new turn
+  MeaningTurn c h turn (InvokeAt call) = IsRefusedTurn (IsWhy c (length h) Update call) h turn ⊎ IsUpdateTurn c h call turn
+  MeaningTurn c h turn (ReadAt call) = IsRefusedTurn (IsWhy c (length h) Read call) h turn ⊎ IsReadTurn c h call turn
+  MeaningTurn c h turn (Install new) = IsRefusedTurn (IsWhyInstall c (length h) new) h turn ⊎ IsInstallTurn c h new turn
 
   abbrev pub LineTurn : CatalogueView → History → List ℕ → Turn → Type 0
   LineTurn c h line turn = (m : Meaning) × (line_meaning line ≡ Some m) × MeaningTurn c h turn m

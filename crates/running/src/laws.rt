@@ -3,6 +3,7 @@
 ghost use Rattle.std.specs.Prelude.{◌≡◌};
 ghost use Rattle.running.specs.CutLaws.{LinesMayBeCut, ScriptsMayBeCut};
 ghost use Rattle.running.specs.LimitLaws.{LimitIsUnfelt, FewLinesAreAlike};
+ghost use Rattle.running.specs.RunLaw.{CallsWrite, RunWrites};
 ghost use Rattle.running.specs.RunLines.{LineTurnsAreRuns, LoadedIsCatalogue, OpenedIsCatalogue, RunLinesAreRuns};
 ghost use Rattle.running.specs.SignedLaws.{RepliesAreTold};
 ghost use Rattle.running.specs.declared.single_node.TheConstants.{RUN_PLACES};
@@ -28,6 +29,18 @@ pub fn run_lines_are_runs()
     ensures runs { RunLinesAreRuns }
     ensures loaded { LoadedIsCatalogue }
     ensures opened { OpenedIsCatalogue }
+{}
+
+/// What `run` writes, by its status, from the bytes that it reads. It is good if all texts are UTF-8 and the manifest, the state and each line
+/// of the script are good. Then each line wrote its turn, on the state that the lines before it left: a refusal, the reply and the steps of the
+/// run of its program, or the number of an installed program. Otherwise it refuses: with the one line of a text that is not UTF-8, of the
+/// manifest or of the state; or with what the lines before the first bad one wrote, and then `line N bad`.
+///
+/// With `--dump` the text of the state comes after the lines, or is handed back for a file. `run --calls` does so with the script that `encode`
+/// makes of its calls. If these are refused no line is run, and the one line of that refusal is written if nothing else is refused.
+pub fn run_writes()
+    ensures script { RunWrites }
+    ensures calls { CallsWrite }
 {}
 
 /// `run --signed` finds the reply of each line that `run` writes for an update, a read or an install.

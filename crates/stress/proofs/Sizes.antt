@@ -1,17 +1,22 @@
 -- The sizes of a store: each is within its limits, so it has some session.
-use Rattle.std.proofs.Common.{◌≡◌, ℕ, ◌<◌, ◌≤◌, Bool, true, false, List, length, Some, None, Ok, Err, refl, ap, mul-pos}
+use Rattle.std.proofs.Common.{◌≡◌, ℕ, ◌<◌, ◌≤◌, Bool, true, false, List, length, Option, Some, None, Ok, Err, refl, ap, mul-pos}
 use Rattle.std.specs.Prelude.{◌&&◌, ◌==◌, nat_le, if◌then◌else◌}
+use Rattle.std.specs.Borrow.{Bor}
+use Rattle.std.specs.Option.{option_copied}
 use Rattle.std.proofs.lemmas.Bool.{and_parts, leb-true}
 use Rattle.oplog.specs.declared.configuration.Config.{Config}
 use Rattle.oplog.specs.Limits.{IsConfig}
 use Rattle.loader.specs.CatalogueView.{CatalogueView, opened_on, with_places}
+use Rattle.loader.specs.StoreState.{StoreState}
 use Rattle.loader.specs.Loading.{Outcome}
 use Rattle.dumps.specs.Loading.{Outcome as StateOutcome, loaded_state}
-use Rattle.engine.specs.Opening.{opening, opening_of}
+use Rattle.engine.specs.declared.opening.Opened.TheVariants.{On}
+use Rattle.engine.specs.Opening.{IsOpened, opening, opening_of}
 use Rattle.engine.specs.Reading.{TextsRead, loaded_by}
 use Rattle.engine.specs.Sizes.{are_sizes, places_in}
 use Rattle.engine.specs.StateAnswer.{on_text}
-use Rattle.engine.proofs.Export.{on_loaded}
+use Rattle.engine.proofs.Export.{fits_on, on_loaded, opens_on}
+use Rattle.stress.specs.Playing.{MayOpen}
 use Rattle.stress.specs.Transcripts.{session_count}
 
 pub some_session : (config : Config) → IsConfig config → 0 < session_count config
@@ -59,3 +64,10 @@ config_opened config t c is = (opened_so config (loaded_by t) t.state c is).0
 
 pub places_opened : (config : Config) (t : TextsRead) (c : CatalogueView) → Ok c ≡ opening (places_in config) t → c.places ≡ config.spare
 places_opened config t c is = (opened_so config (loaded_by t) t.state c is).1
+
+-- ---- what a store opens on
+
+pub may_open : (config : Config) (t : TextsRead) (c : CatalogueView) (lent : Option (Bor StoreState)) (state : Option StoreState) → Ok c ≡ opening (places_in config) t → option_copied lent ≡ state
+    → IsOpened (On c state) → MayOpen config c lent
+may_open config t c lent state said same opened =
+    record { within = config_opened config t c said; places = places_opened config t c said; fits = fits_on c lent state same opened; opens = opens_on c lent state same opened }

@@ -1,8 +1,9 @@
 -- What is kept while sessions make their calls. Clauses of private functions alone cite this.
-use Rattle.std.specs.Prelude.{◌≡◌, ◌⊎◌, ℕ, Bool, true, false, ◌-◌, ◌<◌, ◌≤◌, List, [], ◌∷◌, ◌++◌, map, length, slice_index_or, Option, Some, None, Result, Ok, Err, IfOk, MatchResult, Vec, count_by}
+use Rattle.std.specs.Prelude.{◌≡◌, ◌⊎◌, ℕ, Bool, true, false, ◌-◌, ◌<◌, ◌≤◌, List, [], ◌∷◌, ◌++◌, map, length, slice_index_or, Option, Some, None, Result, Ok, Err, IfOk, IfSome, MatchResult, Vec, count_by}
+use Rattle.std.specs.Borrow.{Bor}
 use Rattle.std.specs.List.{All, flat_map}
 use Rattle.std.specs.List.Sorted.{IsPermutation}
-use Rattle.loader.specs.CatalogueView.{CatalogueView}
+use Rattle.loader.specs.CatalogueView.{CatalogueView, MayOpenOn, OpensOn}
 use Rattle.loader.specs.StoreState.{StoreState}
 use Rattle.text.specs.Digits.{field_bytes}
 use Rattle.text.specs.declared.lines.TheConstants.{LINE_BYTES}
@@ -31,6 +32,7 @@ use Rattle.stress.specs.declared.lines.Said.TheVariants as told
 use Rattle.stress.specs.declared.lines.Written.{Written}
 use Rattle.stress.specs.declared.sharing.Left.{Left}
 use Rattle.oplog.specs.declared.configuration.Config.{Config}
+use Rattle.oplog.specs.Limits.{IsConfig}
 use Rattle.stress.specs.Lines as said
 use Rattle.stress.specs.Lines.{ToldCall, AreOrdered, AreSteady, at_rank, transcript_text}
 use Rattle.stress.specs.Timed.{Timed, IsInTurn, AreCounted, timed_text}
@@ -61,6 +63,13 @@ line_calls c n line = calls_said c n line (line_meaning line)
 -- the calls of a script, or its first bad line
 abbrev pub IsScriptRun : Config → Bool → CatalogueView → Result (List Called) ℕ → Stressed → Type 0
 IsScriptRun config timed c calls s = MatchResult calls (λ calls. IsRun config timed c calls s) (λ n. IsOnly (bad_line n) s)
+
+-- a store of these sizes may open on the catalogue, and on this state if there is one
+pub record MayOpen (config : Config) (c : CatalogueView) (state : Option (Bor StoreState)) : Type 0 where
+  pub within : IsConfig config
+  pub places : c.places ≡ config.spare
+  pub fits : IfSome state (λ s. MayOpenOn c s.now)
+  pub opens : OpensOn c state
 
 -- no session of a store of this catalogue is refused this call before it is made
 pub record IsReady (c : CatalogueView) (call : ScriptCall) : Type 0 where

@@ -2,9 +2,7 @@
 
 ghost use Rattle.std.specs.Prelude.{◌≡◌, ◌≤◌, All, map, Option, Some, IfOk, IfSome};
 ghost use Rattle.text.specs.Lines.{lines_of};
-ghost use Rattle.loader.specs.CatalogueView.{MayOpenOn, OpensOn};
 ghost use Rattle.loader.specs.declared.installed.TheConstants.{MAX_SPARE};
-ghost use Rattle.oplog.specs.Limits.{IsConfig};
 ghost use Rattle.engine.specs.ReadFaults.{IfCannotRead};
 ghost use Rattle.engine.specs.Reading.{FailedInTurn, IfGiven, TextsRead, read, texts_in, texts_read};
 ghost use Rattle.engine.specs.Engine.{Performs, PerformsRead, Reports, ReportsRead};
@@ -14,7 +12,7 @@ ghost use Rattle.stress.specs.Calls.{script_calls};
 ghost use Rattle.stress.specs.Shown.{called};
 ghost use Rattle.stress.specs.Left.{MayLeave, answer_left};
 ghost use Rattle.stress.specs.Runs.{IsRun, MayMake};
-ghost use Rattle.stress.specs.Playing.{IsReady, IsScriptRun};
+ghost use Rattle.stress.specs.Playing.{IsReady, IsScriptRun, MayOpen};
 
 use crate::calls::{ScriptCall, ScriptCalls, read_calls};
 use crate::gate::Gate;
@@ -80,10 +78,7 @@ impl<'a, R: Threads + Wait + Sync, G: Gate + Sync, C: Clock + Sync> Stress<'a, R
         state: Option<&StoreState>,
         calls: &[ScriptCall<'_>],
     ) -> Result<Stressed, AllocError>
-        requires config { IsConfig self.now.config }
-        requires places { catalogue.places ≡ self.now.config.spare }
-        requires fits { IfSome state (λ s. MayOpenOn catalogue s.now) }
-        requires opens { OpensOn catalogue state }
+        requires opens { MayOpen self.now.config catalogue state }
         requires ready { All (IsReady catalogue) calls.now }
         ensures { IfOk result (IsRun self.now.config self.now.has_history catalogue (map called calls.now)) }
     {
@@ -112,10 +107,7 @@ impl<'a, R: Threads + Wait + Sync, G: Gate + Sync, C: Clock + Sync> Stress<'a, R
         state: Option<&StoreState>,
         script: &str,
     ) -> Result<Stressed, AllocError>
-        requires config { IsConfig self.now.config }
-        requires places { catalogue.places ≡ self.now.config.spare }
-        requires fits { IfSome state (λ s. MayOpenOn catalogue s.now) }
-        requires opens { OpensOn catalogue state }
+        requires opens { MayOpen self.now.config catalogue state }
         ensures { IfOk result (IsScriptRun self.now.config self.now.has_history catalogue (script_calls catalogue 1 (lines_of script.now))) }
     {
         match read_calls(alloc, &catalogue, script)? {
@@ -125,7 +117,6 @@ impl<'a, R: Threads + Wait + Sync, G: Gate + Sync, C: Clock + Sync> Stress<'a, R
     }
 
     // What texts give back.
-    #[tactic(auto, using(engine::proofs::Openings::opens_on, engine::proofs::Openings::fits_on))]
     fn texts_run(&self, alloc: Global, texts: &Texts) -> Result<Stressed, AllocError>
         ensures { IfOk result (MayMake self.now (Some (texts_read texts.now))) }
     {

@@ -2,15 +2,14 @@
 
 ghost use Rattle.std.specs.Prelude.{◌≡◌, ℕ, ◌-◌, ◌*◌, ◌≤◌, ◌<◌, ◌++◌, List, [], length, map, Option, All, IfErr, IfOk, IfSome, MatchResult, vec_capacity};
 ghost use Rattle.std.specs.Result.{result_ok};
-ghost use Rattle.loader.specs.CatalogueView.{MayOpenOn, OpensOn};
 ghost use Rattle.oplog.specs.declared.configuration.OpenError.TheVariants.{NoMemory};
-ghost use Rattle.oplog.specs.Limits.{sizes_in, IsConfig};
+ghost use Rattle.oplog.specs.Limits.{sizes_in};
 ghost use Rattle.store.specs.Opening.{ClosedView, IsClosed, last_state};
 ghost use Rattle.store.specs.Sessions.{IsOf, StoreView};
 ghost use Rattle.stress.specs.Calls.{Called};
 ghost use Rattle.stress.specs.Dealt.{dealt_to};
 ghost use Rattle.stress.specs.Shown.{TellsCalls, called, to_be_told};
-ghost use Rattle.stress.specs.Playing.{IsReady, AllSteady, AreIn, AreLast, AreNew, AreNumbered, AreTold, IsNew, IsNewPlayer, IsPlaying, IsToldPlayer, IsLeft, IsWritten, NamesTurns, TellTheirs, TellsSteady, TellsAll, calls_for};
+ghost use Rattle.stress.specs.Playing.{IsReady, AllSteady, AreIn, AreLast, AreNew, AreNumbered, AreTold, IsNew, IsNewPlayer, IsPlaying, IsToldPlayer, IsLeft, IsWritten, MayOpen, NamesTurns, TellTheirs, TellsSteady, TellsAll, calls_for};
 
 use crate::calls::ScriptCall;
 use crate::command::Stress;
@@ -59,10 +58,7 @@ fn open(
     catalogue: Catalogue,
     state: Option<&StoreState>,
 ) -> Result<(Store, Vec<Session>), AllocError>
-    requires config { IsConfig config }
-    requires places { catalogue.places ≡ config.spare }
-    requires fits { IfSome state (λ s. MayOpenOn catalogue s.now) }
-    requires opens { OpensOn catalogue state }
+    requires opens { MayOpen config catalogue state }
     ensures catalogue { IfOk result (λ t. t.0.catalogue ≡ catalogue) }
     ensures sizes { IfOk result (λ t. t.0.config ≡ sizes_in config) }
     ensures sessions { IfOk result (λ t. AreNew t.0 (config.nodes * config.slots) t.1.items) }
@@ -226,10 +222,7 @@ impl<'t, R: Threads + Wait + Sync, G: Gate + Sync, C: Clock + Sync> Stress<'t, R
         state: Option<&StoreState>,
         calls: &[ScriptCall<'_>],
     ) -> Result<Left, AllocError>
-        requires config { IsConfig self.now.config }
-        requires places { catalogue.places ≡ self.now.config.spare }
-        requires fits { IfSome state (λ s. MayOpenOn catalogue s.now) }
-        requires opens { OpensOn catalogue state }
+        requires opens { MayOpen self.now.config catalogue state }
         requires ready { All (IsReady catalogue) calls.now }
         ensures left { IfOk result (IsLeft self.now.config catalogue self.now.has_history calls.now) }
     {

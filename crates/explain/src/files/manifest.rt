@@ -12,9 +12,8 @@ ghost use Rattle.loader.specs.declared.refusals.LoadFault.TheVariants.{BadLine, 
 ghost use Rattle.loader.specs.Grammar.{Map, Program, line_meaning};
 ghost use Rattle.loader.specs.LineShown.{meaning_of, program_of, LineFits};
 ghost use Rattle.loader.specs.ProgramFiles.{files_of, instructions_of};
-ghost use Rattle.loader.specs.Loading.{is_taken};
 ghost use Rattle.explain.specs.Explanation.{above_of, name_of, IsFault, IsWithin, Judges, TakesLine, TakesMap, TakesNext, TellsAsked, TellsKnown, TellsRead, Writes};
-ghost use Rattle.explain.specs.Manifest.{has_map, has_program, is_asked, is_beyond, is_misplaced, line_fault, named_words, no_program, program_of_text, refused_by, so_far, TellsOfAll, TellsOfManifest};
+ghost use Rattle.explain.specs.Manifest.{has_map, has_name, has_program, is_asked, is_full, is_misplaced, line_fault, named_words, no_program, program_of_text, refused_by, TellsOfAll, TellsOfManifest};
 ghost use Rattle.explain.specs.Told.{BeginsIf};
 
 use crate::files::faults::{bad_hex, put_fault, refused_bytes, too_many, wrong_line};
@@ -57,7 +56,7 @@ struct Explanation<'a> {
 impl<'a> Explanation<'a> {
     // The line of the first program of this name, if there is one.
     fn line_of(&self, name: &str) -> Option<u32>
-        ensures { is_some result ≡ is_taken (so_far (above_of self.now)).programs name.now }
+        ensures { is_some result ≡ has_name (above_of self.now) name.now }
     {
         for (other, line) in &self.names {
             if *other == name {
@@ -156,7 +155,7 @@ impl<'a> Explanation<'a> {
 
     // Adds that a program is one too many, if it is.
     fn put_beyond(&self, out: &mut String) -> Written
-        ensures { OnOk result (Writes (BeginsIf (is_beyond (above_of self.now)) (line_fault self.now.line TooMany)) out.old out.new) }
+        ensures { OnOk result (Writes (BeginsIf (is_full (above_of self.now)) (line_fault self.now.line TooMany)) out.old out.new) }
     {
         if self.names.len() < MAX_PROGRAMS {
             return Ok(());
