@@ -1,25 +1,24 @@
 // A state as text.
 
-ghost use Rattle.std.specs.Prelude.{◌≡◌, ◌++◌, ◌<◌, length, slice_get, Some, IfOk, IfSome, OnOk, codes, decimal};
+ghost use Rattle.std.specs.Prelude.{◌≡◌, ◌++◌, ◌<◌, length, slice_get, Some, IfOk, OnOk, codes, decimal};
 ghost use Rattle.std.specs.List.{flat_map};
-ghost use Rattle.std.specs.FinMap as finite_map;
 ghost use Rattle.hex.specs.Hex.{encode_lower};
 ghost use Rattle.insn.specs.Encoding.{program_bytes};
-ghost use Rattle.maps.specs.Shapes.{entry_count};
+ghost use Rattle.maps.specs.Shapes.{AreShapesSupported};
 ghost use Rattle.maps.specs.Maps.{MapState};
 ghost use Rattle.maps.specs.MapSets.{Stored, maps_of, stored_shapes};
 ghost use Rattle.verifier.specs.Accepted.{Checked};
 ghost use Rattle.loader.specs.Spelling.{mode_word};
 ghost use Rattle.dumps.specs.Dumping.{dump, entry_text};
-ghost use Rattle.dumps.specs.Written.{entry_line, kept_text, map_text, maps_text, program_line_text, shown, with_place};
+ghost use Rattle.dumps.specs.Written.{entry_line, map_text, maps_text, place_text, program_line_text};
 
 use crate::loading::is_left_out;
+use crate::sorting::{KEY_ROOM, read_key, sorted_places};
 use insn::{Insn, encode};
 use itoa::Buffer;
 use loader::{Installed, StoreState};
-use maps::{MapSet, Shape};
+use maps::MapSet;
 use std::alloc::{AllocError, Global};
-use std::collections::BTreeMap;
 use verifier::{Accepted, Mode};
 
 // Adds a number in decimal.
@@ -56,73 +55,63 @@ fn put_line(
     out.extend_from_slice(b"\n")
 }
 
-// Adds the lines of a map's entries that aren't left out.
-fn put_sorted(
+// Adds the line of the entry at a place of map `m`, unless that is left out.
+fn put_place(
     alloc: Global,
     out: &mut Vec<u8>,
-    map: u64,
-    shape: Shape,
-    sorted: &BTreeMap<Vec<u8>, Vec<u8>>,
-) -> Result<(), AllocError>
-    ensures { OnOk result (out.new.items ≡ out.old.items ++ flat_map (kept_text map shape) (shown sorted.now.entries)) }
-{
-    for entry in sorted {
-        if !is_left_out(shape, entry.1) {
-            put_line(alloc, out, map, entry.0, entry.1)?;
-        }
-    }
-    Ok(())
-}
-
-// Puts what stands at a place of map `m` among what stands at others.
-fn sort_in(
-    alloc: Global,
-    sorted: &mut BTreeMap<Vec<u8>, Vec<u8>>,
     maps: &MapSet,
     m: usize,
     place: u32,
 ) -> Result<(), AllocError>
     requires map { m < length (stored_shapes maps.now) }
-    requires place { IfSome (slice_get (stored_shapes maps.now) m) (λ s. place < entry_count s) }
+    requires shapes { AreShapesSupported (stored_shapes maps.now) }
     ensures { OnOk result ((s : Stored) → slice_get maps.now m ≡ Some s
-        → shown sorted.new.entries ≡ with_place s place (shown sorted.old.entries)) }
+        → out.new.items ≡ out.old.items ++ place_text m s place) }
 {
-    let mut key = vec![in alloc; 0u8; maps.shape(m).key_bytes()]?;
-    if maps.key(m, place, &mut key) {
-        let value = Vec::from_slice(alloc, maps.value(maps.entry(m, place)))?;
-        sorted.insert(key, value)?;
+    let mut room = [0u8; KEY_ROOM];
+    let Some(size) = read_key(maps, m, place, &mut room) else {
+        return Ok(());
+    };
+    let value = maps.value(maps.entry(m, place));
+    if is_left_out(maps.shape(m), value) {
+        return Ok(());
     }
-    Ok(())
+    put_line(alloc, out, m as u64, &room[..size], value)
 }
 
-// The entries of map `m` in the order of their keys.
-fn sorted(alloc: Global, maps: &MapSet, m: usize) -> Result<BTreeMap<Vec<u8>, Vec<u8>>, AllocError>
+// Adds the lines of the entries at places of map `m`.
+fn put_places(
+    alloc: Global,
+    out: &mut Vec<u8>,
+    maps: &MapSet,
+    m: usize,
+    places: &[u32],
+) -> Result<(), AllocError>
     requires map { m < length (stored_shapes maps.now) }
-    ensures { IfOk result (λ t. (s : MapState) → slice_get (maps_of maps.now) m ≡ Some s
-        → shown t.entries ≡ finite_map.entries s.entries) }
+    requires shapes { AreShapesSupported (stored_shapes maps.now) }
+    ensures { OnOk result ((s : Stored) → slice_get maps.now m ≡ Some s
+        → out.new.items ≡ out.old.items ++ flat_map (place_text m s) places.now) }
 {
-    let mut sorted = BTreeMap::new(alloc);
-    let mut place = maps.places(m);
-    while place > 0 {
-        place -= 1;
-        sort_in(alloc, &mut sorted, maps, m, place)?;
+    for place in places {
+        put_place(alloc, out, maps, m, *place)?;
     }
-    Ok(sorted)
+    Ok(())
 }
 
 // Adds the lines of map `m`.
 fn put_map(alloc: Global, out: &mut Vec<u8>, maps: &MapSet, m: usize) -> Result<(), AllocError>
     requires map { m < length (stored_shapes maps.now) }
+    requires shapes { AreShapesSupported (stored_shapes maps.now) }
     ensures { OnOk result ((s : MapState) → slice_get (maps_of maps.now) m ≡ Some s
         → out.new.items ≡ out.old.items ++ map_text m s) }
 {
-    let shape = maps.shape(m);
-    let entries = sorted(alloc, maps, m)?;
-    put_sorted(alloc, out, m as u64, shape, &entries)
+    let places = sorted_places(alloc, maps, m)?;
+    put_places(alloc, out, maps, m, &places)
 }
 
 // Adds the lines of all maps.
 fn put_maps(alloc: Global, out: &mut Vec<u8>, maps: &MapSet) -> Result<(), AllocError>
+    requires shapes { AreShapesSupported (stored_shapes maps.now) }
     ensures { OnOk result (out.new.items ≡ out.old.items ++ maps_text 0 (maps_of maps.now)) }
 {
     for m in 0..maps.count() {
@@ -191,7 +180,7 @@ fn put_programs(alloc: Global, out: &mut Vec<u8>, programs: &Installed) -> Resul
 /// A state as text: what [`load`](crate::load) reads as that state.
 ///
 /// A line `MAP KEYHEX VALUEHEX` for each entry that is there, in the order of the maps' numbers and then of the keys' bytes, without the zeros of arrays; and then a line
-/// `p MODE ARGLEN HEX` for each program that was installed. Keys are sorted one map after another: that takes time of n times log n, and room for a map's keys and values.
+/// `p MODE ARGLEN HEX` for each program that was installed. Keys are sorted one map after another: that takes time of n times log n, and four bytes for each key of a map.
 ///
 /// # Errors
 ///
@@ -200,7 +189,10 @@ pub fn dump(alloc: Global, state: &StoreState) -> Result<Vec<u8>, AllocError>
     ensures dumped { IfOk result (λ text. text.items ≡ dump state.now) }
 {
     let mut out = Vec::new(alloc);
+    let programs = state.programs();
+    // (that a store may have these maps: the proof takes it from this call)
+    let _places = programs.places();
     put_maps(alloc, &mut out, state.maps())?;
-    put_programs(alloc, &mut out, state.programs())?;
+    put_programs(alloc, &mut out, programs)?;
     Ok(out)
 }

@@ -6,6 +6,7 @@ mod laws;
 mod lines;
 mod loading;
 mod refusals;
+mod sorting;
 
 pub use dumping::dump;
 pub use laws::{
