@@ -208,29 +208,6 @@ keyed_all s h = record { apart = h.apart; once = once s (length s.keys); all = �
 abbrev pub IsKeyed : Contents → ℕ → ℕ → List ℕ → Type 0
 IsKeyed c m n places = IfSome (slice_get c m) (λ s. places ≡ keyed_below s n)
 
-pub none_keyed : (c : Contents) (m : ℕ) (places : List ℕ) → places ≡ [] → IsKeyed c m 0 places
-none_keyed c m places none = by (slice_get c m)
-  where
-    by : (o : Option Stored) → IfSome o (λ s. places ≡ keyed_below s 0)
-    by None = tt
-    by (Some s) = none
-
-one_more : (c : Contents) (m n : ℕ) (b : Bool) (old new : List ℕ) → is_some (key_at c m n) ≡ b → new ≡ old ++ (if b then n ∷ [] else []) → IsKeyed c m n old → IsKeyed c m (suc n) new
-one_more c m n b old new there is = by (slice_get c m) there
-  where
-    by : (o : Option Stored) → is_some (option_and_then (λ (s : Stored). flat (slice_get s.keys n)) o) ≡ b → IfSome o (λ s. old ≡ keyed_below s n) → IfSome o (λ s. new ≡ keyed_below s (suc n))
-    by None there h = tt
-    by (Some s) there h = is ∙ ap (λ ps. ps ++ (if b then n ∷ [] else [])) h ∙ ap (λ t. keyed_below s n ++ (if t then n ∷ [] else [])) (sym there)
-
-next_is : (n : ℕ) → suc n ≡ n + 1
-next_is n = omega arith
-
-pub one_keyed : (c : Contents) (m n : ℕ) (old new : List ℕ) → is_some (key_at c m n) ≡ true → new ≡ old ++ n ∷ [] → IsKeyed c m n old → IsKeyed c m (n + 1) new
-one_keyed c m n old new there is h = subst (λ k. IsKeyed c m k new) (next_is n) (one_more c m n true old new there is h)
-
-pub one_passed : (c : Contents) (m n : ℕ) (old : List ℕ) → is_some (key_at c m n) ≡ false → IsKeyed c m n old → IsKeyed c m (n + 1) old
-one_passed c m n old there h = subst (λ k. IsKeyed c m k old) (next_is n) (one_more c m n false old old there (sym (append-nil old)) h)
-
 pub all_keyed : (c : Contents) (m n : ℕ) (s : Stored) (places : List ℕ) (es : Stored → List KeyValue) (next : Option ℕ) → slice_get c m ≡ Some s → IfSome (slice_get c m) (λ s. IsPage s 0 (es s) next)
     → IfSome (slice_get c m) (λ s. n ≡ length s.keys) → IsKeyed c m n places → HoldsKeys s places
 all_keyed c m n s places es next at page end is =
@@ -248,7 +225,3 @@ no_key (Some k) h = absurd cc
 pub read_is : (c : Contents) (m p : ℕ) (o : Option ℕ) (room : List ℕ) → is_some o ≡ is_some (key_at c m p) → IfSome o (λ n. key_at c m p ≡ Some (take n room)) → take (unwrap_or o 0) room ≡ bytes_at c m p
 read_is c m p None room there is = sym (ap (λ k. unwrap_or k []) (no_key (key_at c m p) (sym there)))
 read_is c m p (Some n) room there is = sym (ap (λ k. unwrap_or k []) is)
-
-pub read_fits : (o : Option ℕ) → IfSome o (λ n. n ≤ 64) → unwrap_or o 0 ≤ 64
-read_fits None h = omega arith
-read_fits (Some n) h = h

@@ -15,6 +15,7 @@ pub mod Belongs
 pub mod Reread
 pub mod Writing
 pub mod KeyOrder
+pub mod Remaining
 pub mod LoadedFor
 pub mod Ascii
 pub mod LoadedState

@@ -1,25 +1,23 @@
 // A state as text.
 
-ghost use Rattle.std.specs.Prelude.{◌≡◌, ◌++◌, ◌<◌, length, slice_get, Some, IfOk, OnOk, codes, decimal};
+ghost use Rattle.std.specs.Prelude.{◌≡◌, ◌++◌, ◌<◌, slice_get, Some, IfOk, OnOk, decimal};
 ghost use Rattle.std.specs.List.{flat_map};
 ghost use Rattle.hex.specs.Hex.{encode_lower};
 ghost use Rattle.insn.specs.Encoding.{program_bytes};
-ghost use Rattle.maps.specs.Shapes.{AreShapesSupported};
-ghost use Rattle.maps.specs.Maps.{MapState};
-ghost use Rattle.maps.specs.MapSets.{Stored, maps_of, stored_shapes};
 ghost use Rattle.verifier.specs.Accepted.{Checked};
 ghost use Rattle.loader.specs.Spelling.{mode_word};
-ghost use Rattle.dumps.specs.Dumping.{dump, entry_text};
-ghost use Rattle.dumps.specs.Written.{entry_line, map_text, maps_text, place_text, program_line_text};
+ghost use Rattle.dumps.specs.Dumping.{dump};
+ghost use Rattle.dumps.specs.Written.{program_line_text};
 
-use crate::loading::is_left_out;
-use crate::sorting::{KEY_ROOM, read_key, sorted_places};
+use crate::pieces::Dumping;
 use insn::{Insn, encode};
 use itoa::Buffer;
 use loader::{Installed, StoreState};
-use maps::MapSet;
 use std::alloc::{AllocError, Global};
 use verifier::{Accepted, Mode};
+
+// How many bytes of a text are made at once.
+const PIECE_BYTES: usize = 4096;
 
 // Adds a number in decimal.
 fn put_number(out: &mut Vec<u8>, n: u64) -> Result<(), AllocError>
@@ -35,89 +33,6 @@ fn put_hex(alloc: Global, out: &mut Vec<u8>, bytes: &[u8]) -> Result<(), AllocEr
 {
     let digits = hex::encode(alloc, bytes)?;
     out.extend_from_slice(digits.as_bytes())
-}
-
-// Adds the line of an entry of the map of this number.
-fn put_line(
-    alloc: Global,
-    out: &mut Vec<u8>,
-    map: u64,
-    key: &[u8],
-    value: &[u8],
-) -> Result<(), AllocError>
-    ensures { OnOk result (out.new.items ≡ out.old.items ++ (entry_text (entry_line map (key.now, value.now)) ++ codes "\n")) }
-{
-    put_number(out, map)?;
-    out.extend_from_slice(b" ")?;
-    put_hex(alloc, out, key)?;
-    out.extend_from_slice(b" ")?;
-    put_hex(alloc, out, value)?;
-    out.extend_from_slice(b"\n")
-}
-
-// Adds the line of the entry at a place of map `m`, unless that is left out.
-fn put_place(
-    alloc: Global,
-    out: &mut Vec<u8>,
-    maps: &MapSet,
-    m: usize,
-    place: u32,
-) -> Result<(), AllocError>
-    requires map { m < length (stored_shapes maps.now) }
-    requires shapes { AreShapesSupported (stored_shapes maps.now) }
-    ensures { OnOk result ((s : Stored) → slice_get maps.now m ≡ Some s
-        → out.new.items ≡ out.old.items ++ place_text m s place) }
-{
-    let mut room = [0u8; KEY_ROOM];
-    let Some(size) = read_key(maps, m, place, &mut room) else {
-        return Ok(());
-    };
-    let value = maps.value(maps.entry(m, place));
-    if is_left_out(maps.shape(m), value) {
-        return Ok(());
-    }
-    put_line(alloc, out, m as u64, &room[..size], value)
-}
-
-// Adds the lines of the entries at places of map `m`.
-fn put_places(
-    alloc: Global,
-    out: &mut Vec<u8>,
-    maps: &MapSet,
-    m: usize,
-    places: &[u32],
-) -> Result<(), AllocError>
-    requires map { m < length (stored_shapes maps.now) }
-    requires shapes { AreShapesSupported (stored_shapes maps.now) }
-    ensures { OnOk result ((s : Stored) → slice_get maps.now m ≡ Some s
-        → out.new.items ≡ out.old.items ++ flat_map (place_text m s) places.now) }
-{
-    for place in places {
-        put_place(alloc, out, maps, m, *place)?;
-    }
-    Ok(())
-}
-
-// Adds the lines of map `m`.
-fn put_map(alloc: Global, out: &mut Vec<u8>, maps: &MapSet, m: usize) -> Result<(), AllocError>
-    requires map { m < length (stored_shapes maps.now) }
-    requires shapes { AreShapesSupported (stored_shapes maps.now) }
-    ensures { OnOk result ((s : MapState) → slice_get (maps_of maps.now) m ≡ Some s
-        → out.new.items ≡ out.old.items ++ map_text m s) }
-{
-    let places = sorted_places(alloc, maps, m)?;
-    put_places(alloc, out, maps, m, &places)
-}
-
-// Adds the lines of all maps.
-fn put_maps(alloc: Global, out: &mut Vec<u8>, maps: &MapSet) -> Result<(), AllocError>
-    requires shapes { AreShapesSupported (stored_shapes maps.now) }
-    ensures { OnOk result (out.new.items ≡ out.old.items ++ maps_text 0 (maps_of maps.now)) }
-{
-    for m in 0..maps.count() {
-        put_map(alloc, out, maps, m)?;
-    }
-    Ok(())
 }
 
 // The word of a mode.
@@ -168,7 +83,11 @@ fn put_installed(
 }
 
 // Adds the lines of the programs that were installed.
-fn put_programs(alloc: Global, out: &mut Vec<u8>, programs: &Installed) -> Result<(), AllocError>
+pub(crate) fn put_programs(
+    alloc: Global,
+    out: &mut Vec<u8>,
+    programs: &Installed,
+) -> Result<(), AllocError>
     ensures { OnOk result (out.new.items ≡ out.old.items ++ flat_map program_line_text programs.now.programs) }
 {
     for k in 0..programs.len() {
@@ -188,11 +107,14 @@ fn put_programs(alloc: Global, out: &mut Vec<u8>, programs: &Installed) -> Resul
 pub fn dump(alloc: Global, state: &StoreState) -> Result<Vec<u8>, AllocError>
     ensures dumped { IfOk result (λ text. text.items ≡ dump state.now) }
 {
-    let mut out = Vec::new(alloc);
-    let programs = state.programs();
-    // (that a store may have these maps: the proof takes it from this call)
-    let _places = programs.places();
-    put_maps(alloc, &mut out, state.maps())?;
-    put_programs(alloc, &mut out, programs)?;
-    Ok(out)
+    let mut dumping = Dumping::new(alloc, state)?;
+    let mut text = Vec::new(alloc);
+    let mut room = [0u8; PIECE_BYTES];
+    loop {
+        let count = dumping.read(&mut room);
+        if count == 0 {
+            return Ok(text);
+        }
+        text.extend_from_slice(&room[..count])?;
+    }
 }

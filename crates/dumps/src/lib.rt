@@ -5,6 +5,7 @@ mod dumping;
 mod laws;
 mod lines;
 mod loading;
+mod pieces;
 mod refusals;
 mod sorting;
 
@@ -15,4 +16,5 @@ pub use laws::{
 };
 pub use lines::DUMP_LINE_BYTES;
 pub use loading::{load, load_for};
+pub use pieces::Dumping;
 pub use refusals::{DumpError, DumpFault, DumpRefusal};

@@ -8,4 +8,5 @@ pub mod RunsOfLines
 pub mod UnderLimits
 pub mod KeptRuns
 pub mod CutRuns
+pub mod SentPieces
 pub mod Export
