@@ -14,6 +14,8 @@ pub mod ProgramBytes
 pub mod Belongs
 pub mod Reread
 pub mod Writing
+pub mod KeyOrder
+pub mod Remaining
 pub mod LoadedFor
 pub mod Ascii
 pub mod LoadedState

@@ -1,5 +1,5 @@
 -- A state that a text says has the maps and the places that it was read for, and no more programs than places.
-use Rattle.std.proofs.Common.{◌≡◌, ◌≤◌, ◌<◌, ℕ, zero, suc, Bool, true, false, List, [], ◌∷◌, ◌++◌, length, Option, Some, None, Result, Ok, Err, refl, ap, ◌∙◌, subst, arith}
+use Rattle.std.proofs.Common.{◌≡◌, ◌≤◌, ◌<◌, ℕ, zero, suc, Bool, true, false, List, [], ◌∷◌, length, Option, Some, None, Result, Ok, Err, refl, ap, ◌∙◌, subst, arith}
 use Rattle.std.specs.Prelude.{nat_lt, slice_get, if◌then◌else◌, IfOk, MatchResult}
 use Rattle.std.proofs.lemmas.Bool.{ltb-true}
 use Rattle.std.proofs.lemmas.List.{length-append}
@@ -15,8 +15,8 @@ use Rattle.loader.specs.CatalogueView.{CatalogueView, MayOpenOn}
 use Rattle.dumps.specs.declared.refusals.DumpError.{DumpError}
 use Rattle.dumps.specs.declared.refusals.DumpFault.{DumpFault}
 use Rattle.dumps.specs.declared.refusals.DumpFault.TheVariants as faults
-use Rattle.dumps.specs.Grammar.{EntryLine, ProgramLine, Meaning, Entry, Program, ended_lines, line_meaning}
-use Rattle.dumps.specs.Loading.{Loading, Outcome, unless, in_map, entry_fault, with_entry, with_program, in_place, after_entry, after_program, after_meaning, after_line, after_ended, after_lines, either, opening, loaded_state}
+use Rattle.dumps.specs.Grammar.{EntryLine, Meaning, Entry, Program, ended_lines, line_meaning}
+use Rattle.dumps.specs.Loading.{Loading, unless, in_map, entry_fault, with_entry, with_program, in_place, after_meaning, after_line, after_ended, after_lines, either, opening, loaded_state}
 use Rattle.dumps.specs.Refusal.{LoadFails}
 
 opening_same : (shapes : List Shape) → shapes_of (opening_maps shapes) ≡ shapes

@@ -11,3 +11,4 @@ pub mod FirstBad
 -- What is kept of the lines before the one that is read, and the text map by map. No public clause cites these.
 pub mod Shown
 pub mod Written
+pub mod Pieces

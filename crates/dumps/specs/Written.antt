@@ -1,13 +1,10 @@
 -- The text of a state map by map, as it is written. No public clause cites this module.
-use Rattle.std.specs.Prelude.{ℕ, ◌+◌, List, [], ◌∷◌, ◌++◌, map, Option, Some, None, slice_get, Vec, codes, if◌then◌else◌}
-use Rattle.std.specs.List.{flat_map}
-use Rattle.std.specs.Ordering.{nat_cmp}
-use Rattle.std.specs.Cmp.Lexicographic.{slice_cmp}
+use Rattle.std.specs.Prelude.{◌≡◌, ℕ, zero, suc, ◌+◌, List, [], ◌∷◌, ◌++◌, Contains, Option, Some, None, is_some, nat_eq, slice_get, unwrap_or, codes, if◌then◌else◌}
+use Rattle.std.specs.List.{IsDistinct, flat_map}
 use Rattle.std.specs.FinMap as finite_map
-use Rattle.std.specs.FinMap.{put}
 use Rattle.maps.specs.declared.shapes.Shape.{Shape}
 use Rattle.maps.specs.Maps.{Entries, Maps, MapState}
-use Rattle.maps.specs.MapSets.{Stored, entries_of, flat}
+use Rattle.maps.specs.MapSets.{Contents, Stored, entries_of, flat, key_at}
 use Rattle.verifier.specs.Accepted.{Checked}
 use Rattle.dumps.specs.Grammar.{EntryLine}
 use Rattle.dumps.specs.Loading.{is_left_out}
@@ -38,21 +35,41 @@ maps_text n (s ∷ maps) = map_text n s ++ maps_text (n + 1) maps
 abbrev pub program_line_text : Checked → List ℕ
 program_line_text c = program_text (program_line c) ++ codes "\n"
 
--- ---- entries that are sorted
+-- ---- the entries at places
 
--- keys and values, each in room of its own
-abbrev pub shown : {X Y : Type 0} → List (Vec ℕ X × Vec ℕ Y) → List Pair
-shown es = map (λ e. (e.0.items, e.1.items)) es
+-- a key with its value, if it has one
+abbrev pub with_value : List ℕ → Option (List ℕ) → List Pair
+with_value key None = []
+with_value key (Some value) = (key, value) ∷ []
 
--- a key that has a value, in its place among others
-abbrev pub with_value : List ℕ → Option (List ℕ) → List Pair → List Pair
-with_value key None es = es
-with_value key (Some value) es = put (slice_cmp nat_cmp) key value es
+-- the entry of a key, if there is one
+abbrev pub with_key : Entries → Option (List ℕ) → List Pair
+with_key entries None = []
+with_key entries (Some key) = with_value key (finite_map.get entries key)
 
-abbrev pub with_key : Entries → Option (List ℕ) → List Pair → List Pair
-with_key entries None es = es
-with_key entries (Some key) es = with_value key (finite_map.get entries key) es
+-- the entry at a place of a map, if the place has a key
+abbrev pub entry_at : Stored → ℕ → List Pair
+entry_at s place = with_key (entries_of s) (flat (slice_get s.keys place))
 
--- the entry of the key that stands at a place of a map, in its place among others
-abbrev pub with_place : Stored → ℕ → List Pair → List Pair
-with_place s place es = with_key (entries_of s) (flat (slice_get s.keys place)) es
+-- the entries at places, one after another
+abbrev pub entries_at : Stored → List ℕ → List Pair
+entries_at s places = flat_map (entry_at s) places
+
+-- the line of the entry at a place of map m, unless that is left out
+abbrev pub place_text : ℕ → Stored → ℕ → List ℕ
+place_text m s place = flat_map (kept_text m s.shape) (entry_at s place)
+
+-- the bytes of the key at a place of map m; none if the place has no key
+abbrev pub bytes_at : Contents → ℕ → ℕ → List ℕ
+bytes_at c m place = unwrap_or (key_at c m place) []
+
+-- the places below n that have a key
+abbrev pub keyed_below : Stored → ℕ → List ℕ
+keyed_below s zero = []
+keyed_below s (suc n) = keyed_below s n ++ (if is_some (flat (slice_get s.keys n)) then n ∷ [] else [])
+
+-- no two places have the same key, and each place that has a key is one of these, once
+pub record HoldsKeys (s : Stored) (places : List ℕ) : Type 0 where
+  pub apart : (p q : ℕ) (key : List ℕ) → slice_get s.keys p ≡ Some (Some key) → slice_get s.keys q ≡ Some (Some key) → p ≡ q
+  pub once : IsDistinct nat_eq places
+  pub all : (p : ℕ) (key : List ℕ) → slice_get s.keys p ≡ Some (Some key) → Contains places p

@@ -1,26 +1,23 @@
 // A state as text.
 
-ghost use Rattle.std.specs.Prelude.{◌≡◌, ◌++◌, ◌<◌, length, slice_get, Some, IfOk, IfSome, OnOk, codes, decimal};
+ghost use Rattle.std.specs.Prelude.{◌≡◌, ◌++◌, ◌<◌, slice_get, Some, IfOk, OnOk, decimal};
 ghost use Rattle.std.specs.List.{flat_map};
-ghost use Rattle.std.specs.FinMap as finite_map;
 ghost use Rattle.hex.specs.Hex.{encode_lower};
 ghost use Rattle.insn.specs.Encoding.{program_bytes};
-ghost use Rattle.maps.specs.Shapes.{entry_count};
-ghost use Rattle.maps.specs.Maps.{MapState};
-ghost use Rattle.maps.specs.MapSets.{Stored, maps_of, stored_shapes};
 ghost use Rattle.verifier.specs.Accepted.{Checked};
 ghost use Rattle.loader.specs.Spelling.{mode_word};
-ghost use Rattle.dumps.specs.Dumping.{dump, entry_text};
-ghost use Rattle.dumps.specs.Written.{entry_line, kept_text, map_text, maps_text, program_line_text, shown, with_place};
+ghost use Rattle.dumps.specs.Dumping.{dump};
+ghost use Rattle.dumps.specs.Written.{program_line_text};
 
-use crate::loading::is_left_out;
+use crate::pieces::Dumping;
 use insn::{Insn, encode};
 use itoa::Buffer;
 use loader::{Installed, StoreState};
-use maps::{MapSet, Shape};
 use std::alloc::{AllocError, Global};
-use std::collections::BTreeMap;
 use verifier::{Accepted, Mode};
+
+// How many bytes of a text are made at once.
+const PIECE_BYTES: usize = 4096;
 
 // Adds a number in decimal.
 fn put_number(out: &mut Vec<u8>, n: u64) -> Result<(), AllocError>
@@ -36,99 +33,6 @@ fn put_hex(alloc: Global, out: &mut Vec<u8>, bytes: &[u8]) -> Result<(), AllocEr
 {
     let digits = hex::encode(alloc, bytes)?;
     out.extend_from_slice(digits.as_bytes())
-}
-
-// Adds the line of an entry of the map of this number.
-fn put_line(
-    alloc: Global,
-    out: &mut Vec<u8>,
-    map: u64,
-    key: &[u8],
-    value: &[u8],
-) -> Result<(), AllocError>
-    ensures { OnOk result (out.new.items ≡ out.old.items ++ (entry_text (entry_line map (key.now, value.now)) ++ codes "\n")) }
-{
-    put_number(out, map)?;
-    out.extend_from_slice(b" ")?;
-    put_hex(alloc, out, key)?;
-    out.extend_from_slice(b" ")?;
-    put_hex(alloc, out, value)?;
-    out.extend_from_slice(b"\n")
-}
-
-// Adds the lines of a map's entries that aren't left out.
-fn put_sorted(
-    alloc: Global,
-    out: &mut Vec<u8>,
-    map: u64,
-    shape: Shape,
-    sorted: &BTreeMap<Vec<u8>, Vec<u8>>,
-) -> Result<(), AllocError>
-    ensures { OnOk result (out.new.items ≡ out.old.items ++ flat_map (kept_text map shape) (shown sorted.now.entries)) }
-{
-    for entry in sorted {
-        if !is_left_out(shape, entry.1) {
-            put_line(alloc, out, map, entry.0, entry.1)?;
-        }
-    }
-    Ok(())
-}
-
-// Puts what stands at a place of map `m` among what stands at others.
-fn sort_in(
-    alloc: Global,
-    sorted: &mut BTreeMap<Vec<u8>, Vec<u8>>,
-    maps: &MapSet,
-    m: usize,
-    place: u32,
-) -> Result<(), AllocError>
-    requires map { m < length (stored_shapes maps.now) }
-    requires place { IfSome (slice_get (stored_shapes maps.now) m) (λ s. place < entry_count s) }
-    ensures { OnOk result ((s : Stored) → slice_get maps.now m ≡ Some s
-        → shown sorted.new.entries ≡ with_place s place (shown sorted.old.entries)) }
-{
-    let mut key = vec![in alloc; 0u8; maps.shape(m).key_bytes()]?;
-    if maps.key(m, place, &mut key) {
-        let value = Vec::from_slice(alloc, maps.value(maps.entry(m, place)))?;
-        sorted.insert(key, value)?;
-    }
-    Ok(())
-}
-
-// The entries of map `m` in the order of their keys.
-fn sorted(alloc: Global, maps: &MapSet, m: usize) -> Result<BTreeMap<Vec<u8>, Vec<u8>>, AllocError>
-    requires map { m < length (stored_shapes maps.now) }
-    ensures { IfOk result (λ t. (s : MapState) → slice_get (maps_of maps.now) m ≡ Some s
-        → shown t.entries ≡ finite_map.entries s.entries) }
-{
-    let mut sorted = BTreeMap::new(alloc);
-    let mut place = maps.places(m);
-    while place > 0 {
-        place -= 1;
-        sort_in(alloc, &mut sorted, maps, m, place)?;
-    }
-    Ok(sorted)
-}
-
-// Adds the lines of map `m`.
-fn put_map(alloc: Global, out: &mut Vec<u8>, maps: &MapSet, m: usize) -> Result<(), AllocError>
-    requires map { m < length (stored_shapes maps.now) }
-    ensures { OnOk result ((s : MapState) → slice_get (maps_of maps.now) m ≡ Some s
-        → out.new.items ≡ out.old.items ++ map_text m s) }
-{
-    let shape = maps.shape(m);
-    let entries = sorted(alloc, maps, m)?;
-    put_sorted(alloc, out, m as u64, shape, &entries)
-}
-
-// Adds the lines of all maps.
-fn put_maps(alloc: Global, out: &mut Vec<u8>, maps: &MapSet) -> Result<(), AllocError>
-    ensures { OnOk result (out.new.items ≡ out.old.items ++ maps_text 0 (maps_of maps.now)) }
-{
-    for m in 0..maps.count() {
-        put_map(alloc, out, maps, m)?;
-    }
-    Ok(())
 }
 
 // The word of a mode.
@@ -179,7 +83,11 @@ fn put_installed(
 }
 
 // Adds the lines of the programs that were installed.
-fn put_programs(alloc: Global, out: &mut Vec<u8>, programs: &Installed) -> Result<(), AllocError>
+pub(crate) fn put_programs(
+    alloc: Global,
+    out: &mut Vec<u8>,
+    programs: &Installed,
+) -> Result<(), AllocError>
     ensures { OnOk result (out.new.items ≡ out.old.items ++ flat_map program_line_text programs.now.programs) }
 {
     for k in 0..programs.len() {
@@ -191,7 +99,7 @@ fn put_programs(alloc: Global, out: &mut Vec<u8>, programs: &Installed) -> Resul
 /// A state as text: what [`load`](crate::load) reads as that state.
 ///
 /// A line `MAP KEYHEX VALUEHEX` for each entry that is there, in the order of the maps' numbers and then of the keys' bytes, without the zeros of arrays; and then a line
-/// `p MODE ARGLEN HEX` for each program that was installed. Keys are sorted one map after another: that takes time of n times log n, and room for a map's keys and values.
+/// `p MODE ARGLEN HEX` for each program that was installed. Keys are sorted one map after another: that takes time of n times log n, and four bytes for each key of a map.
 ///
 /// # Errors
 ///
@@ -199,8 +107,14 @@ fn put_programs(alloc: Global, out: &mut Vec<u8>, programs: &Installed) -> Resul
 pub fn dump(alloc: Global, state: &StoreState) -> Result<Vec<u8>, AllocError>
     ensures dumped { IfOk result (λ text. text.items ≡ dump state.now) }
 {
-    let mut out = Vec::new(alloc);
-    put_maps(alloc, &mut out, state.maps())?;
-    put_programs(alloc, &mut out, state.programs())?;
-    Ok(out)
+    let mut dumping = Dumping::new(alloc, state)?;
+    let mut text = Vec::new(alloc);
+    let mut room = [0u8; PIECE_BYTES];
+    loop {
+        let count = dumping.read(&mut room);
+        if count == 0 {
+            return Ok(text);
+        }
+        text.extend_from_slice(&room[..count])?;
+    }
 }

@@ -5,7 +5,9 @@ mod dumping;
 mod laws;
 mod lines;
 mod loading;
+mod pieces;
 mod refusals;
+mod sorting;
 
 pub use dumping::dump;
 pub use laws::{
@@ -14,4 +16,5 @@ pub use laws::{
 };
 pub use lines::DUMP_LINE_BYTES;
 pub use loading::{load, load_for};
+pub use pieces::Dumping;
 pub use refusals::{DumpError, DumpFault, DumpRefusal};

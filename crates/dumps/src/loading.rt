@@ -258,10 +258,7 @@ fn opened(alloc: Global, shapes: &[Shape], places: usize) -> Result<PartialState
     ensures opened { MatchResult result (λ s. view_of s ≡ opening shapes.now places) (λ e. e ≡ NoMemory) }
     ensures for_shapes { IfOk result (λ s. IsFor shapes.now s) }
 {
-    let maps = match MapSet::open(alloc, shapes) {
-        Ok(maps) => maps,
-        Err(_) => return Err(DumpError::NoMemory),
-    };
+    let maps = MapSet::open_supported(alloc, shapes)?;
     let installed = Installed::open(alloc, shapes, places)?;
     Ok(PartialState {
         maps,

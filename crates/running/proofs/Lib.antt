@@ -9,4 +9,5 @@ pub mod UnderLimits
 pub mod KeptRuns
 pub mod CutRuns
 pub mod RunWrites
+pub mod SentPieces
 pub mod Export

@@ -14,6 +14,7 @@ ghost use Rattle.running.specs.Running.{IsSteady, HasLeft, with_signs};
 use crate::lines::take_lines;
 use crate::signed_texts::signed_text;
 use crate::single_node::{RUN_PLACES, SingleNode};
+use dumps::Dumping;
 use engine::{
     Answering, Command, Gathered, Notes, Opened, Reply, Sink, Status, Texts, Verdict, not_text,
     open_texts,
@@ -21,6 +22,9 @@ use engine::{
 use loader::{Catalogue, StoreState};
 use oplog::MAX_LIMIT;
 use std::alloc::{AllocError, Global};
+
+// How many bytes of a text are written at once.
+const PIECE_BYTES: usize = 4096;
 
 /// What a run writes, and the state that it leaves.
 #[derive(Drop)]
@@ -136,16 +140,31 @@ impl Command for Run {
     }
 }
 
+// Writes what is left of a state's text.
+fn send_pieces<D: Sink>(dumping: &mut Dumping<'_>, writer: &mut D) -> Status
+    ensures written { Dumps (D.contents writer.old) (D.contents writer.new) result dumping.old }
+    ensures failed { Failed result ⊥ (D.has_failed writer.new) }
+{
+    let mut room = [0u8; PIECE_BYTES];
+    loop {
+        let count = dumping.read(&mut room);
+        if count == 0 {
+            return Status::Good;
+        }
+        match writer.send(&room[..count]) {
+            Ok(()) => {}
+            Err(_) => return Status::CannotWrite,
+        }
+    }
+}
+
 /// Writes a state as text. Says how it ended: where memory runs out, nothing is written.
 pub fn dump_to<D: Sink>(alloc: Global, state: &StoreState, writer: &mut D) -> Status
     ensures written { Dumps (D.contents writer.old) (D.contents writer.new) result (dump state.now) }
     ensures failed { Failed result ⊥ (D.has_failed writer.new) }
 {
-    match dumps::dump(alloc, state) {
-        Ok(text) => match writer.send(&text) {
-            Ok(()) => Status::Good,
-            Err(_) => Status::CannotWrite,
-        },
+    match Dumping::new(alloc, state) {
+        Ok(mut dumping) => send_pieces(&mut dumping, writer),
         Err(_) => Status::NoMemory,
     }
 }

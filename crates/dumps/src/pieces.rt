@@ -1,0 +1,244 @@
+// A state as text, piece by piece.
+
+ghost use Rattle.std.specs.Prelude.{◌≡◌, ◌++◌, ◌+◌, ◌*◌, ◌≤◌, ◌<◌, [], IfOk, IfSome, IfNone, codes, drop, length, take};
+ghost use Rattle.hex.specs.Hex.{encode_lower};
+ghost use Rattle.maps.specs.Shapes.{AreShapesSupported};
+ghost use Rattle.maps.specs.MapSets.{Contents, stored_shapes};
+ghost use Rattle.dumps.specs.Dumping.{dump, entry_text};
+ghost use Rattle.dumps.specs.Written.{entry_line};
+ghost use Rattle.dumps.specs.Pieces.{HaveLines, left_in, left_text, row_text, rows_left, rows_of};
+
+use crate::dumping::put_programs;
+use crate::lines::DUMP_LINE_BYTES;
+use crate::loading::is_left_out;
+use crate::sorting::{KEY_ROOM, read_key, sorted_places};
+use itoa::Buffer;
+use loader::StoreState;
+use maps::MapSet;
+use std::alloc::{AllocError, Global};
+use std::marker::Model;
+
+// Writes bytes after the first `at` ones of room, and says where they end.
+fn put(room: &mut [u8], at: usize, bytes: &[u8]) -> usize
+    requires room { at + length bytes.now ≤ length room.old }
+    ensures end { result ≡ at + length bytes.now }
+    ensures put { take result room.new ≡ take at room.old ++ bytes.now }
+{
+    let end = at + bytes.len();
+    room[at..end].copy_from_slice(bytes);
+    end
+}
+
+// Writes bytes in hexadecimal.
+fn put_hex(room: &mut [u8], at: usize, bytes: &[u8]) -> usize
+    requires room { at + 2 * length bytes.now ≤ length room.old }
+    ensures end { result ≡ at + 2 * length bytes.now }
+    ensures put { take result room.new ≡ take at room.old ++ encode_lower bytes.now }
+{
+    let end = at + 2 * bytes.len();
+    let _written = hex::encode_to_slice(bytes, &mut room[at..end]);
+    end
+}
+
+// Writes the line of an entry of the map of this number.
+fn put_line(room: &mut [u8], at: usize, map: u64, key: &[u8], value: &[u8]) -> usize
+    requires room { at + DUMP_LINE_BYTES ≤ length room.old }
+    requires key { length key.now ≤ 64 }
+    requires value { length value.now ≤ 256 }
+    ensures within { (at < result) × (result ≤ length room.old) }
+    ensures put { take result room.new ≡ take at room.old ++ (entry_text (entry_line map (key.now, value.now)) ++ codes "\n") }
+{
+    let mut digits = Buffer::new();
+    let number = put(room, at, digits.format(map).as_bytes());
+    let first = put(room, number, b" ");
+    let key_end = put_hex(room, first, key);
+    let second = put(room, key_end, b" ");
+    let value_end = put_hex(room, second, value);
+    put(room, value_end, b"\n")
+}
+
+// Writes the line of the entry at a place of map `m`, unless that is left out.
+fn put_place(room: &mut [u8], at: usize, maps: &MapSet, m: usize, place: u32) -> usize
+    requires room { at + DUMP_LINE_BYTES ≤ length room.old }
+    requires map { m < length (stored_shapes maps.now) }
+    requires shapes { AreShapesSupported (stored_shapes maps.now) }
+    ensures within { (at ≤ result) × (result ≤ length room.old) }
+    ensures put { take result room.new ≡ take at room.old ++ row_text maps.now m place }
+{
+    let mut key = [0u8; KEY_ROOM];
+    let Some(size) = read_key(maps, m, place, &mut key) else {
+        return at;
+    };
+    let value = maps.value(maps.entry(m, place));
+    if is_left_out(maps.shape(m), value) {
+        return at;
+    }
+    put_line(room, at, m as u64, &key[..size], value)
+}
+
+// What comes next: this row of the table of this map; after all tables, this byte of the programs' lines.
+#[derive(Clone, Copy)]
+struct Next {
+    map: usize,
+    row: usize,
+    byte: usize,
+}
+
+// All is left.
+fn first() -> Next
+    ensures { result ≡ record { map = 0; row = 0; byte = 0 } }
+{
+    Next {
+        map: 0,
+        row: 0,
+        byte: 0,
+    }
+}
+
+// A place of a map.
+#[derive(Clone, Copy)]
+struct Row {
+    map: usize,
+    place: u32,
+}
+
+// Takes the next row of tables, if one is left.
+fn next_row(tables: &Vec<Vec<u32>>, next: &mut Next) -> Option<Row>
+    ensures row { IfSome result (λ r. (c : Contents) → left_in c (rows_of tables.now.items) next.old.map next.old.row
+        ≡ row_text c r.map r.place ++ left_in c (rows_of tables.now.items) next.new.map next.new.row) }
+    ensures map { IfSome result (λ r. r.map < length tables.now.items) }
+    ensures fewer { IfSome result (λ _. rows_left (rows_of tables.now.items) next.new.map next.new.row < rows_left (rows_of tables.now.items) next.old.map next.old.row) }
+    ensures end { IfNone result ((c : Contents) → left_in c (rows_of tables.now.items) next.old.map next.old.row ≡ []) }
+    ensures none { IfNone result ((c : Contents) → left_in c (rows_of tables.now.items) next.new.map next.new.row ≡ []) }
+    ensures byte { next.new.byte ≡ next.old.byte }
+{
+    while next.map < tables.len() {
+        let table = &tables[next.map];
+        let map = next.map;
+        if next.row < table.len() {
+            let place = table[next.row];
+            next.row += 1;
+            return Some(Row { map, place });
+        }
+        next.map += 1;
+        next.row = 0;
+    }
+    None
+}
+
+// Writes the next bytes of the programs' lines, as many as there is room for.
+fn put_part(room: &mut [u8], at: usize, lines: &[u8], next: &mut Next) -> usize
+    requires at { at ≤ length room.old }
+    requires byte { next.old.byte ≤ length lines.now }
+    ensures part { take result room.new ++ drop next.new.byte lines.now ≡ take at room.old ++ drop next.old.byte lines.now }
+    ensures bound { (at ≤ result) × (result ≤ length room.old) }
+    ensures end { result ≡ at → at < length room.old → drop next.old.byte lines.now ≡ [] }
+    ensures byte { next.new.byte ≤ length lines.now }
+    ensures same { (next.new.map ≡ next.old.map) × (next.new.row ≡ next.old.row) }
+{
+    let rest = &lines[next.byte..];
+    let count = rest.len().min(room.len() - at);
+    next.byte += count;
+    put(room, at, &rest[..count])
+}
+
+// Writes the next bytes of what is left, as many as there is room for, whole lines of maps alone.
+fn read_next(
+    maps: &MapSet,
+    tables: &Vec<Vec<u32>>,
+    lines: &[u8],
+    next: &mut Next,
+    room: &mut [u8],
+) -> usize
+    requires shapes { AreShapesSupported (stored_shapes maps.now) }
+    requires tables { length tables.now.items ≤ length (stored_shapes maps.now) }
+    requires byte { next.old.byte ≤ length lines.now }
+    requires room { DUMP_LINE_BYTES ≤ length room.old }
+    ensures read { left_text maps.now (rows_of tables.now.items) lines.now next.old ≡ take result room.new ++ left_text maps.now (rows_of tables.now.items) lines.now next.new }
+    ensures end { result ≡ 0 → left_text maps.now (rows_of tables.now.items) lines.now next.old ≡ [] }
+    ensures bound { result ≤ length room.new }
+    ensures byte { next.new.byte ≤ length lines.now }
+{
+    let mut at = 0;
+    while room.len() - at >= DUMP_LINE_BYTES {
+        match next_row(tables, next) {
+            Some(row) => at = put_place(room, at, maps, row.map, row.place),
+            None => return put_part(room, at, lines, next),
+        }
+    }
+    at
+}
+
+/// The text of a state, piece by piece: what is left of it. It needs four bytes for each key of the maps, which it
+/// takes when it is made, and no more.
+#[derive(Drop)]
+pub struct Dumping<'a> {
+    maps: &'a MapSet,
+    // Of each map the places of its keys, in the order of the keys.
+    tables: Vec<Vec<u32>>,
+    // The lines of the programs.
+    lines: Vec<u8>,
+    next: Next,
+}
+
+// The tables of all maps.
+fn sorted_tables(alloc: Global, maps: &MapSet) -> Result<Vec<Vec<u32>>, AllocError>
+    requires shapes { AreShapesSupported (stored_shapes maps.now) }
+    ensures { IfOk result (λ v. HaveLines maps.now (length (stored_shapes maps.now)) (rows_of v.items)) }
+{
+    let mut tables = Vec::new(alloc);
+    for m in 0..maps.count() {
+        let table = sorted_places(alloc, maps, m)?;
+        tables.push(table)?;
+    }
+    Ok(tables)
+}
+
+impl<'a> Model for Dumping<'a> {
+    ghost use Rattle.std.specs.Prelude.{ℕ, List, ◌≤◌, length};
+    ghost use Rattle.maps.specs.Shapes.{AreShapesSupported};
+    ghost use Rattle.maps.specs.MapSets.{stored_shapes};
+
+    ghost Value = { List ℕ };
+
+    ghost use Rattle.dumps.specs.Pieces.{left_text, rows_of};
+
+    ghost view = { λ d. left_text d.maps.now (rows_of d.tables.items) d.lines.items d.next };
+
+    ghost invariant = { λ d. AreShapesSupported (stored_shapes d.maps.now) × (length d.tables.items ≤ length (stored_shapes d.maps.now)) × (d.next.byte ≤ length d.lines.items) };
+}
+
+impl<'a> Dumping<'a> {
+    /// All of the text of a state.
+    ///
+    /// # Errors
+    ///
+    /// The system has no memory left.
+    pub fn new(alloc: Global, state: &'a StoreState) -> Result<Dumping<'a>, AllocError>
+        ensures { IfOk result (λ d. d ≡ dump state.now) }
+    {
+        let maps = state.maps();
+        let programs = state.programs();
+        // (that a store may have these maps: the proof takes it from this call)
+        let _places = programs.places();
+        let tables = sorted_tables(alloc, maps)?;
+        let mut lines = Vec::new(alloc);
+        put_programs(alloc, &mut lines, programs)?;
+        Ok(Dumping {
+            maps,
+            tables,
+            lines,
+            next: first(),
+        })
+    }
+
+    /// Writes the next bytes of the text to the front of room, and says how many: none only at the end.
+    pub fn read(&mut self, room: &mut [u8]) -> usize
+        requires room { DUMP_LINE_BYTES ≤ length room.old }
+        ensures read { self.old ≡ take result room.new ++ self.new }
+        ensures end { result ≡ 0 → self.old ≡ [] }
+        ensures bound { result ≤ length room.new }
+    {
+        read_next(self.maps, &self.tables, &self.lines, &mut self.next, room)
+    }
+}
