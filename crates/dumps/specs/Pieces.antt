@@ -1,9 +1,10 @@
 -- The text that is left of a state, by the tables of the places of its keys. No public clause cites this module.
-use Rattle.std.specs.Prelude.{◌≡◌, ℕ, ◌+◌, ◌-◌, List, [], ◌∷◌, ◌++◌, drop, length, map, slice_get, Vec}
+use Rattle.std.specs.Prelude.{◌≡◌, ℕ, ◌+◌, ◌-◌, ◌<◌, List, [], ◌∷◌, ◌++◌, drop, length, map, slice_get, Vec}
 use Rattle.std.specs.List.{flat_map}
 use Rattle.std.specs.Option.{option_map_or}
 use Rattle.maps.specs.MapSets.{Contents, maps_of}
 use Rattle.dumps.specs.declared.pieces.Next.{Next}
+use Rattle.dumps.specs.declared.pieces.Row.{Row}
 use Rattle.dumps.specs.Written.{maps_text, place_text}
 
 -- the line of the entry at a place of map m, unless there is none
@@ -40,6 +41,18 @@ rows_left tables m row = rest_count row (drop m tables)
 -- what is left of the lines of tables, and of the lines after them
 abbrev pub left_text : Contents → List (List ℕ) → List ℕ → Next → List ℕ
 left_text c tables lines next = left_in c tables next.map next.row ++ drop next.byte lines
+
+-- these bytes were given of what was left, and this is left now
+abbrev pub Gives : Contents → List (List ℕ) → List ℕ → (old new : Next) → (given : List ℕ) → Type 0
+Gives c tables lines old new given = left_text c tables lines old ≡ given ++ left_text c tables lines new
+
+-- of the lines that were left this row's is the first, and these are left now, whatever the maps hold
+abbrev pub GivesRow : List (List ℕ) → (old new : Next) → Row → Type 0
+GivesRow tables old new r = (c : Contents) → left_in c tables old.map old.row ≡ row_text c r.map r.place ++ left_in c tables new.map new.row
+
+-- fewer rows are left
+abbrev pub HasFewer : List (List ℕ) → (old new : Next) → Type 0
+HasFewer tables old new = rows_left tables new.map new.row < rows_left tables old.map old.row
 
 -- a table for each of the first m maps, and their lines are those of these maps
 abbrev pub HaveLines : Contents → ℕ → List (List ℕ) → Type 0

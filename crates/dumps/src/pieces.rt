@@ -6,7 +6,7 @@ ghost use Rattle.maps.specs.Shapes.{AreShapesSupported};
 ghost use Rattle.maps.specs.MapSets.{Contents, stored_shapes};
 ghost use Rattle.dumps.specs.Dumping.{dump, entry_text};
 ghost use Rattle.dumps.specs.Written.{entry_line};
-ghost use Rattle.dumps.specs.Pieces.{HaveLines, left_in, left_text, row_text, rows_left, rows_of};
+ghost use Rattle.dumps.specs.Pieces.{Gives, GivesRow, HasFewer, HaveLines, left_in, left_text, row_text, rows_of};
 
 use crate::dumping::put_programs;
 use crate::lines::DUMP_LINE_BYTES;
@@ -104,10 +104,9 @@ struct Row {
 
 // Takes the next row of tables, if one is left.
 fn next_row(tables: &Vec<Vec<u32>>, next: &mut Next) -> Option<Row>
-    ensures row { IfSome result (λ r. (c : Contents) → left_in c (rows_of tables.now.items) next.old.map next.old.row
-        ≡ row_text c r.map r.place ++ left_in c (rows_of tables.now.items) next.new.map next.new.row) }
+    ensures row { IfSome result (GivesRow (rows_of tables.now.items) next.old next.new) }
     ensures map { IfSome result (λ r. r.map < length tables.now.items) }
-    ensures fewer { IfSome result (λ _. rows_left (rows_of tables.now.items) next.new.map next.new.row < rows_left (rows_of tables.now.items) next.old.map next.old.row) }
+    ensures fewer { IfSome result (λ _. HasFewer (rows_of tables.now.items) next.old next.new) }
     ensures end { IfNone result ((c : Contents) → left_in c (rows_of tables.now.items) next.old.map next.old.row ≡ []) }
     ensures none { IfNone result ((c : Contents) → left_in c (rows_of tables.now.items) next.new.map next.new.row ≡ []) }
     ensures byte { next.new.byte ≡ next.old.byte }
@@ -154,7 +153,7 @@ fn read_next(
     requires tables { length tables.now.items ≤ length (stored_shapes maps.now) }
     requires byte { next.old.byte ≤ length lines.now }
     requires room { DUMP_LINE_BYTES ≤ length room.old }
-    ensures read { left_text maps.now (rows_of tables.now.items) lines.now next.old ≡ take result room.new ++ left_text maps.now (rows_of tables.now.items) lines.now next.new }
+    ensures read { Gives maps.now (rows_of tables.now.items) lines.now next.old next.new (take result room.new) }
     ensures end { result ≡ 0 → left_text maps.now (rows_of tables.now.items) lines.now next.old ≡ [] }
     ensures bound { result ≤ length room.new }
     ensures byte { next.new.byte ≤ length lines.now }

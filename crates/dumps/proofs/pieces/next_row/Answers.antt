@@ -8,10 +8,8 @@ returns-then-next-len-clause-row c = λ d.
     let tables = c.args.tables.now.items in
     let t = c.index-table.result.now in
     let n = c.loop-next.next in
-    let all = c.loop-next-test.true in
-    let some = c.if-next-len.true in
-    let low : n.map < length tables = omega (arith, all, c.len.ensures, c.args.tables.now.ok.0) in
-    let within : n.row < length t.items = omega (arith, some, c.len-in-loop-next.ensures, t.ok.0) in
+    let low : n.map < length tables = omega (arith, c.loop-next-test.true, c.len.ensures, c.args.tables.now.ok.0) in
+    let within : n.row < length t.items = omega (arith, c.if-next-len.true, c.len-in-loop-next.ensures, t.ok.0) in
     c.loop-next.invariant.0 d ∙ row_on d (rows_of tables) n.map n.row t.items c.index-place.result.now (table_there tables n.map t low c.index-table.ensures) within c.index-place.ensures
 
 pub returns-then-next-len-clause-fewer : goal.returns-then-next-len-clause-fewer
@@ -19,10 +17,8 @@ returns-then-next-len-clause-fewer c =
     let tables = c.args.tables.now.items in
     let t = c.index-table.result.now in
     let n = c.loop-next.next in
-    let all = c.loop-next-test.true in
-    let some = c.if-next-len.true in
-    let low : n.map < length tables = omega (arith, all, c.len.ensures, c.args.tables.now.ok.0) in
-    let within : n.row < length t.items = omega (arith, some, c.len-in-loop-next.ensures, t.ok.0) in
+    let low : n.map < length tables = omega (arith, c.loop-next-test.true, c.len.ensures, c.args.tables.now.ok.0) in
+    let within : n.row < length t.items = omega (arith, c.if-next-len.true, c.len-in-loop-next.ensures, t.ok.0) in
     let less = count_row (rows_of tables) n.map n.row t.items (table_there tables n.map t low c.index-table.ensures) within in
     let before = c.loop-next.invariant.2 in
     omega (arith, less, before)
