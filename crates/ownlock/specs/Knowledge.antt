@@ -29,12 +29,17 @@ module _ {P N V : Type 0} (R : Rules P N V) where
       (progress : P) × (after ≡ holding k progress p x after.run) × Later k progress × ((notes : List N) × Possible after progress notes)
       × Adds k (Took p x) progress k.note after.run
 
-  -- the session k may put y back to the place p, which it holds: wherever the others are by then, its move is allowed and y agrees
+  -- at this progress and these notes the session k may change the value at the place p from x to y: the move is allowed, and y agrees after it
+  abbrev pub MayChange : (P → P) → (N → N) → Known P N V → ℕ → V → V → P → List N → Type 0
+  MayChange grown noted k p x y progress notes =
+      R.Moves p k.session x progress k.note (grown progress) (noted k.note)
+      × R.AgreesWith p (grown progress) (slice_set notes k.session (noted k.note)) y
+
+  -- the session k holds the place p, where it took some x, and may put y back: wherever the others are by then, it may change x to y
   abbrev pub MayPut : (P → P) → (N → N) → Known P N V → ℕ → V → Type 0
   MayPut grown noted k p y =
       (x : V) × (a : ℕ) × At a (p, x) k.held
-      × ((progress : P) (notes : List N) → Possible k progress notes
-      → R.Moves p k.session x progress k.note (grown progress) (noted k.note) × R.AgreesWith p (grown progress) (slice_set notes k.session (noted k.note)) y)
+      × ((progress : P) (notes : List N) → Possible k progress notes → MayChange grown noted k p x y progress notes)
 
   -- the session may find this progress, with some notes
   abbrev pub MayFind : Known P N V → P → Type 0
