@@ -16,12 +16,10 @@ use Rattle.maps.specs.declared.shapes.TheConstants.{MAX_MAPS}
 use Rattle.maps.specs.Maps.{Maps}
 use Rattle.verifier.specs.Accepted.{Checked, IsAccepted, signature_of, slot_of}
 use Rattle.verifier.specs.Rules.{is_map_index}
-use Rattle.verifier.proofs.Export.{not_false, unbroken_rules}
-use Rattle.verifier.proofs.Slots.{read, stands_in}
+use Rattle.verifier.proofs.Export.{not_false, read, stands_in, unbroken_rules}
 use Rattle.machine.specs.Effects.{Effect, effect, effect_of, IsRun}
 use Rattle.machine.specs.Isolation.{NamesMap, AgreeIn}
-use Rattle.machine.proofs.EffectsOfRuns.{are_runs}
-use Rattle.machine.proofs.Isolated.{others_stay, others_unseen}
+use Rattle.machine.proofs.Export.{are_runs, others_stay, others_unseen}
 use Rattle.named_maps.specs.Naming.{IsIn, NamesOnly, map_named, outside_of, is_outside, first_outside, is_low, names, names_here, NamingIsTested, OthersStay, OthersAreUnseen}
 
 -- ---- the map of one reference

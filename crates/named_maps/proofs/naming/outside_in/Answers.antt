@@ -1,8 +1,7 @@
 use Rattle.std.proofs.Common.{◌≡◌, ◌+◌, arith, refl, sym, ap, ◌∙◌, false, length}
 use Rattle.std.proofs.lemmas.Bool.{false≢true}
 use Rattle.insn.specs.Layout.{slot_count}
-use Rattle.verifier.proofs.Kept.{slot_after, stands_here}
-use Rattle.verifier.proofs.Slots.{stands_inside}
+use Rattle.verifier.proofs.Export.{slot_after, stands_here, stands_inside}
 use Rattle.named_maps.specs.Naming.{is_outside}
 use Rattle.named_maps.proofs.Named.{found_outside, none_outside, passed_on}
 use Rattle.named_maps.proofs.naming.outside_in.Goals as goal
