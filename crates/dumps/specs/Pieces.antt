@@ -1,4 +1,4 @@
--- The text that is left of a state, by the tables of the places of its keys. No public clause cites this module.
+-- The text that is left of a state, by the tables of the places of its keys. No clause of a call cites this module.
 use Rattle.std.specs.Prelude.{◌≡◌, ℕ, ◌+◌, ◌-◌, ◌<◌, List, [], ◌∷◌, ◌++◌, drop, length, map, slice_get, Vec}
 use Rattle.std.specs.List.{flat_map}
 use Rattle.std.specs.Option.{option_map_or}

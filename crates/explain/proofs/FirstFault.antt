@@ -23,7 +23,6 @@ use Rattle.loader.specs.Grammar.{ProgramLine, Meaning, Comment, Map, Program, li
 use Rattle.loader.specs.CatalogueView.{Entry, CatalogueView, names_of}
 use Rattle.loader.specs.ProgramFiles.{◌>>=◌, Files, file_named, or_bad_line, or_bad_hex, or_decode, bytes_of_hex, instructions_of, unless_refused, checked_program, entry_for}
 use Rattle.loader.specs.Loading.{are_few, is_taken, with_map, with_entry, with_program, after_meaning, after_line, after_lines, either, loaded, loaded_within}
-use Rattle.explain.specs.declared.files.manifest.TheConstants.{MAX_PROGRAMS}
 use Rattle.loader.proofs.Export.{entry_from, after_map, after_program}
 use Rattle.explain.specs.Listing.{head_text, refusal_text, IsReason}
 use Rattle.explain.specs.Manifest.{Above, nothing_above, has_map, has_name, is_full, is_misplaced, map_fault, with_line, with_shape, refused_by, line_fault, named_words, slot_fault, IsJudged, TellsOfRead, TellsOfFile, TellsWhereMap, TellsOfProgram, TellsOfLine, TellsOfLines, TellsOfAll}
@@ -110,17 +109,17 @@ module _ (a : Above) (c : CatalogueView) (k : HasRead c a) where
       (subst (λ ss. MapIs (with_map standard c s) (cond (ltb 0 (length c.programs)) (Some BadLine) (cond (are_few standard (ss ++ s ∷ [])) None (Some TooMany)))) k.shapes
       (by_tests (ltb 0 (length c.programs)) (are_few standard (c.shapes ++ s ∷ [])) after))
 
-  by_count : (n : ℕ) (w : CatalogueView) → is_err (cond {A = Result CatalogueView LoadFault} (ltb n MAX_PROGRAMS) (Ok w) (Err TooMany)) ≡ leb MAX_PROGRAMS n
-  by_count n w = by (ltb n MAX_PROGRAMS) refl
+  by_count : (n : ℕ) (w : CatalogueView) → is_err (cond {A = Result CatalogueView LoadFault} (ltb n 256) (Ok w) (Err TooMany)) ≡ leb 256 n
+  by_count n w = by (ltb n 256) refl
     where
-      by : (b : Bool) → ltb n MAX_PROGRAMS ≡ b → is_err (cond {A = Result CatalogueView LoadFault} b (Ok w) (Err TooMany)) ≡ leb MAX_PROGRAMS n
+      by : (b : Bool) → ltb n 256 ≡ b → is_err (cond {A = Result CatalogueView LoadFault} b (Ok w) (Err TooMany)) ≡ leb 256 n
       by true few = sym (lt-leb _ _ (ltb-true _ _ few))
       by false many = sym (le-leb _ _ (ltb-false _ _ many))
 
   -- and takes one more program unless it is one too many
   same_room : (entry : Entry) → is_err (with_entry c entry) ≡ is_full a
   unfolding with_entry
-  same_room entry = by_count (length c.programs) (record c { programs = c.programs ++ entry ∷ [] }) ∙ ap (λ n. leb MAX_PROGRAMS n) same_count
+  same_room entry = by_count (length c.programs) (record c { programs = c.programs ++ entry ∷ [] }) ∙ ap (λ n. leb 256 n) same_count
 
 pub rules_are_shared : RulesAreShared
 rules_are_shared a c k = record { map = same_map a c k; name = same_name a c k; room = same_room a c k }

@@ -11,7 +11,6 @@ use Rattle.maps.specs.Shapes.{standard}
 use Rattle.loader.specs.declared.refusals.LoadFault.{LoadFault}
 use Rattle.loader.specs.declared.refusals.LoadFault.TheVariants.{BadLine, BadHex, Decode, TooMany}
 use Rattle.loader.specs.Grammar.{ProgramLine, Meaning, Comment, Map, Program, line_meaning}
-use Rattle.explain.specs.declared.files.manifest.TheConstants.{MAX_PROGRAMS}
 use Rattle.loader.specs.ProgramFiles.{◌>>=◌, Files, file_named, or_bad_line, bytes_of_hex, instructions_of}
 use Rattle.loader.specs.Loading.{are_few}
 use Rattle.loader.specs.Refusal.{fault_number}
@@ -58,9 +57,9 @@ has_map a = nat_lt 0 (length a.shapes) || is_some a.bad_map
 abbrev pub has_name : Above → List ℕ → Bool
 has_name a name = list_any (λ n. bytes_eq n name) a.names
 
--- there are as many programs above as a manifest may have
+-- there are 256 programs above, as many as a manifest may have
 abbrev pub is_full : Above → Bool
-is_full a = nat_le MAX_PROGRAMS (length a.names)
+is_full a = nat_le 256 (length a.names)
 
 -- what is wrong with one more map: C1 after a program, C5 if the maps are then too many or too large
 abbrev pub map_fault : Above → Shape → Option LoadFault
