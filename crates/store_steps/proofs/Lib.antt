@@ -28,6 +28,14 @@ pub mod Turning
 pub mod Views
 pub mod PutBack
 pub mod AtOnce
+pub mod Handing
+pub mod Gathered
+pub mod Posting
+pub mod Collecting
+pub mod PostedEach
+pub mod GivenEach
+pub mod AskingEach
+pub mod BetweenHolds
 pub mod Gone
 pub mod Begun
 pub mod Export

@@ -35,3 +35,7 @@ pub mod Ready
 pub mod AtOnce
 -- An update by four takes whose session waits for nobody.
 pub mod Polling
+-- Updates of several sessions of one node in two holds of its desk.
+pub mod Pipelines
+-- What the parts of a pipeline do in each hold, and in the whole call.
+pub mod EachPart

@@ -82,6 +82,17 @@ impl Value {
         }
     }
 
+    // The desk that the value is.
+    pub(crate) fn desk(&self) -> &Desk
+        requires desk { IsSome (desk_of self.now) }
+        ensures desk { desk_of self.now ≡ Some result.now }
+    {
+        match self {
+            Value::Desk(desk) => desk,
+            Value::Log(_) | Value::Replica(_) => unreachable!(),
+        }
+    }
+
     // The desk that the value is, to change it.
     pub(crate) fn desk_mut(&mut self) -> &mut Desk
         requires desk { IsSome (desk_of self.old) }

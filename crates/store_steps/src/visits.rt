@@ -3,7 +3,7 @@
 ghost use Rattle.std.specs.Prelude.{◌≡◌, ◌<◌, IsSome, Some, IfNone, IfSome};
 ghost use Rattle.combiner.specs.Desks.{DeskView};
 ghost use Rattle.ownlock.specs.Held.{held_place};
-ghost use Rattle.store_steps.specs.AtDesk.{IsTurn};
+ghost use Rattle.store_steps.specs.AtDesk.{IsTurn, KeepsBatch};
 ghost use Rattle.store_steps.specs.Knowing.{IsOn, Knows, Learns};
 ghost use Rattle.store_steps.specs.Lending.{desk_of};
 ghost use Rattle.store_steps.specs.Standing.{IsFree};
@@ -46,6 +46,7 @@ pub(crate) fn turn_and_put(
     requires asked { MayTurn seat.old here.caller (held_place held) held.value }
     ensures same { seat.new.shelf ≡ seat.old.shelf }
     ensures turn { (x : DeskView) → desk_of held.value ≡ Some x → (y : DeskView) × IsTurn here.entry.caller.slot x y batch.new result }
+    ensures kept { KeepsBatch batch.old batch.new result }
     ensures turned { TurnsThere seat.old seat.new here.entry.caller (held_place held) held.value batch.new result }
 {
     let turn = desks::collect_or_claim(held.value.desk_mut(), here.caller.slot, batch);

@@ -1,0 +1,105 @@
+//! Several updates of one node's sessions at once.
+
+use crate::store::held_places::opened;
+use crate::store::single_store::ZERO;
+use crate::store::two_nodes::last_of;
+use combiner::Reply;
+use std::sync::Wait;
+use std::thread;
+use std::thread::Threads;
+use store::{Polled, Session, Store};
+use store_steps::{EachRoom, Part, Question};
+
+fn part_of(session: Session) -> Part {
+    let (seat, caller) = session.into_parts();
+    Part { seat, caller }
+}
+
+// Two updates of the counter at once, so many times. `None` where an answer has no index, or the indexes of two answers don't ascend.
+fn pairs_at_once<R: Wait>(
+    rt: &R,
+    store: &Store,
+    parts: &mut [Part],
+    rounds: usize,
+) -> Option<[u64; 2]> {
+    let calls = [Question {
+        program: 0,
+        argument: &ZERO,
+    }; 2];
+    let mut room = EachRoom::new();
+    let mut last = [0; 2];
+    for _ in 0..rounds {
+        let mut replies = [Reply::Ended; 2];
+        room.ask(rt, store.shared(), parts, &calls, &mut replies);
+        last = match replies {
+            [
+                Reply::Placed { index: first, .. },
+                Reply::Placed { index: second, .. },
+            ] => [first, second],
+            _ => return None,
+        };
+        if last[1] <= last[0] {
+            return None;
+        }
+    }
+    Some(last)
+}
+
+// So many updates of the counter by a session of its own.
+fn updates<R: Wait>(rt: &R, store: &Store, session: &mut Session, rounds: usize) -> bool {
+    for _ in 0..rounds {
+        if session.invoke(rt, store, 0, &ZERO).is_err() {
+            return false;
+        }
+    }
+    true
+}
+
+#[test]
+fn answers_have_ascending_indexes(rt: HostRuntime) {
+    let (store, mut sessions) = opened(rt.alloc(), 1, 2, 100).expect(&rt, "store");
+    let last = part_of(last_of(&store, &mut sessions));
+    let first = part_of(last_of(&store, &mut sessions));
+    sessions.destroy_empty();
+    let mut parts = [first, last];
+    assert_eq!(rt; pairs_at_once(&rt, &store, &mut parts, 3), Some([4, 5]));
+}
+
+// The history has its last record in the middle of the two.
+#[test]
+fn ends_within_the_calls(rt: HostRuntime) {
+    let (store, mut sessions) = opened(rt.alloc(), 1, 2, 1).expect(&rt, "store");
+    let last = part_of(last_of(&store, &mut sessions));
+    let first = part_of(last_of(&store, &mut sessions));
+    sessions.destroy_empty();
+    let mut parts = [first, last];
+    let mut replies = [Reply::Ended; 2];
+    let calls = [Question {
+        program: 0,
+        argument: &ZERO,
+    }; 2];
+    EachRoom::new().ask(&rt, store.shared(), &mut parts, &calls, &mut replies);
+    let placed = Reply::Placed { index: 0, reply: 1 };
+    assert_eq!(rt; replies, [placed, Reply::Ended]);
+}
+
+// Two sessions ask at once while a third one of their node updates on a thread of its own. All have got an index, each its own.
+#[test]
+fn ask_beside_a_session(rt: HostRuntime) {
+    let (store, mut sessions) = opened(rt.alloc(), 1, 3, 1000).expect(&rt, "store");
+    let mut other = last_of(&store, &mut sessions);
+    let last = part_of(last_of(&store, &mut sessions));
+    let first = part_of(last_of(&store, &mut sessions));
+    sessions.destroy_empty();
+    let mut parts = [first, last];
+    let (beside, reader) = (&mut other, &store);
+    let (pairs, done) = thread::join(
+        &rt,
+        || { pairs_at_once(&rt, reader, &mut parts, 50) },
+        || { updates(&rt, reader, beside, 50) },
+    );
+    let seen = other.read(&rt, &store, 1, &ZERO).map(|answer| answer.reply);
+    let _ = Polled::new(other);
+    assert_eq!(rt; (pairs.is_some(), done), (true, true));
+    assert_eq!(rt; seen.ok(), Some(150));
+}
