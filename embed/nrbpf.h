@@ -229,7 +229,7 @@ size_t nrbpf_error_text(const nrbpf_error *why, char *text, size_t room);
 typedef struct nrbpf_limits {
     // The most bytes of a key: 4 to 64.
     uint32_t key;
-    // The most bytes of a value: at most 256.
+    // The most bytes of a value: at most 16384.
     uint32_t value;
     // The most entries of a map: at most 2147483648.
     uint64_t entries;
@@ -237,7 +237,7 @@ typedef struct nrbpf_limits {
     uint64_t bytes;
 } nrbpf_limits;
 #define NRBPF_STANDARD {64, 256, 65536, 16777216}
-#define NRBPF_LARGE {64, 256, 2147483648, 1099511627776}
+#define NRBPF_LARGE {64, 16384, 2147483648, 1099511627776}
 
 typedef struct nrbpf_config {
     // NRBPF_VERSION.

@@ -379,6 +379,10 @@ static void refused_manifests() {
     for (const config &sizes : wrong) REFUSED(nrbpf::store(example("counter"), sizes), NRBPF_OUT_OF_LIMITS);
     REFUSED(open(with("map hash 8 8 65537\n")), NRBPF_BAD_LINE, 0, 1);
     nrbpf::store(with("map hash 8 8 65537\n"), config().with_limits(NRBPF_LARGE));
+    REFUSED(open(with("map array 257 2\n")), NRBPF_BAD_LINE, 0, 1);
+    const nrbpf::store long_values(with("map array 16384 2\n"), config().with_limits(NRBPF_LARGE));
+    const std::uint32_t index = 1;
+    EXPECT(long_values.attach().get(0, bytes_of(index)).value == std::string(16384, '\0'));
     config other;
     other.version += 1000;
     REFUSED(nrbpf::store(example("counter"), other), NRBPF_OTHER_VERSION);

@@ -23,7 +23,7 @@ import (
 
 // Limits says how large the maps of a manifest may be. A number that is 0 is that of Standard.
 type Limits struct {
-	Key, Value uint32 // the most bytes of a key, 4 to 64, and of a value, to 256
+	Key, Value uint32 // the most bytes of a key, 4 to 64, and of a value, to 16,384
 	Entries    uint64 // the most entries of a map, to 2^31
 	Bytes      uint64 // the most bytes of all maps, to 2^40
 }
@@ -31,7 +31,7 @@ type Limits struct {
 // Standard and Large are the limits without an option, and the widest.
 var (
 	Standard = Limits{64, 256, 65_536, 16_777_216}
-	Large    = Limits{64, 256, 1 << 31, 1 << 40}
+	Large    = Limits{64, 16_384, 1 << 31, 1 << 40}
 )
 
 // Config has the sizes of a store.

@@ -190,6 +190,11 @@ func TestLimits(t *testing.T) {
 		t.Fatal(err)
 	}
 	store.Close()
+	long := must(nrbpf.Open(config, nrbpf.Manifest{Text: "map array 16384 2\n"}))
+	t.Cleanup(func() { long.Close() })
+	session, value := attached(t, long, 0), []byte{16_383: 1}
+	same(t, "a long value", must(session.Get(0, u32(1), value)).IsThere, true)
+	same(t, "its zeros", bytes.Equal(value, make([]byte, 16_384)), true)
 	config.Limits.Entries++
 	refused(t, last(nrbpf.Open(config, past)), nrbpf.ErrOutOfLimits)
 }

@@ -53,7 +53,7 @@ static void configurations(void) {
         const uint32_t *it = outside[i];
         refuse_config((nrbpf_config){NRBPF_VERSION, it[0], it[1], it[2], it[3], it[4], {0, 0, 0, 0}}, NRBPF_O1);
     }
-    const nrbpf_limits wider[] = {{65, 0, 0, 0}, {3, 0, 0, 0}, {0, 257, 0, 0}, {0, 0, 2147483649, 0}, {0, 0, UINT64_MAX, 0}, {0, 0, 0, 1099511627777}};
+    const nrbpf_limits wider[] = {{65, 0, 0, 0}, {3, 0, 0, 0}, {0, 16385, 0, 0}, {0, 0, 2147483649, 0}, {0, 0, UINT64_MAX, 0}, {0, 0, 0, 1099511627777}};
     for (int i = 0; i < 6; i++) {
         wrong = good;
         wrong.limits = wider[i];
@@ -84,6 +84,38 @@ static void limits_of_maps(void) {
     EXPECT_STATUS(opened_with("map hash 8 8 17\n", narrow, NRBPF_VERSION), NRBPF_C1);
     EXPECT_STATUS(opened_with("map hash 8 8 16\n", narrow, NRBPF_VERSION), NRBPF_OK);
     EXPECT_STATUS(opened_with("map hash 8 8 2147483649\n", large, NRBPF_VERSION), NRBPF_C1);
+    EXPECT_STATUS(opened_with("map hash 8 16384 16\n", large, NRBPF_VERSION), NRBPF_OK);
+    EXPECT_STATUS(opened_with("map hash 8 16385 16\n", large, NRBPF_VERSION), NRBPF_C1);
+    EXPECT_STATUS(opened_with("map hash 8 257 16\n", standard, NRBPF_VERSION), NRBPF_C1);
+}
+
+// A value of 16,384 bytes is loaded, read by one call and by a page, and dumped.
+static void long_values(void) {
+    enum { BYTES = 16384, DIGITS = 2 * BYTES, KEY = 11 };
+    static char text[KEY + DIGITS + 2];
+    static uint8_t value[BYTES];
+    const char *manifest = "map array 16384 1\n";
+    nrbpf_config config = NRBPF_CONFIG(1, 1);
+    config.limits = (nrbpf_limits)NRBPF_LARGE;
+    memcpy(text, "0 00000000 ", KEY);
+    for (int i = 0; i < BYTES; i++) sprintf(text + KEY + 2 * i, "%02x", (unsigned)(i % 251));
+    text[KEY + DIGITS] = '\n';
+    nrbpf_state *state = NULL;
+    nrbpf_store *store = NULL;
+    EXPECT_STATUS(nrbpf_state_load(&config, manifest, strlen(manifest), NULL, 0, text, KEY + DIGITS + 1, &state, NULL), NRBPF_OK);
+    EXPECT_STATUS(nrbpf_open_on(&config, manifest, strlen(manifest), NULL, 0, state, &store, NULL), NRBPF_OK);
+    nrbpf_session *session = attached(store, 0);
+    const uint32_t key = 0;
+    nrbpf_found found;
+    EXPECT_STATUS(nrbpf_get(session, 0, &key, sizeof key, value, BYTES, &found), NRBPF_OK);
+    EXPECT(found.is_there && value[0] == 0 && value[BYTES - 1] == (BYTES - 1) % 251);
+    EXPECT_STATUS(nrbpf_get(session, 0, &key, sizeof key, value, BYTES - 1, &found), NRBPF_S12);
+    EXPECT_STATUS(nrbpf_detach(session), NRBPF_OK);
+    EXPECT_STATUS(nrbpf_close(store), NRBPF_OK);
+    static dump written;
+    dump_state(state, &written);
+    EXPECT(written.len == KEY + DIGITS + 1 && memcmp(written.text, text, written.len) == 0);
+    nrbpf_state_free(state);
 }
 
 static void manifests(void) {
@@ -513,6 +545,7 @@ int main(void) {
     EXPECT_STATUS(nrbpf_config_init(NULL, NRBPF_VERSION, 1, 1), NRBPF_H7);
     configurations();
     limits_of_maps();
+    long_values();
     manifests();
     null_pointers_of_open();
     names_and_ends();

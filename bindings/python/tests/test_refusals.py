@@ -53,7 +53,7 @@ class Openings(Refusals):
         for name, number in ((name, number) for name, numbers in outside.items() for number in numbers):
             with self.subTest(name, number=number):
                 self.refuses(Status.OUT_OF_LIMITS, nrbpf.open, example("counter"), **{name: number})
-        for limits in ({"key": 65}, {"value": 257}, {"entries": (1 << 31) + 1}, {"bytes": (1 << 40) + 1}):
+        for limits in ({"key": 65}, {"value": 16_385}, {"entries": (1 << 31) + 1}, {"bytes": (1 << 40) + 1}):
             with self.subTest(limits=limits):
                 self.refuses(Status.OUT_OF_LIMITS, nrbpf.open, example("counter"), limits=nrbpf.LARGE._replace(**limits))
         for sizes in ({"nodes": -1}, {"limit": 1 << 32}, {"limits": nrbpf.Limits(key=0)}):
@@ -64,6 +64,11 @@ class Openings(Refusals):
         past = nrbpf.Manifest("map hash 8 8 65537\n", {})
         self.refuses(Status.BAD_LINE, nrbpf.open, past, line=1)
         nrbpf.open(past, limits=nrbpf.LARGE).close()
+        long = nrbpf.Manifest("map array 16384 2\n", {})
+        self.refuses(Status.BAD_LINE, nrbpf.open, long, line=1)
+        with nrbpf.open(long, limits=nrbpf.LARGE) as store, store.attach() as session:
+            self.assertEqual(session.get(0, bytes(4)), (0, bytes(16_384)))
+            self.assertEqual([value for _, value in session.scan(0)], [bytes(16_384)] * 2)
         self.refuses(Status.BAD_LINE, nrbpf.open, nrbpf.Manifest("map hash 8 8 17\n", {}), limits=nrbpf.Limits(entries=16), line=1)
 
     def test_states(self):

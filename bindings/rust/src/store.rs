@@ -16,7 +16,7 @@ pub const ENDLESS: u32 = 0;
 pub struct Limits {
     /// The most bytes of a key, 4 to 64.
     pub key: u32,
-    /// The most bytes of a value, 1 to 256.
+    /// The most bytes of a value, 1 to 16,384.
     pub value: u32,
     /// The most entries of a map, 1 to 2^31.
     pub entries: u64,
@@ -25,11 +25,11 @@ pub struct Limits {
 }
 
 impl Limits {
-    /// Maps of 65,536 entries, and 16 MiB of all maps.
+    /// Values of 256 bytes, maps of 65,536 entries, and 16 MiB of all maps.
     pub const STANDARD: Limits = Limits { key: 64, value: 256, entries: 65_536, bytes: 16_777_216 };
 
-    /// Maps of 2^31 entries, and 2^40 bytes of all maps.
-    pub const LARGE: Limits = Limits { key: 64, value: 256, entries: 2_147_483_648, bytes: 1_099_511_627_776 };
+    /// Values of 16,384 bytes, maps of 2^31 entries, and 2^40 bytes of all maps.
+    pub const LARGE: Limits = Limits { key: 64, value: 16_384, entries: 2_147_483_648, bytes: 1_099_511_627_776 };
 }
 
 /// The sizes of a store, of [`Config::new`]. A later version may have more of them, so no literal makes one:

@@ -89,6 +89,11 @@ fn limits() {
     let too_large = Store::open(good, &manifest).expect_err("65,537 entries are past the standard limits").to_string();
     assert!(too_large.starts_with("line 1: C1: "), "{too_large}");
     assert!(Store::open(good.limits(Limits::LARGE), &manifest).is_ok());
+    let manifest = Manifest::new("map array 16384 2\n");
+    assert!(Store::open(good, &manifest).is_err());
+    let store = Store::open(good.limits(Limits::LARGE), &manifest).expect("values of 16,384 bytes are large");
+    let value = store.attach(0).and_then(|mut session| session.get(0, &[0; 4]));
+    assert_eq!(value, Ok(Some(vec![0; 16_384])));
     let mut narrow = Limits::STANDARD;
     narrow.entries = 16;
     let manifest = Manifest::new("map hash 8 8 17\n");

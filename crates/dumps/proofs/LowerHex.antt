@@ -8,7 +8,6 @@ use Rattle.std.proofs.lemmas.Slice.Eq.{bytes_eq-Decides}
 use Rattle.hex.specs.declared.error.FromHexError.{FromHexError}
 use Rattle.hex.specs.Hex.{IsBytes, decode_of, decode_pairs, digit_or_error, hex_digit_value, encode_lower, encode_with, lower_digits, pair_value, value_at, ◌>>=◌}
 use Rattle.hex.proofs.HexLemmas.{decode_of-ok, decode_of-even, decode_of-encode_lower, length-encode_with}
-use Rattle.text.specs.declared.lines.TheConstants.{LINE_BYTES}
 use Rattle.text.specs.Digits.{good, field_bytes}
 use Rattle.text.proofs.Export.{if_true}
 use Rattle.dumps.specs.Grammar.{is_lower_digit, lower_bytes}
@@ -120,20 +119,20 @@ some_left true field o bytes never h = absurd (never refl)
 some_left false [] o bytes never h = absurd cc
 some_left false (x ∷ xs) o bytes never h = sym (long false (x ∷ xs) o never (omega arith)) ∙ h
 
-pub lower_from : (field bytes : List ℕ) → lower_bytes field ≡ Some bytes → (field ≡ encode_lower bytes) × IsBytes bytes
+pub lower_from : (most : ℕ) (field bytes : List ℕ) → lower_bytes most field ≡ Some bytes → (field ≡ encode_lower bytes) × IsBytes bytes
 unfolding lower_bytes field_bytes
-lower_from field bytes h =
-    let first = if_true (leb (length field) LINE_BYTES && list_all is_lower_digit field) (field_bytes field) bytes h in
-    let lower = and_parts (leb (length field) LINE_BYTES) (list_all is_lower_digit field) first.0 in
+lower_from most field bytes h =
+    let first = if_true (leb (length field) (2 * most) && list_all is_lower_digit field) (field_bytes field) bytes h in
+    let lower = and_parts (leb (length field) (2 * most)) (list_all is_lower_digit field) first.0 in
     let read = good_ok (decode_of field) bytes (some_left (bytes_eq field (codes "-")) field (good (decode_of field)) bytes (no_dash field lower.1) first.1) in
     let ok = decode_of-ok field bytes read in
     (pairs_back 0 field bytes lower.1 (sym (decode_of-even field ok.0) ∙ read), ok.3)
 
-pub lower_to : (bytes : List ℕ) → IsBytes bytes → 0 < length bytes → length bytes ≤ 256 → lower_bytes (encode_lower bytes) ≡ Some bytes
+pub lower_to : (most : ℕ) (bytes : List ℕ) → IsBytes bytes → 0 < length bytes → length bytes ≤ most → lower_bytes most (encode_lower bytes) ≡ Some bytes
 unfolding lower_bytes field_bytes
-lower_to bytes are some few =
+lower_to most bytes are some few =
     let size : length (encode_lower bytes) ≡ 2 * length bytes = length-encode_with lower_digits bytes in
     let lower = lower_all bytes are in
-    let fits : leb (length (encode_lower bytes)) LINE_BYTES ≡ true = le-leb _ _ (omega (arith, size, few)) in
+    let fits : leb (length (encode_lower bytes)) (2 * most) ≡ true = le-leb _ _ (omega (arith, size, few)) in
     let read : good (decode_of (encode_lower bytes)) ≡ Some bytes = ap good (decode_of-encode_lower bytes are) in
     rw (fits, lower) (long (bytes_eq (encode_lower bytes) (codes "-")) (encode_lower bytes) (good (decode_of (encode_lower bytes))) (no_dash (encode_lower bytes) lower) (omega (arith, size, some)) ∙ read)

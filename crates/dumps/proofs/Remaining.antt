@@ -1,5 +1,5 @@
 -- What is left of a state's text, row by row and table by table.
-use Rattle.std.proofs.Common.{append_assoc, append-nil, ◌≡◌, ℕ, suc, ◌+◌, ◌-◌, ◌<◌, ◌≤◌, List, [], ◌∷◌, ◌++◌, map, length, take, drop, get_or, unwrap_or, Some, Vec, refl, sym, ap, ap₂, ◌∙◌, subst, arith, take-append-drop, drop-drop, le_refl}
+use Rattle.std.proofs.Common.{append_assoc, append-nil, ◌≡◌, ℕ, suc, ◌+◌, ◌-◌, ◌<◌, ◌≤◌, List, [], ◌∷◌, ◌++◌, length, take, drop, get_or, unwrap_or, Some, Vec, refl, sym, ap, ap₂, ◌∙◌, subst, arith, take-append-drop, drop-drop, le_refl}
 use Rattle.std.specs.Prelude.{slice_get}
 use Rattle.std.specs.Option.{option_map, option_map_or}
 use Rattle.std.specs.List.{flat_map}

@@ -8,9 +8,10 @@ use Rattle.std.proofs.lemmas.List.{length-append}
 use Rattle.hex.specs.Hex.{IsBytes, encode_lower, lower_digits}
 use Rattle.hex.proofs.HexLemmas.{length-encode_with}
 use Rattle.insn.specs.declared.decoding.TheConstants.{MAX_INSTALLED_SLOTS}
-use Rattle.maps.specs.declared.shapes.TheConstants.{MAX_ARG_LEN}
+use Rattle.maps.specs.declared.shapes.TheConstants.{MAX_ARG_LEN, MOST_VALUE_BYTES}
 use Rattle.verifier.specs.declared.refusal.Mode.{Mode}
 use Rattle.verifier.specs.declared.refusal.Mode.TheVariants.{Update, Read}
+use Rattle.text.specs.declared.digits.TheConstants.{FIELD_BYTES}
 use Rattle.text.specs.Fields.{split_at_space, is_space, has_no_space}
 use Rattle.text.specs.Words.{number_of, number_within}
 use Rattle.text.proofs.Export.{own, numerals_are_decimals, steps, where_true, unless, split_from, split_to}
@@ -37,11 +38,11 @@ unfolding entry_meaning
 entry_from map text m e =
     let field = steps (split_at_space text) _ m e in
     let number = steps (number_of map) _ m field.2 in
-    let key = steps (lower_bytes field.0.0) _ m number.2 in
-    let value = steps (lower_bytes field.0.1) _ m key.2 in
+    let key = steps (lower_bytes FIELD_BYTES field.0.0) _ m number.2 in
+    let value = steps (lower_bytes MOST_VALUE_BYTES field.0.1) _ m key.2 in
     let is : Entry (record { map = number.0; key = key.0; value = value.0 }) ≡ m = cc in
-    let key_hex = lower_from _ _ key.1 in
-    let value_hex = lower_from _ _ value.1 in
+    let key_hex = lower_from _ _ _ key.1 in
+    let value_hex = lower_from _ _ _ value.1 in
     let rest : text ≡ encode_lower key.0 ++ 32 ∷ encode_lower value.0 = split_from text field.0 field.1 ∙ ap₂ (λ a b. a ++ 32 ∷ b) key_hex.0 value_hex.0 in
     let whole : map ++ 32 ∷ text ≡ decimal number.0 ++ 32 ∷ (encode_lower key.0 ++ 32 ∷ encode_lower value.0) =
     ap₂ (λ a b. a ++ 32 ∷ b) ((numerals_are_decimals map number.0).0 number.1).0 rest in
@@ -54,10 +55,10 @@ program_from text m e =
     let second = steps (split_at_space first.0.1) _ m first.2 in
     let mode = steps (mode_of first.0.0) _ m second.2 in
     let len = steps (number_within 0 MAX_ARG_LEN second.0.0) _ m mode.2 in
-    let bytes = steps (lower_bytes second.0.1) _ m len.2 in
+    let bytes = steps (lower_bytes FIELD_BYTES second.0.1) _ m len.2 in
     let parts = where_true (leb (length bytes.0) (8 * MAX_INSTALLED_SLOTS)) (Program (record { mode = mode.0; arg_len = len.0; bytes = bytes.0 })) m bytes.2 in
     let number = within 0 MAX_ARG_LEN second.0.0 len.0 len.1 in
-    let hex = lower_from _ _ bytes.1 in
+    let hex = lower_from _ _ _ bytes.1 in
     let rest : first.0.1 ≡ decimal len.0 ++ 32 ∷ encode_lower bytes.0 =
     split_from first.0.1 second.0 second.1 ∙ ap₂ (λ a b. a ++ 32 ∷ b) number.0 hex.0 in
     let whole : text ≡ mode_word mode.0 ++ 32 ∷ (decimal len.0 ++ 32 ∷ encode_lower bytes.0) =
@@ -87,7 +88,7 @@ pub record EntryFits (e : EntryLine) : Type 0 where
   pub key_few : length e.key ≤ 64
   pub value : IsBytes e.value
   pub value_some : 0 < length e.value
-  pub value_few : length e.value ≤ 256
+  pub value_few : length e.value ≤ MOST_VALUE_BYTES
 
 pub record ProgramFits (p : ProgramLine) : Type 0 where
   pub argument : p.arg_len ≤ MAX_ARG_LEN
@@ -134,8 +135,8 @@ entry_to e f =
       no_letter e.map f.map,
       split_to (encode_lower e.key) (encode_lower e.value) (plain_hex e.key f.key),
       (numerals_are_decimals (decimal e.map) e.map).1 (refl, f.map),
-      lower_to e.key f.key f.key_some (omega (arith, f.key_few)),
-      lower_to e.value f.value f.value_some f.value_few,
+      lower_to FIELD_BYTES e.key f.key f.key_some (omega (arith, f.key_few)),
+      lower_to MOST_VALUE_BYTES e.value f.value f.value_some f.value_few,
     ) refl
 
 within_to : (n : ℕ) → n ≤ MAX_ARG_LEN → number_within 0 MAX_ARG_LEN (decimal n) ≡ Some n
@@ -166,7 +167,7 @@ program_to p f =
       split_to (decimal p.arg_len) (encode_lower p.bytes) (no_space_in_number p.arg_len small),
       mode_to p.mode,
       within_to p.arg_len f.argument,
-      lower_to p.bytes f.bytes f.some (omega (arith, f.few)),
+      lower_to FIELD_BYTES p.bytes f.bytes f.some (omega (arith, f.few)),
       le-leb (length p.bytes) (8 * MAX_INSTALLED_SLOTS) f.few,
     ) refl
 

@@ -2,9 +2,9 @@
 use Rattle.std.specs.Prelude.{◌≡◌, ℕ, ◌*◌, Bool, ◌&&◌, ◌||◌, List, [], ◌∷◌, length, Option, Some, None, nat_lt, nat_le, ◌==◌, if◌then◌else◌, codes, bytes_eq}
 use Rattle.std.specs.List.{list_all}
 use Rattle.insn.specs.declared.decoding.TheConstants.{MAX_INSTALLED_SLOTS}
-use Rattle.maps.specs.declared.shapes.TheConstants.{MAX_ARG_LEN}
+use Rattle.maps.specs.declared.shapes.TheConstants.{MAX_ARG_LEN, MOST_VALUE_BYTES}
 use Rattle.verifier.specs.declared.refusal.Mode.{Mode}
-use Rattle.text.specs.declared.lines.TheConstants.{LINE_BYTES}
+use Rattle.text.specs.declared.digits.TheConstants.{FIELD_BYTES}
 use Rattle.text.specs.Lines.{next_line}
 use Rattle.text.specs.Fields.{split_at_space}
 use Rattle.text.specs.Words.{◌>>=◌, number_of, number_within}
@@ -36,9 +36,9 @@ Takes old new (Some first) = (old.lines ≡ first.1 ∷ new.lines) × (first.0 �
 abbrev pub is_lower_digit : ℕ → Bool
 is_lower_digit c = (nat_le 48 c && nat_le c 57) || (nat_le 97 c && nat_le c 102)
 
--- HEX: pairs of hexadecimal digits in lower case, at least one and at most 256
-unfoldable pub lower_bytes : List ℕ → Option (List ℕ)
-lower_bytes field = if nat_le (length field) LINE_BYTES && list_all is_lower_digit field then field_bytes field else None
+-- HEX: pairs of hexadecimal digits in lower case, at least one and at most so many
+unfoldable pub lower_bytes : ℕ → List ℕ → Option (List ℕ)
+lower_bytes most field = if nat_le (length field) (2 * most) && list_all is_lower_digit field then field_bytes field else None
 
 -- an entry: the number of its map, its key and its value
 pub record EntryLine : Type 0 where
@@ -56,13 +56,13 @@ pub data Meaning : Type 0 where
   Entry : EntryLine → Meaning
   Program : ProgramLine → Meaning
 
--- KEYHEX VALUEHEX, behind MAP
+-- KEYHEX VALUEHEX, behind MAP: at most 256 bytes and at most 16,384
 unfoldable pub entry_meaning : List ℕ → List ℕ → Option Meaning
 entry_meaning map text = do
   field ← split_at_space text
   m ← number_of map
-  key ← lower_bytes field.0
-  value ← lower_bytes field.1
+  key ← lower_bytes FIELD_BYTES field.0
+  value ← lower_bytes MOST_VALUE_BYTES field.1
   Some (Entry (record { map = m; key = key; value = value }))
 
 -- MODE ARGLEN HEX, where HEX has at most 192 bytes
@@ -72,7 +72,7 @@ program_meaning text = do
   second ← split_at_space first.1
   mode ← mode_of first.0
   arg_len ← number_within 0 MAX_ARG_LEN second.0
-  bytes ← lower_bytes second.1
+  bytes ← lower_bytes FIELD_BYTES second.1
   if nat_le (length bytes) (8 * MAX_INSTALLED_SLOTS) then Some (Program (record { mode = mode; arg_len = arg_len; bytes = bytes })) else None
 
 -- p MODE ARGLEN HEX, or MAP KEYHEX VALUEHEX
@@ -81,6 +81,6 @@ words_meaning line = do
   field ← split_at_space line
   if bytes_eq field.0 (codes "p") then program_meaning field.1 else entry_meaning field.0 field.1
 
--- a line over 675 bytes is bad whatever it holds
+-- a line over 32,931 bytes is bad whatever it holds
 unfoldable pub line_meaning : List ℕ → Option Meaning
 line_meaning line = if nat_lt DUMP_LINE_BYTES (length line) then None else words_meaning line

@@ -16,7 +16,7 @@ use Rattle.dumps.specs.Grammar.{EntryLine, ProgramLine, Meaning, Entry, Program}
 use Rattle.dumps.specs.Loading.{MapKey, Loading}
 
 abbrev pub entry_of : TheEntryLine → EntryLine
-entry_of e = record { map = e.map; key = e.key.items; value = e.value.items }
+entry_of e = record { map = e.map; key = e.key.items; value = e.value.now }
 
 abbrev pub program_of : TheProgramLine → ProgramLine
 program_of p = record { mode = p.mode; arg_len = p.arg_len; bytes = p.bytes.items }

@@ -16,8 +16,8 @@ use loader::{Installed, StoreState};
 use std::alloc::{AllocError, Global};
 use verifier::{Accepted, Mode};
 
-// How many bytes of a text are made at once.
-const PIECE_BYTES: usize = 4096;
+// How many bytes of a text are made at once. A line has room in them.
+const PIECE_BYTES: usize = 40_960;
 
 // Adds a number in decimal.
 fn put_number(out: &mut Vec<u8>, n: u64) -> Result<(), AllocError>

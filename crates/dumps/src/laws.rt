@@ -8,7 +8,7 @@ ghost use Rattle.dumps.specs.Laws.{DumpIsRead, DumpIsText, EmptyIsNew, LoadedIsS
 
 /// The limit that the definitions cite, as a number.
 pub fn limits()
-    ensures bytes_of_a_line { DUMP_LINE_BYTES ≡ 675 }
+    ensures bytes_of_a_line { DUMP_LINE_BYTES ≡ 32931 }
 {}
 
 /// What a state is dumped as is text, and is loaded as that state, on maps of its shapes and with as many places.

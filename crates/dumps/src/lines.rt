@@ -1,29 +1,33 @@
 // The lines of a dump.
 
-ghost use Rattle.std.specs.Prelude.{◌≡◌, ◌*◌, ◌∷◌, ◌<◌, Some, None, [], length, option_map, IfSome, MatchOption};
+ghost use Rattle.std.specs.Prelude.{◌≡◌, ◌*◌, ◌∷◌, ◌<◌, ◌≤◌, Some, None, [], length, option_map, take, IfSome, MatchOption};
 ghost use Rattle.std.specs.List.{list_all};
 ghost use Rattle.insn.specs.declared.decoding.TheConstants.{MAX_INSTALLED_SLOTS};
-ghost use Rattle.maps.specs.declared.shapes.TheConstants.{MAX_ARG_LEN};
+ghost use Rattle.maps.specs.declared.shapes.TheConstants.{MAX_ARG_LEN, MOST_VALUE_BYTES};
+ghost use Rattle.text.specs.declared.digits.TheConstants.{FIELD_BYTES};
 ghost use Rattle.dumps.specs.Grammar.{ended_lines, Takes, is_lower_digit, lower_bytes, entry_meaning, program_meaning, words_meaning, line_meaning};
 ghost use Rattle.dumps.specs.Shown.{meaning_of, LineFits};
 
 use arrayvec::ArrayVec;
 use insn::MAX_INSTALLED_SLOTS;
 use loader::mode;
-use maps::MAX_ARG_LEN;
+use maps::{MAX_ARG_LEN, MOST_VALUE_BYTES};
 use std::marker::Model;
-use text::{FIELD_BYTES, LINE_BYTES, hex_field, number, number_within, split_at_space};
+use text::{FIELD_BYTES, hex_field, number, number_within, split_at_space};
 use verifier::Mode;
 
 /// How many bytes a line of a dump has at most, its line feed not counted.
-pub const DUMP_LINE_BYTES: usize = 675;
+pub const DUMP_LINE_BYTES: usize = 32_931;
 
-// An entry: the number of its map, its key and its value.
+// Room for any value.
+pub(crate) const VALUE_ROOM: usize = MOST_VALUE_BYTES as usize;
+
+// An entry: the number of its map, its key, and its value in a room that is lent.
 #[derive(Drop)]
-pub(crate) struct EntryLine {
+pub(crate) struct EntryLine<'a> {
     pub map: u64,
     pub key: ArrayVec<u8, FIELD_BYTES>,
-    pub value: ArrayVec<u8, FIELD_BYTES>,
+    pub value: &'a [u8],
 }
 
 // A program that was installed.
@@ -36,8 +40,8 @@ pub(crate) struct ProgramLine {
 
 // What a line says.
 #[derive(Drop)]
-pub(crate) enum Line {
-    Entry(EntryLine),
+pub(crate) enum Line<'a> {
+    Entry(EntryLine<'a>),
     Program(ProgramLine),
 }
 
@@ -113,31 +117,46 @@ fn are_lower_digits(bytes: &[u8]) -> bool
 // The bytes of a field: pairs of hexadecimal digits in lower case.
 #[tactic(auto, unfolding(crate::specs::Grammar::lower_bytes))]
 fn lower_hex(field: &str) -> Option<ArrayVec<u8, FIELD_BYTES>>
-    ensures { option_map (λ v. v.items) result ≡ lower_bytes field.now }
+    ensures { option_map (λ v. v.items) result ≡ lower_bytes FIELD_BYTES field.now }
 {
-    if field.len() <= LINE_BYTES && are_lower_digits(field.as_bytes()) {
+    if field.len() <= 2 * FIELD_BYTES && are_lower_digits(field.as_bytes()) {
         hex_field(field)
     } else {
         None
     }
 }
 
+// The bytes of a field of digits in lower case, put at the front of a room: how many.
+#[tactic(auto, unfolding(crate::specs::Grammar::lower_bytes, text::specs::Digits::field_bytes))]
+fn fill_room(field: &str, room: &mut [u8; VALUE_ROOM]) -> Option<usize>
+    ensures bytes { option_map (λ n. take n room.new) result ≡ lower_bytes MOST_VALUE_BYTES field.now }
+    ensures few { IfSome result (λ n. n ≤ VALUE_ROOM) }
+{
+    if field.len() > 2 * VALUE_ROOM || !are_lower_digits(field.as_bytes()) || field.is_empty() {
+        return None;
+    }
+    let count = field.len() / 2;
+    hex::decode_to_slice(field.as_bytes(), &mut room[..count]).ok()?;
+    Some(count)
+}
+
 // An entry of the map of this number.
 #[tactic(auto, unfolding(crate::specs::Grammar::entry_meaning))]
-fn entry_line(map: &str, text: &str) -> Option<Line>
+fn entry_line<'a>(map: &str, text: &str, room: &'a mut [u8; VALUE_ROOM]) -> Option<Line<'a>>
     ensures meaning { option_map meaning_of result ≡ entry_meaning map.now text.now }
     ensures fits { IfSome result LineFits }
 {
     let (key, value) = split_at_space(text)?;
     let map = number(map)?;
     let key = lower_hex(key)?;
-    let value = lower_hex(value)?;
+    let count = fill_room(value, room)?;
+    let value = &room[..count];
     Some(Line::Entry(EntryLine { map, key, value }))
 }
 
 // A program, behind the letter that begins its line.
 #[tactic(auto, unfolding(crate::specs::Grammar::program_meaning))]
-fn program_line(text: &str) -> Option<Line>
+fn program_line<'a>(text: &str) -> Option<Line<'a>>
     ensures meaning { option_map meaning_of result ≡ program_meaning text.now }
     ensures fits { IfSome result LineFits }
 {
@@ -157,7 +176,7 @@ fn program_line(text: &str) -> Option<Line>
 }
 
 #[tactic(auto, unfolding(crate::specs::Grammar::words_meaning))]
-fn words_line(line: &str) -> Option<Line>
+fn words_line<'a>(line: &str, room: &'a mut [u8; VALUE_ROOM]) -> Option<Line<'a>>
     ensures meaning { option_map meaning_of result ≡ words_meaning line.now }
     ensures fits { IfSome result LineFits }
 {
@@ -165,19 +184,19 @@ fn words_line(line: &str) -> Option<Line>
     if word == "p" {
         program_line(rest)
     } else {
-        entry_line(word, rest)
+        entry_line(word, rest, room)
     }
 }
 
-// What a line of a dump says, whatever stands before it; `None` where it is bad.
+// What a line of a dump says, whatever stands before it; `None` where it is bad. The value of an entry is in the room.
 #[tactic(auto, unfolding(crate::specs::Grammar::line_meaning))]
-pub(crate) fn read_line(line: &str) -> Option<Line>
+pub(crate) fn read_line<'a>(line: &str, room: &'a mut [u8; VALUE_ROOM]) -> Option<Line<'a>>
     ensures meaning { option_map meaning_of result ≡ line_meaning line.now }
     ensures fits { IfSome result LineFits }
 {
     if line.len() > DUMP_LINE_BYTES {
         None
     } else {
-        words_line(line)
+        words_line(line, room)
     }
 }

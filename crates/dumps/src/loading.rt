@@ -13,7 +13,7 @@ ghost use Rattle.dumps.specs.declared.refusals.DumpError.TheVariants.{NoMemory};
 ghost use Rattle.dumps.specs.Refusal.{Fails, Makes, IsLoadAnswer};
 ghost use Rattle.dumps.specs.Shown.{entry_of, program_of, key_of, view_of, ProgramFits, IsFor};
 
-use crate::lines::{EndedLines, EntryLine, Line, ProgramLine, read_line};
+use crate::lines::{EndedLines, EntryLine, Line, ProgramLine, VALUE_ROOM, read_line};
 use crate::refusals::{DumpError, DumpFault, LineError};
 use arrayvec::ArrayVec;
 use loader::{Catalogue, Installed, StoreState};
@@ -60,7 +60,7 @@ fn is_behind(last: &Option<LastEntry>, map: u64, key: &[u8]) -> bool
 
 // Whether an entry stands behind the last one, and before all programs.
 #[tactic(auto, unfolding(crate::specs::Loading::is_in_order))]
-fn is_in_order(so_far: &PartialState, entry: &EntryLine) -> bool
+fn is_in_order(so_far: &PartialState, entry: &EntryLine<'_>) -> bool
     ensures { result ≡ is_in_order (view_of so_far.now) (entry_of entry.now) }
 {
     so_far.installed.len() == 0 && is_behind(&so_far.last, entry.map, entry.key.as_slice())
@@ -99,7 +99,7 @@ fn has_room(maps: &MapSet, m: usize, key: &[u8]) -> bool
 }
 
 // The first thing that keeps an entry from map `m`.
-fn entry_fault(so_far: &PartialState, m: usize, entry: &EntryLine) -> Option<DumpFault>
+fn entry_fault(so_far: &PartialState, m: usize, entry: &EntryLine<'_>) -> Option<DumpFault>
     requires map { m < length (stored_shapes so_far.now.maps) }
     ensures { (s : MapState) → slice_get (maps_of so_far.now.maps) m ≡ Some s
         → result ≡ entry_fault (view_of so_far.now) (entry_of entry.now) s }
@@ -114,7 +114,7 @@ fn entry_fault(so_far: &PartialState, m: usize, entry: &EntryLine) -> Option<Dum
     if !is_in_order(so_far, entry) {
         return Some(DumpFault::OutOfOrder);
     }
-    if is_left_out(shape, entry.value.as_slice()) {
+    if is_left_out(shape, entry.value) {
         return Some(DumpFault::ZeroValue);
     }
     if !has_room(&so_far.maps, m, entry.key.as_slice()) {
@@ -141,10 +141,10 @@ fn put_entry(maps: &mut MapSet, m: usize, key: &[u8], value: &[u8])
 fn take_entry(
     shapes: &[Shape],
     so_far: &mut PartialState,
-    entry: EntryLine,
+    entry: EntryLine<'_>,
 ) -> Result<(), LineError>
     requires so_far { IsFor shapes.now so_far.old }
-    ensures made { Makes (view_of so_far.new) result (after_entry (view_of so_far.old) (entry_of entry)) }
+    ensures made { Makes (view_of so_far.new) result (after_entry (view_of so_far.old) (entry_of entry.entry)) }
     ensures same { IsFor shapes.now so_far.new }
 {
     if entry.map >= shapes.len() as u64 {
@@ -154,12 +154,7 @@ fn take_entry(
     match entry_fault(so_far, m, &entry) {
         Some(fault) => Err(LineError::Refused(fault)),
         None => {
-            put_entry(
-                &mut so_far.maps,
-                m,
-                entry.key.as_slice(),
-                entry.value.as_slice(),
-            );
+            put_entry(&mut so_far.maps, m, entry.key.as_slice(), entry.value);
             so_far.last = Some(LastEntry {
                 map: entry.map,
                 key: entry.key,
@@ -213,20 +208,21 @@ fn take_program(
     }
 }
 
-// One more line.
+// One more line, with room for its value.
 #[tactic(auto, unfolding(crate::specs::Loading::after_line))]
 fn take_line(
     alloc: Global,
     shapes: &[Shape],
     so_far: &mut PartialState,
     line: &str,
+    room: &mut [u8; VALUE_ROOM],
 ) -> Result<(), LineError>
     requires shapes { AreShapesSupported shapes.now }
     requires so_far { IsFor shapes.now so_far.old }
     ensures made { Makes (view_of so_far.new) result (after_line shapes.now (view_of so_far.old) line.now) }
     ensures same { IsFor shapes.now so_far.new }
 {
-    match read_line(line) {
+    match read_line(line, room) {
         None => Err(LineError::Refused(DumpFault::BadLine)),
         Some(Line::Entry(entry)) => take_entry(shapes, so_far, entry),
         Some(Line::Program(program)) => take_program(alloc, shapes, so_far, program),
@@ -239,6 +235,7 @@ fn take_ended(
     shapes: &[Shape],
     so_far: &mut PartialState,
     line: Option<&str>,
+    room: &mut [u8; VALUE_ROOM],
 ) -> Result<(), LineError>
     requires shapes { AreShapesSupported shapes.now }
     requires so_far { IsFor shapes.now so_far.old }
@@ -247,7 +244,7 @@ fn take_ended(
 {
     match line {
         None => Err(LineError::Refused(DumpFault::BadLine)),
-        Some(line) => take_line(alloc, shapes, so_far, line),
+        Some(line) => take_line(alloc, shapes, so_far, line, room),
     }
 }
 
@@ -270,7 +267,7 @@ fn opened(alloc: Global, shapes: &[Shape], places: usize) -> Result<PartialState
 /// The state that a dump says, on maps of these shapes and with so many places for programs; else the first
 /// bad line, and of its faults the one of lowest number.
 ///
-/// A dump has a line of at most 675 bytes for each entry that is there, `MAP KEYHEX VALUEHEX`, in the order of the maps' numbers and then of the keys' bytes, without the zeros of arrays; and then a line
+/// A dump has a line of at most 32,931 bytes for each entry that is there, `MAP KEYHEX VALUEHEX`, in the order of the maps' numbers and then of the keys' bytes, without the zeros of arrays; and then a line
 /// `p MODE ARGLEN HEX` for each program. Takes time in proportion to the text and to the maps' room.
 ///
 /// # Errors
@@ -288,8 +285,9 @@ pub fn load(
 {
     let mut so_far = opened(alloc, shapes, places)?;
     let mut lines = EndedLines::new(text);
+    let mut room = [0u8; VALUE_ROOM];
     while let Some((number, line)) = lines.take_line() {
-        match take_ended(alloc, shapes, &mut so_far, line) {
+        match take_ended(alloc, shapes, &mut so_far, line, &mut room) {
             Ok(()) => {}
             Err(e) => return Err(e.at(number)),
         }

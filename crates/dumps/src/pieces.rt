@@ -44,7 +44,7 @@ fn put_hex(room: &mut [u8], at: usize, bytes: &[u8]) -> usize
 fn put_line(room: &mut [u8], at: usize, map: u64, key: &[u8], value: &[u8]) -> usize
     requires room { at + DUMP_LINE_BYTES ≤ length room.old }
     requires key { length key.now ≤ 64 }
-    requires value { length value.now ≤ 256 }
+    requires value { length value.now ≤ 16384 }
     ensures within { (at < result) × (result ≤ length room.old) }
     ensures put { take result room.new ≡ take at room.old ++ (entry_text (entry_line map (key.now, value.now)) ++ codes "\n") }
 {

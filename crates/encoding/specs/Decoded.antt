@@ -1,11 +1,10 @@
 -- A state whose entries are written as values, as a function of the layout and of the state's text.
-use Rattle.std.specs.Prelude.{ℕ, nat_lt, nat_le, Bool, false, List, [], ◌∷◌, ◌++◌, length, take, drop, codes, bytes_eq, decimal, Option, Some, None, option_map, Result, Ok, Err, if◌then◌else◌}
+use Rattle.std.specs.Prelude.{ℕ, nat_lt, Bool, false, List, [], ◌∷◌, ◌++◌, length, take, drop, codes, bytes_eq, decimal, Option, Some, None, option_map, Result, Ok, Err, if◌then◌else◌}
 use Rattle.std.specs.Option.{option_map_or}
 use Rattle.std.specs.List.{flat_map}
 use Rattle.std.specs.Fmt.{signed_decimal}
 use Rattle.byteorder.specs.Endian.{little_number, twos_complement}
 use Rattle.hex.specs.Hex.{encode_lower}
-use Rattle.text.specs.declared.lines.TheConstants.{LINE_BYTES}
 use Rattle.text.specs.Digits.{field_bytes}
 use Rattle.text.specs.Fields.{split_at_space}
 use Rattle.text.specs.Lines.{lines_of, next_line}
@@ -78,9 +77,12 @@ values_of (part ∷ parts) bytes =
 
 -- ---- a line
 
--- HEX of at most 512 digits
-unfoldable pub short_bytes : List ℕ → Option (List ℕ)
-short_bytes field = if nat_le (length field) LINE_BYTES then field_bytes field else None
+-- the bytes of two fields, one after the other
+unfoldable pub joined : List ℕ → List ℕ → Option (List ℕ)
+joined first second = do
+  key ← field_bytes first
+  value ← field_bytes second
+  Some (key ++ value)
 
 -- MAP KEYHEX VALUEHEX: the number of the map, and the bytes of key and value
 unfoldable pub entry_of : List ℕ → Option (ℕ × List ℕ)
@@ -88,9 +90,8 @@ entry_of line = do
   first ← split_at_space line
   second ← split_at_space first.1
   map ← number_of first.0
-  key ← short_bytes second.0
-  value ← short_bytes second.1
-  Some (map, key ++ value)
+  bytes ← joined second.0 second.1
+  Some (map, bytes)
 
 -- the line of a program begins with p
 unfoldable pub is_program : List ℕ → Bool

@@ -2,7 +2,7 @@
 use Rattle.std.specs.Prelude.{ℕ, ◌&&◌, nat_le, ◌==◌, is_some, List, [], ◌∷◌, ◌++◌, codes, bytes_eq, Option, Some, None, option_map, Result, Ok, Err, if◌then◌else◌}
 use Rattle.std.specs.Option.{option_map_or}
 use Rattle.std.specs.List.{find}
-use Rattle.text.specs.declared.digits.TheConstants.{FIELD_BYTES}
+use Rattle.encoding.specs.declared.layouts.TheConstants.{PART_BYTES}
 use Rattle.text.specs.declared.lines.LineKind.{LineKind}
 use Rattle.text.specs.declared.lines.LineKind.TheVariants as line_kinds
 use Rattle.text.specs.Fields.{cut_at, split_at_space}
@@ -32,9 +32,9 @@ number_part kinds.S64 = Some S64
 number_part kinds.Str = None
 number_part kinds.Hex = None
 
--- 1 to 256 bytes
+-- 1 to 16,384 bytes
 abbrev pub counted_part : ℕ → Option Part
-counted_part count = if nat_le 1 count && nat_le count FIELD_BYTES then Some (Bytes count) else None
+counted_part count = if nat_le 1 count && nat_le count PART_BYTES then Some (Bytes count) else None
 
 -- hex:N is so many bytes
 unfoldable pub bytes_part : List ℕ → List ℕ → Option Part

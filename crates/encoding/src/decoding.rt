@@ -2,24 +2,24 @@
 
 ghost use Rattle.std.specs.Prelude.{◌≡◌, ◌≤◌, ◌++◌, ◌<◌, length, take, drop, IfNone, IfOk, IfSome, MatchResult, OnOk, Ok, option_map};
 ghost use Rattle.hex.specs.Hex.{encode_lower};
+ghost use Rattle.text.specs.Digits.{field_bytes};
 ghost use Rattle.text.specs.Lines.{lines_of};
-ghost use Rattle.encoding.specs.Decoded.{decoded_from, decoded_text, entry_of, entry_text, field_text, is_program, part_kind, part_size, short_bytes, signed_text, spaced, state_line, unsigned_text, value_text, values_of};
+ghost use Rattle.encoding.specs.Decoded.{decoded_from, decoded_text, entry_of, entry_text, field_text, is_program, joined, part_kind, part_size, signed_text, spaced, state_line, unsigned_text, value_text, values_of};
 ghost use Rattle.encoding.specs.DecodeShown.{AddsLine, AddsValues, Fails, shown_entry, shown_layouts};
 
 use crate::decode_faults::{DecodeError, DecodeRefusal};
 use crate::kinds::Kind;
 use crate::layouts::{MapLayout, Part, parts_for, read_layouts};
-use arrayvec::ArrayVec;
 use byteorder::{ByteOrder, LittleEndian};
 use itoa::Buffer;
 use std::alloc::{AllocError, Global};
-use text::{LINE_BYTES, NumberedLines, hex_field, number, split_at_space};
+use text::{NumberedLines, number, split_at_space};
 
 // An entry of a state: the number of its map, and the bytes of its key and of its value.
 #[derive(Drop)]
 struct Entry {
     map: u64,
-    bytes: ArrayVec<u8, 512>,
+    bytes: Vec<u8>,
 }
 
 impl Part {
@@ -150,42 +150,57 @@ fn is_program(line: &str) -> bool
     }
 }
 
-// The bytes of a field of at most 512 digits.
-#[tactic(auto, unfolding(crate::specs::Decoded::short_bytes))]
-fn short_bytes(field: &str) -> Option<ArrayVec<u8, 256>>
-    ensures { option_map (λ v. v.items) result ≡ short_bytes field.now }
+// The bytes of a field: pairs of hexadecimal digits, or `-` for no bytes.
+#[tactic(auto, unfolding(text::specs::Digits::field_bytes))]
+fn bytes_of(alloc: Global, field: &str) -> Result<Option<Vec<u8>>, AllocError>
+    ensures { IfOk result (λ o. option_map (λ v. v.items) o ≡ field_bytes field.now) }
 {
-    if field.len() <= LINE_BYTES {
-        hex_field(field)
-    } else {
-        None
+    if field == "-" {
+        return Ok(Some(Vec::new(alloc)));
+    }
+    if field.is_empty() {
+        return Ok(None);
+    }
+    match hex::decode(alloc, field) {
+        Ok(bytes) => Ok(Some(bytes)),
+        Err(hex::FromHexError::OutOfMemory) => Err(AllocError),
+        Err(_) => Ok(None),
     }
 }
 
-// Bytes, and others behind them.
-fn joined(first: &[u8], second: &[u8]) -> ArrayVec<u8, 512>
-    requires first { length first.now ≤ 256 }
-    requires second { length second.now ≤ 256 }
-    ensures { result.items ≡ first.now ++ second.now }
+// The bytes of two fields, one after the other.
+#[tactic(auto, unfolding(crate::specs::Decoded::joined))]
+fn joined(alloc: Global, key: &str, value: &str) -> Result<Option<Vec<u8>>, AllocError>
+    ensures { IfOk result (λ o. option_map (λ v. v.items) o ≡ joined key.now value.now) }
 {
-    let mut bytes = ArrayVec::new();
-    let _ = bytes.try_extend_from_slice(first);
-    let _ = bytes.try_extend_from_slice(second);
-    bytes
+    let Some(mut bytes) = bytes_of(alloc, key)? else {
+        return Ok(None);
+    };
+    let Some(value) = bytes_of(alloc, value)? else {
+        return Ok(None);
+    };
+    bytes.extend_from_slice(&value)?;
+    Ok(Some(bytes))
 }
 
 // The entry that a line of a state says.
 #[tactic(auto, unfolding(crate::specs::Decoded::entry_of))]
-fn entry_of(line: &str) -> Option<Entry>
-    ensures { option_map shown_entry result ≡ entry_of line.now }
+fn entry_of(alloc: Global, line: &str) -> Result<Option<Entry>, AllocError>
+    ensures { IfOk result (λ o. option_map shown_entry o ≡ entry_of line.now) }
 {
-    let (word, fields) = split_at_space(line)?;
-    let (key, value) = split_at_space(fields)?;
-    let map = number(word)?;
-    let key = short_bytes(key)?;
-    let value = short_bytes(value)?;
-    let bytes = joined(key.as_slice(), value.as_slice());
-    Some(Entry { map, bytes })
+    let Some((word, fields)) = split_at_space(line) else {
+        return Ok(None);
+    };
+    let Some((key, value)) = split_at_space(fields) else {
+        return Ok(None);
+    };
+    let Some(map) = number(word) else {
+        return Ok(None);
+    };
+    match joined(alloc, key, value)? {
+        Some(bytes) => Ok(Some(Entry { map, bytes })),
+        None => Ok(None),
+    }
 }
 
 // Adds the number of a map, and the values of these parts; and tells whether they take just these bytes.
@@ -206,7 +221,7 @@ fn put_line(out: &mut Vec<u8>, layouts: &[MapLayout], line: &str) -> Result<bool
         out.extend_from_slice(line.as_bytes())?;
         return Ok(true);
     }
-    let Some(entry) = entry_of(line) else {
+    let Some(entry) = entry_of(*out.allocator(), line)? else {
         return Ok(false);
     };
     match parts_for(layouts, entry.map) {

@@ -10,7 +10,10 @@ use crate::kinds::{Kind, kind_named};
 use crate::numbers::magnitude;
 use crate::words::{cut_at_colon, first_word};
 use std::alloc::{AllocError, Global};
-use text::{FIELD_BYTES, LineKind, NumberedLines, kind_of, number, split_at_space};
+use text::{LineKind, NumberedLines, kind_of, number, split_at_space};
+
+// How many bytes a part has at most: those of the longest value.
+pub(crate) const PART_BYTES: usize = 16_384;
 
 // A part of an entry: a number of a kind, or so many bytes.
 #[derive(Clone, Copy)]
@@ -59,7 +62,7 @@ fn bytes_part(name: &[u8], count: &[u8]) -> Option<Part>
         return None;
     }
     let count = magnitude(count, 10)?;
-    if 1 <= count && count <= FIELD_BYTES as u64 {
+    if 1 <= count && count <= PART_BYTES as u64 {
         Some(Part::Bytes(count as usize))
     } else {
         None

@@ -81,7 +81,7 @@ fn call_update(
 fn fetch_value(machine: &mut Machine, maps: &MapSet, argument: &[u8], base: Base, n: usize)
     requires limits { AreShapesSupported (stored_shapes maps.now) }
     requires some { 0 < n }
-    requires few { n ≤ 256 }
+    requires few { n ≤ 16384 }
     requires told { (bs : List ℕ) × IsRead machine.old.stack maps.now argument.now base n bs }
     ensures copied { (bs : List ℕ) → IsRead machine.old.stack maps.now argument.now base n bs → take n machine.new.value ≡ bs }
     ensures words { machine.new.words ≡ machine.old.words }
@@ -93,8 +93,8 @@ fn fetch_value(machine: &mut Machine, maps: &MapSet, argument: &[u8], base: Base
 
 // Writes bytes over the first of a room.
 #[inline(always)]
-fn put_first(room: &mut [u8; 256], bytes: &[u8])
-    requires few { length bytes.now ≤ 256 }
+fn put_first(room: &mut [u8; 16_384], bytes: &[u8])
+    requires few { length bytes.now ≤ 16384 }
     ensures written { take (length bytes.now) room.new ≡ bytes.now }
 {
     room[..bytes.len()].copy_from_slice(bytes);

@@ -148,7 +148,7 @@ pub room_at : (t : Table) (place : ℕ) (k : List ℕ) → IsShapeSupported t.sh
 room_at t place k ok table e =
     let low = below t.shape t.index place k table.index e in
     let fits : (place + 1) * value_size t.shape ≤ entry_count t.shape * value_size t.shape = mul-le-mul_right (value_size t.shape) (omega (arith, low)) in
-    let small : entry_count t.shape * value_size t.shape ≤ 2147483648 * 256 = mul-le-mul ok.entries.1 ok.value.1 in
+    let small : entry_count t.shape * value_size t.shape ≤ 2147483648 * 16384 = mul-le-mul ok.entries.1 ok.value.1 in
     let full = table.full in
     (omega (arith, fits, full), omega (arith, small, full))
 

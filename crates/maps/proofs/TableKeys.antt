@@ -249,7 +249,7 @@ place_room t x y key place from size ok table some h width =
     let full : length t.block.items ≡ places x * s = table.full ∙ ap (λ n. n * s) (sym fits.places_are) in
     let most : (place + 1) * s ≤ places x * s = mul-le-mul_right s (omega (arith, low.0)) in
     let most_from : (from + 1) * s ≤ places x * s = mul-le-mul_right s (omega (arith, low.1)) in
-    let small : entry_count t.shape * value_size t.shape ≤ 2147483648 * 256 = mul-le-mul ok.entries.1 ok.value.1 in
+    let small : entry_count t.shape * value_size t.shape ≤ 2147483648 * 16384 = mul-le-mul ok.entries.1 ok.value.1 in
     let all = table.full in
     subst (λ n. (place * n + n ≤ length t.block.items) × (from * n + n ≤ length t.block.items) × (length t.block.items ≤ 35184372088832)) (sym width)
     (omega (arith, most, full), omega (arith, most_from, full), omega (arith, small, all))

@@ -50,7 +50,7 @@ pub record AreShapesWithin (l : MapLimits) (shapes : List Shape) : Type 0 where
 abbrev pub standard : MapLimits
 standard = record { key = MAX_KEY_BYTES; value = MAX_VALUE_BYTES; entries = MAX_ENTRIES; bytes = MAX_TOTAL_BYTES }
 
--- the widest limits: keys of 64 bytes, values of 256 bytes, 2,147,483,648 entries, 2^40 bytes
+-- the widest limits: keys of 64 bytes, values of 16,384 bytes, 2,147,483,648 entries, 2^40 bytes
 abbrev pub widest : MapLimits
 widest = record { key = MOST_KEY_BYTES; value = MOST_VALUE_BYTES; entries = MOST_ENTRIES; bytes = MOST_TOTAL_BYTES }
 

@@ -28,7 +28,7 @@ pub const MAX_TOTAL_BYTES: u32 = 16_777_216;
 pub const MOST_KEY_BYTES: u32 = 64;
 
 /// The most bytes that a value may have by any limits.
-pub const MOST_VALUE_BYTES: u32 = 256;
+pub const MOST_VALUE_BYTES: u32 = 16_384;
 
 /// The most entries that a map may have by any limits.
 pub const MOST_ENTRIES: u32 = 2_147_483_648;
@@ -53,7 +53,7 @@ pub fn limits()
 /// The widest limits, as numbers.
 pub fn widest_limits()
     ensures bytes_of_a_key { MOST_KEY_BYTES ≡ 64 }
-    ensures bytes_of_a_value { MOST_VALUE_BYTES ≡ 256 }
+    ensures bytes_of_a_value { MOST_VALUE_BYTES ≡ 16384 }
     ensures entries_of_a_map { MOST_ENTRIES ≡ 2147483648 }
     ensures bytes_of_all_maps { MOST_TOTAL_BYTES ≡ 1099511627776 }
 {}
@@ -86,7 +86,7 @@ impl MapLimits {
         }
     }
 
-    /// The widest limits: keys of 64 bytes, values of 256 bytes, 2,147,483,648 entries, 2^40 bytes in all maps.
+    /// The widest limits: keys of 64 bytes, values of 16,384 bytes, 2,147,483,648 entries, 2^40 bytes in all maps.
     pub fn widest() -> MapLimits
         ensures widest { result ≡ widest }
         ensures limits { AreLimits result }

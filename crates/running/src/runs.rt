@@ -23,8 +23,8 @@ use loader::{Catalogue, StoreState};
 use oplog::MAX_LIMIT;
 use std::alloc::{AllocError, Global};
 
-// How many bytes of a text are written at once.
-const PIECE_BYTES: usize = 4096;
+// How many bytes of a text are written at once. A line of a state has room in them.
+const PIECE_BYTES: usize = 40_960;
 
 /// What a run writes, and the state that it leaves.
 #[derive(Drop)]

@@ -52,7 +52,7 @@ class Limits(NamedTuple):
 
 STANDARD = Limits()
 
-LARGE = Limits(entries=1 << 31, bytes=1 << 40)
+LARGE = Limits(value=16_384, entries=1 << 31, bytes=1 << 40)
 
 
 class Sizes(NamedTuple):

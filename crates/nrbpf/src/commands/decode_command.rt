@@ -20,7 +20,7 @@ line has at most 512 bytes:
     MAP PART ..               MAP is the number of a map, from 0. A PART is one of
     u8 u16 u32 u64            a number without a sign, in 1, 2, 4 or 8 bytes, the low byte first
     s8 s16 s32 s64            a number with a sign, in two's complement
-    hex:N                     N bytes, 1 to 256
+    hex:N                     N bytes, 1 to 16384
 
 So the lines
 

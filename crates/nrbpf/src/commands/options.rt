@@ -49,7 +49,7 @@ pub fn dump<'a>(alloc: Global) -> Arg<'a> {
 
 /// Whether maps may be larger than the standard limits allow.
 pub fn large<'a>(alloc: Global) -> Arg<'a> {
-    arg!(in alloc; --large "Allows up to 2147483648 entries a map, and 2^40 bytes of all maps")
+    arg!(in alloc; --large "Allows values of up to 16384 bytes, 2147483648 entries a map, and 2^40 bytes of all maps")
 }
 
 /// Whether the answer has the maps that a program names.

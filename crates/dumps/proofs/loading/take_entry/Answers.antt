@@ -17,7 +17,7 @@ put_entry-requires-clause-value c =
     let within : c.args.entry.map < length (stored_shapes c.args.so_far.now.maps) = rw c.requires.so_far.maps (omega arith) in
     let there = map_there c.args.so_far.now.maps c.args.entry.map within in
     let p = passes (view_of c.args.so_far.now) (entry_of c.args.entry) there.0 (c.in-None.ensures there.0 there.1) in
-    rw (there.2, c.as_slice-in-None.ensures.value) p.value
+    rw there.2 p.value
 
 pub put_entry-requires-clause-room : goal.put_entry-requires-clause-room
 put_entry-requires-clause-room c =
@@ -37,4 +37,4 @@ returns-in-None-clause-made c =
     let within : c.args.entry.map < length (stored_shapes c.args.so_far.now.maps) = rw c.requires.so_far.maps (omega arith) in
     let there = map_there c.args.so_far.now.maps c.args.entry.map within in
     let put = put_in (view_of c.args.so_far.now) (entry_of c.args.entry) there.0 there.1 (c.in-None.ensures there.0 there.1) in
-    rw (c.put_entry.ensures.updated, c.as_slice.ensures.value, c.as_slice-in-None.ensures.value) put
+    rw (c.put_entry.ensures.updated, c.as_slice.ensures.value) put
