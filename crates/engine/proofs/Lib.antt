@@ -11,4 +11,5 @@ pub mod Written
 pub mod Openings
 pub mod InTurn
 pub mod AfterStrangers
+pub mod StopsThere
 pub mod Export

@@ -104,6 +104,25 @@ NothingAfter old new s =
     GoesBy (codes "the history") s
     ⊎ ((new.history ≡ old.history) × (GoesBy (codes "the state") s ⊎ ((new.state ≡ old.state) × (GoesBy (codes "the file") s ⊎ (new.file ≡ old.file)))))
 
+-- these texts are UTF-8
+abbrev pub AreText : Files → Type 0
+AreText texts = find (λ text. not (is_utf8 text.1)) texts ≡ None
+
+-- what is read before the file, before the state, and before the history
+abbrev pub before_file : Given → Files
+before_file g = (codes "the manifest", g.manifest) ∷ files_in g
+
+abbrev pub before_state : Given → Files
+before_state g = before_file g ++ (codes "the file", g.file) ∷ []
+
+abbrev pub before_history : Given → Files
+before_history g = before_state g ++ (codes "the state", g.state) ∷ []
+
+-- a text is read only if all texts before it are UTF-8: otherwise its reader is as it was
+abbrev pub StopsAtStranger : {F R : Type 0} → Inputs F R → Inputs F R → Given → Type 0
+StopsAtStranger old new g =
+    (AreText (before_file g) ⊎ (new.file ≡ old.file)) × (AreText (before_state g) ⊎ (new.state ≡ old.state)) × (AreText (before_history g) ⊎ (new.history ≡ old.history))
+
 -- ---- which read failed
 
 -- what is known of these bytes is UTF-8

@@ -5,7 +5,7 @@ ghost use Rattle.engine.specs.declared.replies.Status.TheVariants as statuses;
 ghost use Rattle.engine.specs.declared.transfer.ReadFault.TheVariants as faults;
 ghost use Rattle.engine.specs.Notes.{IsQuiet};
 ghost use Rattle.engine.specs.ReadFaults.{IfCannotRead};
-ghost use Rattle.engine.specs.Reading.{FailedInTurn, TextsRead, IfGiven, read, texts_in};
+ghost use Rattle.engine.specs.Reading.{FailedInTurn, IfGiven, StopsAtStranger, TextsRead, read, texts_in};
 ghost use Rattle.engine.specs.Report.{Failed, Sends};
 ghost use Rattle.engine.specs.Engine.{Performs, PerformsRead, Reports, ReportsRead, Writes, handed_back};
 
@@ -54,6 +54,8 @@ pub fn prepare<C: Command, F: Folder, R: Source + Drop>(
     ensures failed { IfCannotRead result (FailedInTurn F.holds F.can_fail R.remaining R.has_failed inputs.old inputs.new) }
     // Whatever they give.
     ensures some { IfOk result (λ m. (t : Option TextsRead) × C.may_make command.now t m) }
+    // However it ends, a text is read only if all texts before it are UTF-8.
+    ensures stops { IfGiven F.holds R.remaining inputs.old (StopsAtStranger inputs.old inputs.new) }
     // Where nothing is to be told beside the answer, nothing is.
     ensures quiet { IsQuiet notes.old notes.new }
 {
@@ -128,6 +130,8 @@ where
     ensures failed { Failed result.status (FailedInTurn F.holds F.can_fail R.remaining R.has_failed inputs.old inputs.new) (W.has_failed writer.new) }
     // Whatever they give, or where they fail.
     ensures ended { Performs C.Made.answer (λ m. (t : Option TextsRead) × C.may_make command.now t m) (W.contents writer.old) (W.contents writer.new) result }
+    // However it ends, a text is read only if all texts before it are UTF-8.
+    ensures stops { IfGiven F.holds R.remaining inputs.old (StopsAtStranger inputs.old inputs.new) }
     // Where nothing is to be told beside the answer, nothing is.
     ensures quiet { IsQuiet notes.old notes.new }
 {
@@ -151,6 +155,8 @@ where
     ensures failed { Failed result (FailedInTurn F.holds F.can_fail R.remaining R.has_failed inputs.old inputs.new) (W.has_failed writer.new) }
     // Whatever they give, or where they fail.
     ensures ended { Reports C.Made.answer (λ m. (t : Option TextsRead) × C.may_make command.now t m) (W.contents writer.old) (W.contents writer.new) result }
+    // However it ends, a text is read only if all texts before it are UTF-8.
+    ensures stops { IfGiven F.holds R.remaining inputs.old (StopsAtStranger inputs.old inputs.new) }
     // Where nothing is to be told beside the answer, nothing is.
     ensures quiet { IsQuiet notes.old notes.new }
 {

@@ -7,7 +7,7 @@ ghost use Rattle.loader.specs.ProgramFiles.{files_of};
 ghost use Rattle.engine.specs.declared.reading.Unread.TheVariants as faults;
 ghost use Rattle.engine.specs.Files.{Contents};
 ghost use Rattle.engine.specs.ReadFaults.{IfCannotRead};
-ghost use Rattle.engine.specs.Reading.{FailedInTurn, FileFailedOr, GoesBy, IfGiven, NothingAfter, first_stranger, given_text, limits_of, named_texts, read, strange_text, texts_in};
+ghost use Rattle.engine.specs.Reading.{FailedInTurn, FileFailedOr, GoesBy, IfGiven, NothingAfter, StopsAtStranger, first_stranger, given_text, limits_of, named_texts, read, strange_text, texts_in};
 ghost use Rattle.engine.specs.Unread.{AreRead, FailsAs, FoundAs, Gathered, IfUnread, IsStrangeFile, TextIs};
 
 use crate::transfer::{ReadFault, Source};
@@ -259,6 +259,7 @@ fn gather_texts<F: Folder, R: Source + Drop>(
 ) -> Result<Texts, Unread>
     ensures read { IfGiven F.holds R.remaining inputs.old (AreRead result) }
     ensures unread { IfErr result (λ e. FailsAs e (NothingAfter inputs.old inputs.new)) }
+    ensures stops { IfGiven F.holds R.remaining inputs.old (StopsAtStranger inputs.old inputs.new) }
     ensures failed { IfUnread result (FailedInTurn F.holds F.can_fail R.remaining R.has_failed inputs.old inputs.new) }
 {
     let manifest = read_given(alloc, "the manifest", &mut inputs.manifest)?;
@@ -293,6 +294,8 @@ pub fn gather<F: Folder, R: Source + Drop>(
     ensures first { IfGiven F.holds R.remaining inputs.old (λ g. IfOk result (λ r. IfErr r (λ s. first_stranger g ≡ Some (strange_text s)))) }
     // The readers of texts after it are as they were.
     ensures unread { IfOk result (λ r. IfErr r (NothingAfter inputs.old inputs.new)) }
+    // However it ends, a text is read only if all texts before it are UTF-8.
+    ensures stops { IfGiven F.holds R.remaining inputs.old (StopsAtStranger inputs.old inputs.new) }
     // The result says that a read failed only after one did, and all texts before that one are UTF-8.
     ensures failed { IfCannotRead result (FailedInTurn F.holds F.can_fail R.remaining R.has_failed inputs.old inputs.new) }
 {

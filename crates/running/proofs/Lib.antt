@@ -9,5 +9,6 @@ pub mod UnderLimits
 pub mod KeptRuns
 pub mod CutRuns
 pub mod RunWrites
+pub mod OneResult
 pub mod SentPieces
 pub mod Export

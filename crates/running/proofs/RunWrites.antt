@@ -4,7 +4,7 @@ use Rattle.std.specs.Prelude.{option_map, option_and_then, if◌then◌else◌}
 use Rattle.std.specs.List.{flat_map}
 use Rattle.std.specs.Option.{option_map_or}
 use Rattle.std.specs.Str.{is_utf8}
-use Rattle.std.proofs.lemmas.Bool.{eqb-true}
+use Rattle.std.proofs.lemmas.Bool.{eqb-true, false≢true}
 use Rattle.std.proofs.lemmas.List.{length-append, nil_from_length}
 use Rattle.encoding.specs.declared.faults.EncodeRefusal.{EncodeRefusal}
 use Rattle.encoding.specs.Encoded.{encoded_text}
@@ -109,7 +109,7 @@ module _ (c : CatalogueView) (is_whole : IsCatalogue c) (h : History) (updates :
 
 -- ---- the lines
 
-abbrev good_answer : List ℕ → Answer
+abbrev pub good_answer : List ℕ → Answer
 good_answer text = record { text = text; verdict = verdicts.Good }
 
 module _ (c : CatalogueView) (is_whole : IsCatalogue c) where
@@ -176,7 +176,7 @@ module _ (c : CatalogueView) (is_whole : IsCatalogue c) where
 
 -- ---- what is answered, and the state that is left
 
-no_updates : (c : CatalogueView) → AreUpdates c []
+pub no_updates : (c : CatalogueView) → AreUpdates c []
 no_updates c k r at = absurd cc
 
 module _ (g : Given) (script : List ℕ) where
@@ -220,13 +220,13 @@ module _ (g : Given) (texts : AreTexts g) where
     is_placed : IsCatalogue placed
     is_placed = loaded_is_catalogue (limits_of g.sizes) g.manifest _ loaded RUN_PLACES (are_limits g.sizes) is (omega arith)
 
-    by_state : (o : Outcome) → loaded_state loaded.shapes RUN_PLACES g.state ≡ o → OpeningIs (on_loaded placed o)
-    by_state (Ok s) said = (opened_is_catalogue placed (opened_on placed s) g.state is_placed (ap (on_loaded placed) said), BeginsOn.given loaded s is said)
-    by_state (Err e) said = (refusal_text e, IsUnrun.state loaded e texts is said, refl)
+    by_state : (o : Outcome) → (g.state ≡ [] → ⊥) → loaded_state loaded.shapes RUN_PLACES g.state ≡ o → OpeningIs (on_loaded placed o)
+    by_state (Ok s) some said = (opened_is_catalogue placed (opened_on placed s) g.state is_placed (ap (on_loaded placed) said), BeginsOn.given loaded s is some said)
+    by_state (Err e) some said = (refusal_text e, IsUnrun.state loaded e texts is said, refl)
 
     by_length : (b : Bool) → eqb (length g.state) 0 ≡ b → OpeningIs (if b then Ok placed else on_loaded placed (loaded_state loaded.shapes RUN_PLACES g.state))
     by_length true empty = (is_placed, BeginsOn.new loaded is (nil_from_length g.state (eqb-true _ _ empty)))
-    by_length false some = by_state _ refl
+    by_length false some = by_state _ (λ empty. false≢true (sym some ∙ ap (λ (x : List ℕ). eqb (length x) 0) empty)) refl
 
   by_load : (o : Loads) → loads g ≡ o → OpeningIs (opening_of (Some RUN_PLACES) o g.state)
   by_load (Ok loaded) is = by_length loaded is (eqb (length g.state) 0) refl
@@ -248,7 +248,7 @@ module _ (g : Given) (texts : AreTexts g) where
 
 -- ---- what is written of it, and what goes elsewhere
 
-abbrev signed_kept : Bool → KeptRun → KeptRun
+abbrev pub signed_kept : Bool → KeptRun → KeptRun
 signed_kept is_signed k = if is_signed then record k { answer = record k.answer { text = signed_text k.answer.text } } else k
 
 good_not_refused : statuses.Refused ≡ statuses.Good → ⊥

@@ -1,5 +1,5 @@
 -- What `run` writes, from the bytes that it reads to its lines, and the state that it leaves.
-use Rattle.std.specs.Prelude.{◌≡◌, ◌⊎◌, ℕ, ◌+◌, ◌<◌, Bool, List, [], ◌∷◌, ◌++◌, length, codes, decimal, Option, Some, None, option_and_then, Result, Ok, Err, if◌then◌else◌}
+use Rattle.std.specs.Prelude.{◌≡◌, ◌≢◌, ◌⊎◌, ℕ, ◌+◌, ◌<◌, Bool, List, [], ◌∷◌, ◌++◌, length, codes, decimal, Option, Some, None, option_and_then, Result, Ok, Err, if◌then◌else◌}
 use Rattle.encoding.specs.declared.faults.EncodeRefusal.{EncodeRefusal}
 use Rattle.encoding.specs.Encoded.{encoded_text}
 use Rattle.encoding.specs.Faults.{refusal_line}
@@ -45,7 +45,7 @@ use Rattle.running.specs.Signed.{signed_text}
 -- text says
 pub data BeginsOn (g : Given) : CatalogueView → Type 0 where
   new : (loaded : CatalogueView) → loads g ≡ Ok loaded → g.state ≡ [] → BeginsOn g (with_places loaded RUN_PLACES)
-  given : (loaded : CatalogueView) (state : StoreState) → loads g ≡ Ok loaded → loaded_state loaded.shapes RUN_PLACES g.state ≡ Ok state
+  given : (loaded : CatalogueView) (state : StoreState) → loads g ≡ Ok loaded → g.state ≢ [] → loaded_state loaded.shapes RUN_PLACES g.state ≡ Ok state
       → BeginsOn g (opened_on (with_places loaded RUN_PLACES) state)
 
 -- ---- one line
@@ -169,3 +169,26 @@ CallsWrite =
     (is_signed : Bool) (to : Destination) (g : Given) (old new : List ℕ) (done : Performed Parted)
     → PerformsRead (λ p. answer_of p.reply) (λ t p. parted_of p ≡ called_run is_signed to t) Some old new done g
     → (text : List ℕ) × (new ≡ old ++ text) × AreCallsDone is_signed to g (encoded_text g.file) text done
+
+-- ---- and nothing else
+
+-- all of what there was to write was written
+abbrev pub IsWhole : Status → Type 0
+IsWhole status = (status ≡ statuses.Good) ⊎ (status ≡ statuses.Refused)
+
+-- two results are one: the text that was written, the status, and what is handed back
+abbrev pub AreOne : (text other : List ℕ) → (done again : Performed Parted) → Type 0
+AreOne text other done again = (text ≡ other) × (done.status ≡ again.status) × (handed_back done ≡ handed_back again)
+
+-- whatever there is to read, `IsDone` is so of one result alone, if all of it was written
+abbrev pub RunIsUnique : Type 0
+RunIsUnique =
+    (is_signed : Bool) (to : Destination) (g : Given) (script text other : List ℕ) (done again : Performed Parted)
+    → IsDone is_signed to g script text done → IsDone is_signed to g script other again → IsWhole done.status → IsWhole again.status → AreOne text other done again
+
+-- and so is `AreCallsDone` of calls
+abbrev pub CallsAreUnique : Type 0
+CallsAreUnique =
+    (is_signed : Bool) (to : Destination) (g : Given) (text other : List ℕ) (done again : Performed Parted)
+    → AreCallsDone is_signed to g (encoded_text g.file) text done → AreCallsDone is_signed to g (encoded_text g.file) other again → IsWhole done.status → IsWhole again.status
+    → AreOne text other done again

@@ -3,7 +3,7 @@
 ghost use Rattle.std.specs.Prelude.{◌≡◌};
 ghost use Rattle.running.specs.CutLaws.{LinesMayBeCut, ScriptsMayBeCut};
 ghost use Rattle.running.specs.LimitLaws.{LimitIsUnfelt, FewLinesAreAlike};
-ghost use Rattle.running.specs.RunLaw.{CallsWrite, RunWrites};
+ghost use Rattle.running.specs.RunLaw.{CallsAreUnique, CallsWrite, RunIsUnique, RunWrites};
 ghost use Rattle.running.specs.RunLines.{LineTurnsAreRuns, LoadedIsCatalogue, OpenedIsCatalogue, RunLinesAreRuns};
 ghost use Rattle.running.specs.SignedLaws.{RepliesAreTold};
 ghost use Rattle.running.specs.declared.single_node.TheConstants.{RUN_PLACES};
@@ -41,6 +41,13 @@ pub fn run_lines_are_runs()
 pub fn run_writes()
     ensures script { RunWrites }
     ensures calls { CallsWrite }
+{}
+
+/// What `run_writes` says allows one result only. For given bytes to read, two texts that meet it are the same, and so are two statuses and two
+/// texts that are handed back, if all of each text was written (statuses 0 and 3). So does what it says of `run --calls`.
+pub fn run_is_unique()
+    ensures script { RunIsUnique }
+    ensures calls { CallsAreUnique }
 {}
 
 /// `run --signed` finds the reply of each line that `run` writes for an update, a read or an install.

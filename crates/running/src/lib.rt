@@ -15,7 +15,8 @@ pub use called_runs::CalledRun;
 pub use calls::{checked_call, take_line};
 pub use dumped_runs::DumpedRun;
 pub use laws::{
-    limit_is_unfelt, limits, replies_are_told, run_lines_are_runs, run_writes, runs_may_be_cut,
+    limit_is_unfelt, limits, replies_are_told, run_is_unique, run_lines_are_runs, run_writes,
+    runs_may_be_cut,
 };
 pub use run_texts::{bad_line, put_bad_line};
 pub use runs::{Kept, Run, dump_to};

@@ -47,8 +47,8 @@ impl Answering for Kept {
     }
 }
 
-// What is answered in place of a run.
-fn unrun(reply: Reply) -> Kept
+// Answers so instead of a run, and leaves no state.
+fn refuse(reply: Reply) -> Kept
     ensures { kept_of result ≡ record { answer = answer_of reply; state = None } }
 {
     Kept { reply, state: None }
@@ -66,7 +66,7 @@ fn state_left(node: SingleNode, catalogue: &Catalogue, verdict: Verdict) -> Opti
 }
 
 // Runs the lines of a script on a catalogue, on a copy of the state that is handed in, or on a new one.
-fn lines_kept(
+fn run_lines(
     alloc: Global,
     catalogue: &Catalogue,
     state: Option<&StoreState>,
@@ -83,20 +83,20 @@ fn lines_kept(
     Ok(Kept { reply, state })
 }
 
-// What a manifest, its files, a script and a state's text get.
+// Runs the script on what the manifest, its files and the state say. Otherwise refuses as they are refused.
 #[tactic(auto, using(engine::proofs::Openings::opens_on))]
-fn texts_kept(alloc: Global, texts: &Texts) -> Result<Kept, AllocError>
+fn run_script(alloc: Global, texts: &Texts) -> Result<Kept, AllocError>
     ensures { IfOk result (λ k. kept_of k ≡ run_kept false (Some (texts_read texts.now))) }
 {
     let script = texts.file.as_str();
     match open_texts(alloc, texts, Some(RUN_PLACES))? {
-        Opened::On(catalogue, state) => lines_kept(alloc, &catalogue, state.as_ref(), script),
-        Opened::Refused(reply) => Ok(unrun(reply)),
+        Opened::On(catalogue, state) => run_lines(alloc, &catalogue, state.as_ref(), script),
+        Opened::Refused(reply) => Ok(refuse(reply)),
     }
 }
 
 // Adds the negative number next to each reply that is negative as a signed number.
-fn signed(alloc: Global, plain: Kept) -> Result<Kept, AllocError>
+fn add_signs(alloc: Global, plain: Kept) -> Result<Kept, AllocError>
     ensures { IfOk result (λ k. kept_of k ≡ with_signs (kept_of plain)) }
 {
     let Kept { reply, state } = plain;
@@ -129,11 +129,11 @@ impl Command for Run {
 
     fn make(&self, alloc: Global, read: Gathered, _notes: &mut Notes) -> Result<Kept, AllocError> {
         let Ok(texts) = read else {
-            return Ok(unrun(not_text(alloc)?));
+            return Ok(refuse(not_text(alloc)?));
         };
-        let kept = texts_kept(alloc, &texts)?;
+        let kept = run_script(alloc, &texts)?;
         if self.is_signed {
-            signed(alloc, kept)
+            add_signs(alloc, kept)
         } else {
             Ok(kept)
         }

@@ -4,7 +4,7 @@
 ghost use Rattle.std.specs.Prelude.{◌≡◌};
 ghost use Rattle.engine.specs.Notes.{IsQuiet};
 
-use crate::reasons::{Told, put_reason, say};
+use crate::reasons::{Sentence, put_reason, say};
 use combiner::Reply;
 use engine::texts::{put_number, put_numbered};
 use engine::{Notes, Telling};
@@ -87,7 +87,7 @@ fn tail_at(world: &World, node: u64) -> u64 {
 }
 
 // What a step did that was taken and answers no call.
-fn taken_text(world: &mut World, step: &Step) -> Told
+fn taken_text(world: &mut World, step: &Step) -> Sentence
     ensures same { world.new ≡ world.old }
 {
     match step {
@@ -106,7 +106,7 @@ fn taken_text(world: &mut World, step: &Step) -> Told
 }
 
 // What a step answered.
-fn answer_text(world: &mut World, step: &Step, answer: StepAnswer) -> Told
+fn answer_text(world: &mut World, step: &Step, answer: StepAnswer) -> Sentence
     ensures same { world.new ≡ world.old }
 {
     match answer {

@@ -11,20 +11,20 @@ use std::alloc::AllocError;
 
 // A text about a step: in its gaps `{0}` and so on stand the numbers, in `{node}`, `{slot}` and `{program}` what the step names.
 #[derive(Clone, Copy)]
-pub(crate) struct Told {
+pub(crate) struct Sentence {
     text: &'static str,
     numbers: [u64; 4],
 }
 
 // A text, and the numbers for its gaps, of which there are four at most.
-pub(crate) fn say(text: &'static str, numbers: &[u64]) -> Told {
+pub(crate) fn say(text: &'static str, numbers: &[u64]) -> Sentence {
     let mut all = [0; 4];
     for k in 0..4 {
         if k < numbers.len() {
             all[k] = numbers[k];
         }
     }
-    Told { text, numbers: all }
+    Sentence { text, numbers: all }
 }
 
 // The slot that a step names; 0 where it names none.
@@ -47,20 +47,20 @@ fn program_of(step: &Step) -> u64 {
     }
 }
 
-// `program_of`, to be looked up: a number that is too large is no program's.
-fn number_of(step: &Step) -> u16 {
+// `program_of`, as the catalogue numbers programs. A number that is too large is of no program.
+fn catalogue_number(step: &Step) -> u16 {
     u16::try_from(program_of(step)).unwrap_or(u16::MAX)
 }
 
 // The name of the program that a step calls, or the number of its place.
 fn put_program(out: &mut Vec<u8>, catalogue: &Catalogue, step: &Step) -> Result<(), AllocError> {
-    match catalogue.name(number_of(step)) {
+    match catalogue.name(catalogue_number(step)) {
         Some(name) => out.extend_from_slice(name.as_bytes()),
         None => put_numbered(out, b"program ", program_of(step)),
     }
 }
 
-impl Told {
+impl Sentence {
     // Adds the text, which is about this step.
     pub(crate) fn put(
         &self,
@@ -85,7 +85,7 @@ impl Told {
 }
 
 // Why the call or the install of a step is refused.
-fn refused_text(catalogue: &Catalogue, step: &Step, refused: StoreRefused) -> Told {
+fn refused_text(catalogue: &Catalogue, step: &Step, refused: StoreRefused) -> Sentence {
     let (length, arg_len) = match step {
         Step::Post { argument, .. } | Step::ReadBegin { argument, .. } => (argument.len(), 0),
         Step::Install { arg_len, bytes, .. } => (bytes.len(), *arg_len),
@@ -93,7 +93,7 @@ fn refused_text(catalogue: &Catalogue, step: &Step, refused: StoreRefused) -> To
     };
     match refused {
         StoreRefused::ArgumentLength => {
-            let (text, wanted) = match catalogue.program(number_of(step)) {
+            let (text, wanted) = match catalogue.program(catalogue_number(step)) {
                 Some(accepted) => ("{program} takes {0} bytes, not {1}", accepted.arg_len()),
                 None => ("{program} takes at most {0} bytes, not {1}", MAX_ARG_LEN),
             };
@@ -128,7 +128,7 @@ fn last(count: u64) -> u64 {
 }
 
 // Why this step may not be taken now, and where there is one the step that helps.
-fn reason_text(catalogue: &Catalogue, step: &Step, why: Blocked) -> Told {
+fn reason_text(catalogue: &Catalogue, step: &Step, why: Blocked) -> Sentence {
     use Blocked::*;
     match why {
         Refused(refused) => refused_text(catalogue, step, refused),

@@ -26,7 +26,7 @@ use text::NumberedLines;
 const NO_NUMBER: u16 = u16::MAX;
 
 // The number of the program that a line names: of the catalogue by its name, else one that no store has; or the number that it says.
-fn number_of(catalogue: &Catalogue, key: ProgramKey<'_>) -> u64
+fn number_keyed(catalogue: &Catalogue, key: ProgramKey<'_>) -> u64
     ensures { result ≡ number_keyed catalogue.now (key_of key.entry) }
 {
     match key {
@@ -48,7 +48,7 @@ fn step_of(
         StepLine::Post(at, call) => Step::Post {
             node: at.node,
             slot: at.slot,
-            program: number_of(catalogue, call.key),
+            program: number_keyed(catalogue, call.key),
             argument: call.argument.as_slice().to_vec(alloc)?,
         },
         StepLine::Install(at, program) => Step::Install {
@@ -61,7 +61,7 @@ fn step_of(
         StepLine::ReadBegin(at, call) => Step::ReadBegin {
             node: at.node,
             slot: at.slot,
-            program: number_of(catalogue, call.key),
+            program: number_keyed(catalogue, call.key),
             argument: call.argument.as_slice().to_vec(alloc)?,
         },
         StepLine::Collect(SlotAt { node, slot }) => Step::Collect { node, slot },

@@ -4,6 +4,7 @@ use Rattle.engine.specs.Reading.{named_texts}
 use Rattle.engine.proofs.AfterStrangers.{manifest_alone, up_to_file, up_to_state, up_to_history}
 use Rattle.engine.proofs.Gatherings.{files_failed, file_failed, state_failed, history_failed, all_read}
 use Rattle.engine.proofs.InTurn.{files_in_turn, file_in_turn, state_in_turn, history_in_turn}
+use Rattle.engine.proofs.StopsThere.{at_file, at_history, at_state, before_all}
 use Rattle.engine.proofs.reading.gather_texts.Goals as goal
 
 pub returns-in_err-files-clause-read : goal.returns-in_err-files-clause-read
@@ -88,3 +89,27 @@ pub returns-in_err-history-clause-unread : goal.returns-in_err-history-clause-un
 returns-in_err-history-clause-unread g c =
     let p = err_from_is_err_and c.from_residual-in_err-history.result c.from_residual-in_err-history.ensures.1 in
     rw (p.1, p.2) (up_to_history c.args.inputs.now c.read_given.new.reader c.read_given-2.new.reader c.read_given-3.new.reader c.read_given-4.new.reader c.in_err-history.field-0.0 c.in_err-history.ensures.named)
+
+pub returns-in_err-manifest-clause-stops : goal.returns-in_err-manifest-clause-stops
+returns-in_err-manifest-clause-stops g c = before_all g.F.Folder.holds g.R.Source.remaining c.args.inputs.now c.read_given.new.reader
+
+pub returns-in_err-files-clause-stops : goal.returns-in_err-files-clause-stops
+returns-in_err-files-clause-stops g c = before_all g.F.Folder.holds g.R.Source.remaining c.args.inputs.now c.read_given.new.reader
+
+pub returns-in_err-file-clause-stops : goal.returns-in_err-file-clause-stops
+returns-in_err-file-clause-stops g c = at_file g.F.Folder.holds g.R.Source.remaining c.args.inputs.now c.read_given.new.reader c.read_given-2.new.reader c.args.inputs.now.state c.args.inputs.now.history c.in_ok-manifest.manifest c.in_ok-manifest.ensures.text (named_texts c.in_ok-files.files.items) (rw c.as_str.ensures.value at c.in_ok-files.ensures.gathered)
+
+pub returns-in_err-state-clause-stops : goal.returns-in_err-state-clause-stops
+returns-in_err-state-clause-stops g c =
+    at_state g.F.Folder.holds g.R.Source.remaining c.args.inputs.now c.read_given.new.reader c.read_given-2.new.reader c.read_given-3.new.reader c.args.inputs.now.history
+    c.in_ok-manifest.manifest c.in_ok-manifest.ensures.text (named_texts c.in_ok-files.files.items) (rw c.as_str.ensures.value at c.in_ok-files.ensures.gathered) c.in_ok-file.file c.in_ok-file.ensures.text
+
+pub returns-in_err-history-clause-stops : goal.returns-in_err-history-clause-stops
+returns-in_err-history-clause-stops g c =
+    at_history g.F.Folder.holds g.R.Source.remaining c.args.inputs.now c.read_given.new.reader c.read_given-2.new.reader c.read_given-3.new.reader c.read_given-4.new.reader
+    c.in_ok-manifest.manifest c.in_ok-manifest.ensures.text (named_texts c.in_ok-files.files.items) (rw c.as_str.ensures.value at c.in_ok-files.ensures.gathered) c.in_ok-file.file c.in_ok-file.ensures.text c.in_ok-state.state c.in_ok-state.ensures.text
+
+pub returns-clause-stops : goal.returns-clause-stops
+returns-clause-stops g c =
+    at_history g.F.Folder.holds g.R.Source.remaining c.args.inputs.now c.read_given.new.reader c.read_given-2.new.reader c.read_given-3.new.reader c.read_given-4.new.reader
+    c.in_ok-manifest.manifest c.in_ok-manifest.ensures.text (named_texts c.in_ok-files.files.items) (rw c.as_str.ensures.value at c.in_ok-files.ensures.gathered) c.in_ok-file.file c.in_ok-file.ensures.text c.in_ok-state.state c.in_ok-state.ensures.text
