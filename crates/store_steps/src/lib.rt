@@ -27,7 +27,7 @@ pub use deeds::{Deed, Stage, go_on};
 pub use describing::{InfoRefused, MapInfo, MapQuery, ProgramFacts, ProgramInfo, ProgramQuery};
 pub use getting::{Get, GetRefused, Lookup, MapKey};
 pub use looks::{Look, look_waiting, try_look};
-pub use pipelines::{EachRoom, Part};
+pub use pipelines::{EachRoom, Member};
 pub use polling::{go_on_at_once, try_begin};
 pub use questions::{QuestionRefused, Reads};
 pub use requests::{complete, post, try_post};
