@@ -104,7 +104,7 @@ asked_other new j k m asked op reply l p posts c = record {
   is = c.is;
   completed = has_completed asked asked c.after p.request c.batch reply (resumed_first asked) c.turned;
   looked = m;
-  visits = l.visits;
+  looks = l;
   goes = record { asked = asked; posts = posts; completes = record { waited = asked; rounds = Begins asked; batch = c.batch; collects = c.turns } };
   alone = λ lt. refl;
 }
@@ -126,7 +126,7 @@ module _ (caller : Caller) (node : ℕ) (members new : List Member) (k m : K) (o
     is = end.is;
     completed = has_completed c.asked f end.after c.posted.request end.batch reply (resumed_combined caller c.asked c.asked c.after f c.posted.request batch free_asked (asks m c.asked op alone c.posted) (resumed_first c.asked) c.turned has_all) end.turned;
     looked = m;
-    visits = l.visits;
+    looks = l;
     goes = record {
       asked = c.asked;
       posts = c.posts;

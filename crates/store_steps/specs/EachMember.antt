@@ -19,7 +19,7 @@ use Rattle.store_steps.specs.AtDesk.{HasAsked}
 use Rattle.store_steps.specs.AtOnce.{IsAlone, MayHandOver, StillWaits}
 use Rattle.store_steps.specs.Combining.{HasAnswered, HasCombined}
 use Rattle.store_steps.specs.Lending.{desk_of}
-use Rattle.store_steps.specs.Pipelines.{AreCalls, AreMembers, Asks, CollectsAt, HasDesk, HasLooked, KnownAt, MayAskAt, PostsAt, SameSpots, Visits, WaitsAt, here_of}
+use Rattle.store_steps.specs.Pipelines.{AreCalls, AreMembers, Asks, CollectsAt, HasDesk, HasLooked, KnownAt, MayAskAt, PostsAt, SameSpots, WaitsAt, here_of}
 use Rattle.store_steps.specs.Requests.{HasCompleted, HasPosted, HasTurned}
 use Rattle.store_steps.specs.Standing.{SessionKnown, StoreSeat}
 use Rattle.store_steps.specs.Updating.{PostsBy, TurnsBy, UpdatesBy}
@@ -129,7 +129,7 @@ pub record AsksFor (members : List Member) (j : ℕ) (k : SessionKnown) (op : Op
   pub is : KnownAt members j after
   pub completed : HasCompleted asked after posted.request reply
   pub looked : SessionKnown
-  pub visits : Visits k looked
+  pub looks : HasLooked k looked
   pub goes : UpdatesBy looked after op reply
   -- only the first member combines: a later one has no turn between its post and its answer
   pub alone : 0 < j → goes.completes.waited ≡ goes.asked

@@ -1,5 +1,5 @@
 -- Sessions of one node, each with a seat of its own, which hand their node's desk from one to the next.
-use Rattle.std.specs.Prelude.{◌≡◌, ◌≢◌, ℕ, ◌+◌, ◌-◌, ◌<◌, ◌≤◌, List, length, map, true, false, Some}
+use Rattle.std.specs.Prelude.{◌≡◌, ◌≢◌, ℕ, ◌+◌, ◌-◌, ◌<◌, List, length, map, false, Some}
 use Rattle.ownlock.specs.Held.{held_place}
 use Rattle.ownlock.specs.Seats.{At, IsSession, ShelfId, TookNext}
 use Rattle.ownlock.specs.Knowledge.{Acquired}
@@ -9,10 +9,8 @@ use Rattle.combiner.specs.Slots.{slot}
 use Rattle.combiner.specs.declared.slots.Reply.{Reply}
 use Rattle.combiner.specs.declared.slots.Stage.TheVariants.{Answered, Posted}
 use Rattle.loader.specs.CatalogueView.{CatalogueView}
-use Rattle.maps.specs.declared.shapes.TheConstants.{MAX_ARG_LEN}
 use Rattle.verifier.specs.declared.refusal.Mode.TheVariants.{Update}
 use Rattle.accounts.specs.Accounts.{Extends}
-use Rattle.replica.specs.StoreMeaning.{is_operation}
 use Rattle.oplog.specs.Operations.{Operation}
 use Rattle.accounts.specs.declared.sessions.Pending.{Pending}
 use Rattle.replica.specs.Views.{RepliesView}
@@ -30,6 +28,7 @@ use Rattle.store_steps.specs.AtOnce.{IsAlone, MayAsk}
 use Rattle.store_steps.specs.Combining.{HasCombined}
 use Rattle.store_steps.specs.Knowing.{IsOn}
 use Rattle.store_steps.specs.Lending.{desk_of}
+use Rattle.store_steps.specs.Questions.{MayAskEach}
 use Rattle.store_steps.specs.Requests.{HasPosted, HasTurned}
 use Rattle.store_steps.specs.Shelving.{store_rules}
 use Rattle.store_steps.specs.Standing.{IsFree, SessionKnown, Stands, StoreSeat}
@@ -191,7 +190,7 @@ SameSpots old new = map spot_of new ≡ map spot_of old
 
 -- each call may be asked for
 abbrev pub AreCalls : CatalogueView → List Question → Type 0
-AreCalls c calls = (j : ℕ) (q : Question) → At j q calls → (is_operation Update c (asked_op q) ≡ true) × (length q.argument.now ≤ MAX_ARG_LEN)
+AreCalls c calls = MayAskEach Update c calls
 
 -- the session of the j-th member, before it took the desk: that of the number `from` has it, in the seat s
 abbrev pub Begins : Shared → List Member → (from : ℕ) → StoreSeat → Held Value → ℕ → SessionKnown → Type 0

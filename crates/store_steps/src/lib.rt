@@ -29,7 +29,7 @@ pub use getting::{Get, GetRefused, Lookup, MapKey};
 pub use looks::{Look, look_waiting, try_look};
 pub use pipelines::{EachRoom, Member};
 pub use polling::{go_on_at_once, try_begin};
-pub use questions::{QuestionRefused, Reads};
+pub use questions::{QuestionRefused, Reads, check_each};
 pub use requests::{complete, post, try_post};
 pub use scanning::{Beginning, Page, Scan, ScanRefused};
 pub use snapshots::Snapshot;

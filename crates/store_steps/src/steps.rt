@@ -63,7 +63,7 @@ pub struct Here<'a> {
     pub caller: Caller,
 }
 
-/// What a read asks for.
+/// What a read or an update asks for.
 #[derive(Clone, Copy)]
 pub struct Question<'a> {
     /// A program, by its number.
