@@ -7,7 +7,7 @@ use combiner::Reply;
 use std::sync::Wait;
 use std::thread;
 use std::thread::Threads;
-use store::{Polled, Session, Store};
+use store::{Answer, Pipeline, Polled, Session, Store, StoreRefused};
 use store_steps::{EachRoom, Member, Question};
 
 fn member_of(session: Session) -> Member {
@@ -102,4 +102,70 @@ fn ask_beside_a_session(rt: HostRuntime) {
     let _ = Polled::new(other);
     assert_eq!(rt; (pairs.is_some(), done), (true, true));
     assert_eq!(rt; seen.ok(), Some(150));
+}
+
+// What is bumped: the counter under the key.
+fn bump(key: &[u8]) -> Question<'_> {
+    Question {
+        program: 0,
+        argument: key,
+    }
+}
+
+// Whether four updates of the counter have the replies that their indexes ask for, and indexes that ascend, so many times.
+fn fours<R: Wait>(rt: &R, store: &Store, pipeline: &mut Pipeline, rounds: usize) -> bool {
+    let mut answers = [Err(StoreRefused::Ended); 4];
+    for _ in 0..rounds {
+        if pipeline
+            .invoke_each(rt, store, &[bump(&ZERO); 4], &mut answers)
+            .is_err()
+        {
+            return false;
+        }
+        let mut last = None;
+        for answer in answers {
+            match answer {
+                Ok(Answer { index, reply }) if reply == index + 1 && last < Some(index) => {
+                    last = Some(index);
+                }
+                _ => return false,
+            }
+        }
+    }
+    true
+}
+
+// Four sessions of one node ask on a thread, and four of another node on another: each answer has its index, and no other.
+#[test]
+fn two_pipelines_on_threads(rt: HostRuntime) {
+    let (store, mut sessions) = opened(rt.alloc(), 2, 4, 10_000).expect(&rt, "store");
+    let mut others = Vec::with_capacity(rt.alloc(), 8).expect(&rt, "room");
+    for _ in 0..4 {
+        others.push_reserved(sessions.remove(0));
+    }
+    let mut first = match Pipeline::of(rt.alloc(), &store, others) {
+        Ok(pipeline) => pipeline,
+        Err(_) => unreachable!(),
+    };
+    let mut second = match Pipeline::of(rt.alloc(), &store, sessions) {
+        Ok(pipeline) => pipeline,
+        Err(_) => unreachable!(),
+    };
+    let shared = &store;
+    let (one, other) = thread::join(
+        &rt,
+        || { fours(&rt, shared, &mut first, 200) },
+        || { fours(&rt, shared, &mut second, 200) },
+    );
+    let mut back = first.into_sessions();
+    let mut rest = second.into_sessions();
+    for _ in 0..4 {
+        back.push_reserved(rest.remove(0));
+    }
+    rest.destroy_empty();
+    let closed = match store.close(back) {
+        Ok(closed) => closed,
+        Err(_) => unreachable!(),
+    };
+    assert_eq!(rt; (one, other, closed.log().tail()), (true, true, 1_600));
 }

@@ -50,8 +50,7 @@ pub fn check_each(
     mode: Mode,
     questions: &[Question<'_>],
 ) -> Result<(), QuestionRefused>
-    ensures refusal { MatchResult result (λ _. first_refused_in mode catalogue.now 0 questions.now ≡ None)
-        (λ e. first_refused_in mode catalogue.now 0 questions.now ≡ Some e) }
+    ensures refusal { let first = first_refused_in mode catalogue.now 0 questions.now in MatchResult result (λ _. first ≡ None) (λ e. first ≡ Some e) }
     ensures may { IfOk result (λ _. MayAskEach mode catalogue.now questions.now) }
 {
     for number in 0..questions.len() {
