@@ -13,13 +13,14 @@ use Rattle.replica.specs.declared.refusals.StoreRefused.{StoreRefused}
 use Rattle.accounts.specs.declared.sessions.Pending.{Pending}
 use Rattle.accounts.specs.declared.sessions.SessionNote.{SessionNote}
 use Rattle.accounts.specs.Moves.{answered_with}
+use Rattle.store_steps.specs.Pipelines.{Stays, Visit, Visits}
 use Rattle.store_steps.specs.Standing.{SessionKnown, StoreSeat}
 use Rattle.store_steps.specs.declared.steps.Caller.{Caller}
 use Rattle.store_steps.specs.declared.deeds.Stage.TheVariants.{Asked, Claimed, Idle, Ready}
 use Rattle.store_steps.specs.Stages.{IsAsking}
 use Rattle.store_steps.specs.Updating.{Answers, Begins, ClaimsIt, Combines, DeedBy, Deeds, Gives, Looks, PostsBy, Rests as NoDeed, Rounds, Then, Tries, UpdatesBy, Waits}
 use Rattle.store_steps.specs.Views.{SessionView, first_in, session_view}
-use Rattle.store.specs.CallsTold.{Asks, ClosesTold, GoesOn, IsUnderWay, PolledRest, PolledUpdatesAreTold, Posts, ReadsAreTold, Rests, SessionsRest, UpdatesAreTold}
+use Rattle.store.specs.CallsTold.{Asks, ClosesTold, GoesOn, IsUnderWay, PipelinesAreTold, PolledRest, PolledUpdatesAreTold, Posts, ReadsAreTold, Rests, SessionsRest, UpdatesAreTold}
 use Rattle.store.specs.Opening.{setup_of}
 use Rattle.store.specs.Sessions.{TellsUpdate, known_of, said}
 use Rattle.store.specs.declared.answers.Answer.{Answer}
@@ -64,6 +65,32 @@ updates_are_told old new op result rests goes tells = (
   record { idle = rests; goes = inl goes.2; answered = noted_so old new op goes.0 (subst (TellsUpdate old new op) goes.1 tells) },
   update_goes _ _ op goes.0 goes.2,
 )
+
+-- ---- an update of a pipeline
+
+visits_go : (k m : SessionKnown) → Visits k m → Continues k.run m.run
+visits_go k m (Stays j) = continues_self k.run
+visits_go k m (Visit j i after slot x visits at) = continues_on k.run i.run m.run (visits_go k i visits) at.did.goes_on
+
+pub pipelines_are_told : PipelinesAreTold
+pipelines_are_told old new op result rests goes tells =
+    let l = goes.1 in
+    let u = goes.2 in (
+      goes.0,
+      l.session,
+      l.visits,
+      visits_go (known_of old) goes.0 l.visits,
+      (
+        u.0,
+        u.1,
+        record {
+          idle = (ap (λ (n : SessionNote). n.pending) l.note ∙ rests.0, ap (λ (n : SessionNote). n.batch) l.note ∙ rests.1);
+          goes = inl u.2;
+          answered = noted_so old new op u.0 (subst (TellsUpdate old new op) u.1 tells) ∙ ap (λ n. noted_with n op u.0) (sym l.note);
+        },
+        update_goes _ _ op u.0 u.2,
+      ),
+    )
 
 -- ---- a polled update
 

@@ -13,4 +13,6 @@ pub mod Explained
 pub mod CallsTold
 pub mod MayInstall
 pub mod Confines
+pub mod Neighbours
+pub mod AskedEach
 pub mod Export

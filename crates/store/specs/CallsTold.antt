@@ -11,8 +11,9 @@ use Rattle.replica.specs.Views.{RepliesView}
 use Rattle.replica.specs.declared.refusals.StoreRefused.{StoreRefused}
 use Rattle.accounts.specs.declared.sessions.Pending.{Pending}
 use Rattle.accounts.specs.Told.{ReadTells}
+use Rattle.store_steps.specs.Pipelines.{Visits}
 use Rattle.store_steps.specs.Polling.{BeginsBy, HasAskedFor}
-use Rattle.store_steps.specs.Standing.{StoreSeat}
+use Rattle.store_steps.specs.Standing.{SessionKnown, StoreSeat}
 use Rattle.store_steps.specs.Stages.{IsPolled}
 use Rattle.store_steps.specs.Updating.{PostsBy}
 use Rattle.store_steps.specs.Whole.{ReadsBy}
@@ -22,6 +23,7 @@ use Rattle.store_steps.specs.declared.steps.Caller.{Caller}
 use Rattle.store.specs.Going.{CompleteGoes, UpdateGoes}
 use Rattle.store.specs.Looks.{MayRead}
 use Rattle.store.specs.Opening.{ClosedView, IsClosed, setup_of}
+use Rattle.store.specs.Pipelines.{LooksAndUpdates}
 use Rattle.store.specs.Polled.{HasPostedFor, TellsCompleted}
 use Rattle.store.specs.Sessions.{IsOf, StoreView, TellsUpdate, known_of, said}
 use Rattle.store.specs.declared.answers.Answer.{Answer}
@@ -57,6 +59,14 @@ abbrev pub UpdatesAreTold : Type 0
 UpdatesAreTold =
     (old new : SessionView) (op : Operation) (result : Result Answer StoreRefused) → Rests old → UpdateGoes old new op result → TellsUpdate old new op result
     → (reply : Reply) × (result ≡ said reply) × WasUpdate (known_of old) (known_of new) op reply × Continues old.run new.run
+
+-- So may each update of a pipeline, by `goes` and `answered` of `Pipeline::invoke_each`: what the session did first, the looks at its desk for nothing,
+-- may be listed as another call, which makes no events.
+abbrev pub PipelinesAreTold : Type 0
+PipelinesAreTold =
+    (old new : SessionView) (op : Operation) (result : Result Answer StoreRefused) → Rests old → LooksAndUpdates old new op result → TellsUpdate old new op result
+    → (looked : SessionKnown) × (looked.session ≡ old.session) × Visits (known_of old) looked × Continues old.run looked.run
+    × ((reply : Reply) × (result ≡ said reply) × WasUpdate looked (known_of new) op reply × Continues looked.run new.run)
 
 -- a session has posted an operation, and has gone on with it by calls that had no answer
 pub data IsUnderWay (old : SessionView) (op : Operation) : SessionView → Type 0 where

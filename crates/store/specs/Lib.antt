@@ -17,3 +17,5 @@ pub mod Within
 pub mod Explained
 -- What is told of the calls of a session.
 pub mod CallsTold
+-- Several sessions of one node that ask for their updates at once.
+pub mod Pipelines

@@ -8,6 +8,7 @@ mod closed;
 mod describing;
 mod laws;
 mod opening;
+mod pipeline;
 mod polled;
 mod session;
 mod store;
@@ -22,6 +23,7 @@ pub use loader::{Catalogue, LoadError, StoreState, load_manifest, load_manifest_
 pub use maps::{MapLimits, Shape};
 pub use node::NodeReplica;
 pub use oplog::{Config, ENDLESS, OpenError, Sizes};
+pub use pipeline::{JoinRefused, NotJoined, Pipeline};
 pub use polled::Polled;
 pub use readpath::ReadAnswer;
 pub use replica::{NO_PLACE, NO_PROGRAM, StoreRefused};

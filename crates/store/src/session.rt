@@ -1,7 +1,8 @@
 // A session's calls.
 
-ghost use Rattle.std.specs.Prelude.{◌≡◌, [], ◌∷◌, true, length, None, Some, Err, ◌≤◌, IfErr, IfOk};
+ghost use Rattle.std.specs.Prelude.{◌≡◌, [], ◌∷◌, true, length, None, Some, Err, ◌≤◌, ◌<◌, IfErr, IfOk};
 ghost use Rattle.maps.specs.Maps.{AreBytes};
+ghost use Rattle.oplog.specs.Sessions.{session};
 ghost use Rattle.verifier.specs.declared.refusal.Mode.TheVariants.{Update, Read};
 ghost use Rattle.replica.specs.StoreMeaning.{is_operation};
 ghost use Rattle.replica.specs.declared.refusals.StoreRefused.{StoreRefused};
@@ -104,6 +105,14 @@ impl Session {
             room,
             op: Op::default(),
         }
+    }
+
+    // The session's slot.
+    pub(crate) fn caller(&self) -> Caller
+        ensures own { self.now.session ≡ session self.now.progress.config result.node result.slot }
+        ensures within { result.slot < self.now.progress.config.slots }
+    {
+        self.caller
     }
 
     // Gives the session's seat, its slot, and its room for a program.

@@ -17,10 +17,10 @@ use Rattle.store_steps.specs.Shelving.{places_of, sessions_of}
 use Rattle.store_steps.specs.Standing.{SessionKnown}
 use Rattle.store_laws.specs.RunEvents.{Asks, Hears, Nothing, Says, Sayings, StoreRun, begun_in, events_in, opening_of, said_at}
 use Rattle.store_laws.specs.ReadsSaid.{IsSilent, KeepsNote, LookStands, OwnMaySay, SaysRead}
-use Rattle.store_laws.specs.CallsMade.{Calls, CallsAreExplained, CallsBetween, EachHasEvents, HasEvents, HasTheirEvents, KnewOnce, LooksMakeNoEvents, NoCalls, Others, Reads, Told, ToldOf, Untold, Updates, WasRead, WentOn, events_made, events_of_session, noted_events}
+use Rattle.store_laws.specs.CallsMade.{Calls, CallsAreExplained, CallsBetween, EachHasEvents, HasEvents, HasTheirEvents, KnewOnce, LooksMakeNoEvents, VisitsMakeNoEvents, NoCalls, Others, Reads, Told, ToldOf, Untold, Updates, WasRead, WentOn, events_made, events_of_session, noted_events}
 use Rattle.store_laws.proofs.ReadsSaid.{each_may_say, keeps_first, looks_stand, own_more, reads_may_say, silent_may_say}
 use Rattle.store_laws.proofs.RunEvents.{runs_are_explained}
-use Rattle.store_laws.proofs.UpdateEvents.{update_makes}
+use Rattle.store_laws.proofs.UpdateEvents.{update_makes, visits_make}
 use Rattle.store_laws.proofs.SessionEvents.{kept_events, no_own_events, quiet_events, silent_events, spoken_events}
 
 module _ (opening : Setup) where
@@ -265,3 +265,6 @@ looks_make_no_events opening k after point a b same batch look on =
     let w : LookStands k after look.seen = looks_stand opening a.state b.state k after point a.between b.between a.knows b.knows same batch look in
     let since : on.0 ≡ w.since = append_cancel_right on.0 w.since k.run (sym on.1 ∙ w.whole) in
     ap (noted_events k.session) since ∙ kept_events k.session k.note w.since w.keeps
+
+pub visits_make_no_events : VisitsMakeNoEvents
+visits_make_no_events opening k after once went visits = visits_make opening k after once went visits

@@ -28,6 +28,7 @@ use Rattle.schedule.specs.Trace.{Back, Call, Updated}
 use Rattle.schedule.specs.declared.parts.Opening.{Opening}
 use Rattle.store_laws.proofs.Behind.{own_both}
 use Rattle.store_steps.specs.Shelving.{places_of, sessions_of}
+use Rattle.store_steps.specs.Pipelines.{Visits}
 use Rattle.store_steps.specs.Standing.{SessionKnown}
 use Rattle.store_steps.specs.declared.values.Setup.{Setup}
 use Rattle.store_steps.specs.declared.values.Value.{Value}
@@ -40,7 +41,7 @@ use Rattle.store_laws.proofs.KeptNotes.{Leads, begins, untouched}
 use Rattle.store_laws.proofs.OwnSteps.{HasOwn, first_or, none_some_list, others, own_split}
 use Rattle.store_laws.proofs.RunEvents.{Stood, stood}
 use Rattle.store_laws.proofs.SessionEvents.{events_else, events_here, no_own_events, silent_events}
-use Rattle.store_laws.proofs.UpdateSteps.{AfterTook, Quiet, UpdateDone, quiet_took, update_done}
+use Rattle.store_laws.proofs.UpdateSteps.{AfterTook, Quiet, Since, UpdateDone, quiet_took, update_done, visits_since}
 
 -- ---- a session that waits
 
@@ -278,6 +279,32 @@ module _ (opening : Setup) where
       subst (λ z. At k.session z notes) t.5 (last_note m sessions places t.1 t.0 k.session t.3 was notes (subst (λ z. Leads m sessions places z was notes) t.2 leads)))
       (once.between.ends once.knows.0 once.knows.1 once.knows.2 k once.knows.3 once.knows.4).last
 
+  ends_later : (k after : SessionKnown) → WentOn opening k after → EndsWithOwn after
+  ends_later k after went = let b = went.once.knows in went.once.between.ends b.0 b.1 b.2 after b.3 b.4
+
+  -- the session's own steps since it knew k
+  own_since : (k after : SessionKnown) → KnewOnce opening k → (went : WentOn opening k after) → own_steps k.session went.on.0 ++ k.steps ≡ after.steps
+  own_since k after once went =
+      let a = once.knows in
+      ap (λ z. own_steps k.session went.on.0 ++ z) (sym (once.between.ends a.0 a.1 a.2 k a.3 a.4).seen)
+      ∙ (sym (own_both k.session went.on.0 k.run) ∙ (ap (own_steps k.session) (sym went.on.1) ∙ subst (λ z. own_steps z after.run ≡ after.steps) went.same (ends_later k after went).seen))
+
+  -- what stood where the session knew `after`
+  stands_later : (k after : SessionKnown) → (went : WentOn opening k after) → Stood m sessions places after.run went.once.between.progress
+  stands_later k after went =
+      let b = went.once.knows in
+      let on = went.once.between.goes_on b.0 b.1 b.2 after b.3 b.4 in
+      stood m sessions places on.0 after.run went.once.between.progress went.once.between.notes
+      (subst (λ z. Leads m sessions places z went.once.between.progress went.once.between.notes) on.1 went.once.between.leads)
+
+  -- looks at a desk make no events
+  pub visits_make : (k after : SessionKnown) → KnewOnce opening k → (went : WentOn opening k after) → Visits k after → noted_events k.session went.on.0 ≡ []
+  visits_make k after once went visits =
+      let w : Since k after = visits_since k after visits in
+      let steps : own_steps k.session went.on.0 ≡ w.steps = append_cancel_right (own_steps k.session went.on.0) w.steps k.steps (own_since k after once went ∙ w.is) in
+      let stands = stands_later k after went in
+      (walk m sessions places k.session k.note went.on.0 k.run stands.progress stands.notes (subst (λ z. Leads m sessions places z stands.progress stands.notes) went.on.1 stands.leads) (subst Quiet (sym steps) w.quiet) (known_there k once)).events
+
   pub update_makes : (k after : SessionKnown) (op : Operation) (reply : Reply) → KnewOnce opening k → (went : WentOn opening k after) → WasUpdate k after op reply
       → noted_events k.session went.on.0 ≡ Call k.session Update op ∷ Back k.session (Updated reply) ∷ []
   update_makes k after op reply once went update =
@@ -290,23 +317,16 @@ module _ (opening : Setup) where
       since = went.on.0
 
       ends_after : EndsWithOwn after
-      ends_after = let b = went.once.knows in went.once.between.ends b.0 b.1 b.2 after b.3 b.4
+      ends_after = ends_later k after went
 
       own : own_steps c since ++ k.steps ≡ after.steps
-      own =
-          let a = once.knows in
-          ap (λ z. own_steps c since ++ z) (sym (once.between.ends a.0 a.1 a.2 k a.3 a.4).seen)
-          ∙ (sym (own_both c since k.run) ∙ (ap (own_steps c) (sym went.on.1) ∙ subst (λ z. own_steps z after.run ≡ after.steps) went.same ends_after.seen))
+      own = own_since k after once went
 
       config : k.progress.config ≡ m.config
       config = let a = once.knows in (once.between.grown a.0 a.1 a.2 k a.3 a.4).config ∙ once.between.config
 
       stands : Stood m sessions places after.run went.once.between.progress
-      stands =
-          let b = went.once.knows in
-          let on = went.once.between.goes_on b.0 b.1 b.2 after b.3 b.4 in
-          stood m sessions places on.0 after.run went.once.between.progress went.once.between.notes
-          (subst (λ z. Leads m sessions places z went.once.between.progress went.once.between.notes) on.1 went.once.between.leads)
+      stands = stands_later k after went
 
       with_post : (newest newer older : StoreRun) (collect post : StoreStep) → since ≡ newest ++ collect ∷ (newer ++ post ∷ older) → collect.session ≡ c → post.session ≡ c → own_steps c newest ≡ []
           → PostNotes m sessions places c k.note op post older → CollectNotes m sessions places c reply collect newer → noted_events c since ≡ Call c Update op ∷ Back c (Updated reply) ∷ []

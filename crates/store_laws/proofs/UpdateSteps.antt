@@ -20,6 +20,7 @@ use Rattle.atomic_table.proofs.Lists.{set_here}
 use Rattle.accounts.specs.Agreement.{desk_place, log_place, replica_place}
 use Rattle.accounts.proofs.Export.{WasEmpty, answered_at, answered_long, posted_is, at_below, at_one, at_mapped, at_there}
 use Rattle.store_steps.specs.Doing.{ADesk, ALog, AReplica, Did, Part, and_then, of_part}
+use Rattle.store_steps.specs.Pipelines.{Stays, Visit, Visits}
 use Rattle.store_steps.specs.Standing.{SessionKnown}
 use Rattle.store_steps.specs.Updating.{Answers, Begins, ClaimsIt, Combines, DeedBy, Deeds, Gives, Looks, PostsBy, Rests, Rounds, Then, Tries, TurnsBy, UpdatesBy, Waits}
 use Rattle.store_steps.specs.Whole.{CombinesBy, answer_deeds, append_deeds, room_deeds}
@@ -246,6 +247,11 @@ rounds_since k m (Begins j) = record { steps = []; is = refl; quiet = tt }
 rounds_since k m (Waits j i after batch rounds turn) = and_desk k i m _ _ turn.desk turn.back (rounds_since k i rounds) (same_empty turn.desk turn.back turn.is.2) turn.at.did
 rounds_since k m (Combines j i claiming after batch answered rounds turn combine) =
     and_combine k claiming m batch answered (and_desk k i claiming _ _ turn.desk turn.back (rounds_since k i rounds) (claims_empty turn.desk turn.back turn.is.3) turn.at.did) combine
+
+-- looks at a desk, which is put back as it was
+pub visits_since : (k m : SessionKnown) → Visits k m → Since k m
+visits_since k m (Stays j) = record { steps = []; is = refl; quiet = tt }
+visits_since k m (Visit j i after slot x visits at) = and_desk k i m _ _ x x (visits_since j i visits) (same_empty x x refl) at.did
 
 -- ---- deeds
 

@@ -21,6 +21,7 @@ use Rattle.schedule.specs.Explains.{Explains}
 use Rattle.schedule.specs.Trace.{Event, Call, Back, ReadBack, Updated, Trace, Positions, caller}
 use Rattle.store_steps.specs.declared.values.Setup.{Setup}
 use Rattle.store_steps.specs.Shelving.{places_of, sessions_of, store_rules}
+use Rattle.store_steps.specs.Pipelines.{Visits}
 use Rattle.store_steps.specs.Standing.{SessionKnown}
 use Rattle.store_steps.specs.Updating.{CollectsBy, Deeds, PostsBy, UpdatesBy}
 use Rattle.store_steps.specs.Whole.{LooksBy, ReadsBy}
@@ -120,6 +121,10 @@ abbrev pub LooksMakeNoEvents : Type 0
 LooksMakeNoEvents =
     (opening : Setup) (k after : SessionKnown) (point : ℕ) → KnewOnce opening k → KnewOnce opening after → after.session ≡ k.session → k.note.batch ≡ []
     → LooksBy k after point → (on : Continues k.run after.run) → noted_events k.session on.0 ≡ []
+
+-- A session of a pipeline may look at its desk for nothing before it posts. That makes no events: list it as one of the others, and then the update.
+abbrev pub VisitsMakeNoEvents : Type 0
+VisitsMakeNoEvents = (opening : Setup) (k after : SessionKnown) → KnewOnce opening k → (went : WentOn opening k after) → Visits k after → noted_events k.session went.on.0 ≡ []
 
 -- ---- one history explains the calls of all sessions
 

@@ -2,7 +2,7 @@
 ghost use Rattle.store_laws.specs.Threads.{AnswersAreTold, ThreadsAreExplained};
 ghost use Rattle.store_laws.specs.RunEvents.{AnswersAreInRun, BetweenIsExplained, CalledLater, EachStepStands, EventsGoOn, KnownEventsBegin, RunsAreExplained, UpdatesAreExplained};
 ghost use Rattle.store_laws.specs.ReadsSaid.{EachMaySay, LooksStand, ReadsMaySay, SilentMaySay};
-ghost use Rattle.store_laws.specs.CallsMade.{CallsAreExplained, CallsBetween, LooksMakeNoEvents};
+ghost use Rattle.store_laws.specs.CallsMade.{CallsAreExplained, CallsBetween, LooksMakeNoEvents, VisitsMakeNoEvents};
 ghost use Rattle.store_laws.specs.Stands.{OpeningStands, StepsKeepIt};
 ghost use Rattle.store_laws.specs.AtLock.{AnswersAreSteps, LoadsAreSteps, PutsAreSteps, RaisesAreSteps};
 
@@ -40,11 +40,12 @@ pub fn runs_are_explained()
 
 /// Take for each session the calls that it made, one after another, each as its contract has it: reads and updates with their answers, and
 /// others. One history explains a trace that has exactly these calls, each session's in its order, and so it is between any two atomic steps.
-/// Nothing is asked of what sessions say. A look that is no read of a program makes no event.
+/// Nothing is asked of what sessions say. A look that is no read of a program makes no event, and neither does a look at a desk for nothing.
 pub fn calls_are_explained()
     ensures explained { CallsAreExplained }
     ensures between { CallsBetween }
     ensures looks { LooksMakeNoEvents }
+    ensures visits { VisitsMakeNoEvents }
 {}
 
 /// What the lock's contracts tell a session of a store is one of these steps, from whatever it may find there: a put that it may make, with

@@ -1,11 +1,11 @@
--- The parts of a pipeline, once they have posted and the first one has combined.
+-- The members of a pipeline, once they have posted and the first one has combined.
 use Rattle.std.proofs.Common.{◌≡◌, ℕ, zero, suc, ◌<◌, List, length, set, sym, ap, ◌∙◌, subst, arith}
 use Rattle.atomic_table.proofs.Lists.{set_else, set_here}
 use Rattle.ownlock.specs.Seats.{At, IsSession}
 use Rattle.combiner.specs.Desks.{BatchView}
 use Rattle.replica.specs.Views.{RepliesView}
 use Rattle.accounts.proofs.Export.{at_below, at_one}
-use Rattle.store_steps.specs.declared.pipelines.Part.{Part}
+use Rattle.store_steps.specs.declared.pipelines.Member.{Member}
 use Rattle.store_steps.specs.declared.steps.Question.{Question}
 use Rattle.store_steps.specs.declared.steps.Shared.{Shared}
 use Rattle.store_steps.specs.Asking.{AwaitsAnswer, asked_op}
@@ -13,12 +13,12 @@ use Rattle.store_steps.specs.AtOnce.{IsAlone, MayAsk, MayHandOver}
 use Rattle.store_steps.specs.Combining.{HasAnswered, HasCombined}
 use Rattle.ownlock.proofs.Export.{one_known}
 use Rattle.combiner.specs.declared.slots.Reply.{Reply}
-use Rattle.store_steps.specs.EachPart.{AscendEach, AsksEach, AsksFor, ClaimsAt, CombinesEach, GivesEach, HasRecordOf, LooksAndPosts, MayGive}
+use Rattle.store_steps.specs.EachMember.{AscendEach, AsksEach, AsksFor, ClaimsAt, CombinesEach, GivesEach, HasRecordOf, LooksAndPosts, MayGive}
 use Rattle.store_steps.specs.Knowing.{Learns, Relates}
 use Rattle.store_steps.specs.Pipelines.{CollectsAt, HasLooked, KnownAt, MayAskAt, PostsAt, SameSpots}
 use Rattle.store_steps.specs.Standing.{IsFree, SessionKnown, StoreSeat}
 use Rattle.store_steps.specs.Whole.{AnswersBy, HandsOver}
-use Rattle.store_steps.proofs.AskingEach.{PartOf, alone_then, asked_first, asked_other, claims_of, first_free, first_on, first_waits, free_looked, on_looked, one_at, part_of, was_at}
+use Rattle.store_steps.proofs.AskingEach.{MemberOf, alone_then, asked_first, asked_other, claims_of, first_free, first_on, first_waits, free_looked, on_looked, one_at, member_of, was_at}
 use Rattle.store_steps.proofs.AtOnce.{asks, still_waits}
 use Rattle.store_steps.proofs.Posting.{known_as}
 use Rattle.store_steps.proofs.Resumed.{free_back, free_by, shelf_then}
@@ -26,16 +26,16 @@ use Rattle.store_steps.proofs.Resumed.{free_back, free_by, shelf_then}
 abbrev K : Type 0
 K = SessionKnown
 
-module _ (shared : Shared) (old new : List Part) (calls : List Question) (batch : BatchView) (same : SameSpots old new) (count : (0 < length calls) × (length old ≡ length calls)) (idle : (j : ℕ) → MayAskAt shared old j) (p : LooksAndPosts old new calls batch) (own : Part) (at_own : At 0 own new) (s3 : StoreSeat) (kept : RepliesView)
+module _ (shared : Shared) (old new : List Member) (calls : List Question) (batch : BatchView) (same : SameSpots old new) (count : (0 < length calls) × (length old ≡ length calls)) (idle : (j : ℕ) → MayAskAt shared old j) (p : LooksAndPosts old new calls batch) (own : Member) (at_own : At 0 own new) (s3 : StoreSeat) (kept : RepliesView)
     (learns : Learns own.seat s3 (λ k after. HasAnswered k after batch kept)) (goes : Relates own.seat s3 (λ k after. AnswersBy own.caller.node k after batch kept)) where
   abbrev Of : ℕ → Type 0
-  Of = PartOf shared old new calls batch same count idle p
+  Of = MemberOf shared old new calls batch same count idle p
 
-  abbrev pub last : List Part
+  abbrev pub last : List Member
   last = set new 0 (record own { seat = s3 })
 
   abbrev first : Of 0
-  first = part_of shared old new calls batch same count idle p 0 count.0
+  first = member_of shared old new calls batch same count idle p 0 count.0
 
   abbrev claims : ClaimsAt new first.l (asked_op first.q) batch
   claims = claims_of shared old new calls batch same count idle p first
@@ -43,8 +43,8 @@ module _ (shared : Shared) (old new : List Part) (calls : List Question) (batch 
   is_first : IsSession own.seat claims.after
   is_first = known_as new 0 claims.after own at_own claims.is
 
-  same_caller : (j : ℕ) (part : Part) (w : Of j) → At j part new → part.caller ≡ w.part.caller
-  same_caller j part w at = let o = was_at old new same j part at in ap (λ z. z.0) o.2 ∙ ap (λ (z : Part). z.caller) (at_one old j o.0 w.part o.1 w.at)
+  same_caller : (j : ℕ) (member : Member) (w : Of j) → At j member new → member.caller ≡ w.member.caller
+  same_caller j member w at = let o = was_at old new same j member at in ap (λ z. z.0) o.2 ∙ ap (λ (z : Member). z.caller) (at_one old j o.0 w.member o.1 w.at)
 
   abbrev combined : (a : K) × IsSession s3 a × HasAnswered claims.after a batch kept
   combined = learns claims.after is_first
@@ -55,16 +55,16 @@ module _ (shared : Shared) (old new : List Part) (calls : List Question) (batch 
   known_first : KnownAt last 0 combined.0
   known_first = (record own { seat = s3 }, at_first, combined.1)
 
-  at_new : (j : ℕ) (part : Part) → 0 < j → At j part last → At j part new
-  at_new j part lt at = sym (set_else new 0 j (record own { seat = s3 }) (λ e. omega (arith, e, lt))) ∙ at
+  at_new : (j : ℕ) (member : Member) → 0 < j → At j member last → At j member new
+  at_new j member lt at = sym (set_else new 0 j (record own { seat = s3 }) (λ e. omega (arith, e, lt))) ∙ at
 
-  below : (j : ℕ) (part : Part) → At j part new → j < length calls
-  below j part at = let o = was_at old new same j part at in let lt = at_below old j o.0 o.1 in let long = count.1 in omega (arith, lt, long)
+  below : (j : ℕ) (member : Member) → At j member new → j < length calls
+  below j member at = let o = was_at old new same j member at in let lt = at_below old j o.0 o.1 in let long = count.1 in omega (arith, lt, long)
 
   posts : (j : ℕ) → 0 < j → (w : Of j) → PostsAt new j w.l (asked_op w.q)
   posts j lt w = p.posts.others j w.l w.q lt w.at_q w.mid
 
-  -- which session a part was
+  -- which session a member was
   pub origin : (j : ℕ) (f : K) → KnownAt last j f → (w : Of j) × (f.session ≡ w.l.session)
   origin zero f known =
       let a = one_at last 0 f combined.0 known known_first in
@@ -72,15 +72,15 @@ module _ (shared : Shared) (old new : List Part) (calls : List Question) (batch 
   origin (suc j) f known =
       let up : 0 < suc j = omega arith in
       let at = at_new (suc j) known.0 up known.1 in
-      let w = part_of shared old new calls batch same count idle p (suc j) (below (suc j) known.0 at) in
+      let w = member_of shared old new calls batch same count idle p (suc j) (below (suc j) known.0 at) in
       let q = posts (suc j) up w in
       (w, ap (λ (z : K). z.session) (one_at new (suc j) f q.0 (known.0, at, known.2) q.1) ∙ q.2.back.session)
 
-  ready : (part : Part) → At 0 part last → MayHandOver part.seat part.caller shared batch kept
-  ready part at =
+  ready : (member : Member) → At 0 member last → MayHandOver member.seat member.caller shared batch kept
+  ready member at =
       let a = combined in
       let free = subst (λ z. IsFree z claims.after) (sym (same_caller 0 own first at_own)) (first_free shared old new calls batch same count idle p first) in
-      subst (λ (z : Part). MayHandOver z.seat z.caller shared batch kept) (at_one last 0 (record own { seat = s3 }) part at_first at) (
+      subst (λ (z : Member). MayHandOver z.seat z.caller shared batch kept) (at_one last 0 (record own { seat = s3 }) member at_first at) (
         a.0,
         a.1,
         (
@@ -92,15 +92,15 @@ module _ (shared : Shared) (old new : List Part) (calls : List Question) (batch 
         ),
       )
 
-  waits : (j : ℕ) → 0 < j → (part : Part) → At j part last → AwaitsAnswer part.seat part.caller shared
-  waits j lt part at0 =
-      let at = at_new j part lt at0 in
-      let w = part_of shared old new calls batch same count idle p j (below j part at) in
+  waits : (j : ℕ) → 0 < j → (member : Member) → At j member last → AwaitsAnswer member.seat member.caller shared
+  waits j lt member at0 =
+      let at = at_new j member lt at0 in
+      let w = member_of shared old new calls batch same count idle p j (below j member at) in
       let q = posts j lt w in (
         q.0,
         q.2.request,
-        known_as new j q.0 part at q.1,
-        subst (λ z. IsFree z q.0) (sym (same_caller j part w at)) (free_back w.part.caller w.l q.0 (free_looked shared old new calls batch same count idle p j w) q.2.back),
+        known_as new j q.0 member at q.1,
+        subst (λ z. IsFree z q.0) (sym (same_caller j member w at)) (free_back w.member.caller w.l q.0 (free_looked shared old new calls batch same count idle p j w) q.2.back),
         asks w.l q.0 (asked_op w.q) (alone_then w.k w.l w.looked w.alone) q.2,
         shelf_then _ _ _ w.l q.0 q.2.back.extends (on_looked shared old new calls batch same count idle p j w),
       )
@@ -112,7 +112,7 @@ module _ (shared : Shared) (old new : List Part) (calls : List Question) (batch 
     ascend = λ i j f g lt a b.
         let v = origin i f a in
         let w = origin j g b in
-        let low = up i j v.0.k w.0.k lt (v.0.part, v.0.at, v.0.is) (w.0.part, w.0.at, w.0.is) in
+        let low = up i j v.0.k w.0.k lt (v.0.member, v.0.at, v.0.is) (w.0.member, w.0.at, w.0.is) in
         let ev = v.1 ∙ v.0.looked.session in
         let ew = w.1 ∙ w.0.looked.session in
         omega (arith, low, ev, ew);
@@ -123,18 +123,18 @@ module _ (shared : Shared) (old new : List Part) (calls : List Question) (batch 
   combines_each = record {
     posted = new;
     posts = p;
-    first = λ part k at known.
+    first = λ member k at known.
         let is = known_as new 0 k own at_own known in
         let a = learns k is in
         let o = was_at old new same 0 own at_own in
-        let node = ap (λ z. z.0.node) o.2 ∙ ap (λ (z : Part). z.caller.node) (at_one old 0 o.0 part o.1 at) in
+        let node = ap (λ z. z.0.node) o.2 ∙ ap (λ (z : Member). z.caller.node) (at_one old 0 o.0 member o.1 at) in
         (a.0, (record own { seat = s3 }, at_first, a.1), a.2, subst (λ n. AnswersBy n k a.0 batch kept) node (goes k a.0 is a.1));
     others = λ j k lt known. (known.0, set_else new 0 j (record own { seat = s3 }) (λ e. omega (arith, e, lt)) ∙ known.1, known.2);
   }
 
 -- ---- the whole call, by its two holds
 
-module _ (shared : Shared) (old new last : List Part) (calls : List Question) (batch : BatchView) (kept : RepliesView) (replies : List Reply) (same : SameSpots old new) (idle : (j : ℕ) → MayAskAt shared old j) (c : CombinesEach old new calls batch kept) (g : GivesEach new last batch kept replies) where
+module _ (shared : Shared) (old new last : List Member) (calls : List Question) (batch : BatchView) (kept : RepliesView) (replies : List Reply) (same : SameSpots old new) (idle : (j : ℕ) → MayAskAt shared old j) (c : CombinesEach old new calls batch kept) (g : GivesEach new last batch kept replies) where
   module _ (k : K) (q : Question) (known : KnownAt old 0 k) (at : At 0 q calls) where
     may : MayAsk known.0.seat known.0.caller shared
     may = idle 0 known.0 known.1
@@ -160,7 +160,7 @@ module _ (shared : Shared) (old new last : List Part) (calls : List Question) (b
         (still_waits claimed.after answered.0 claimed.posted.request batch kept claimed.asked claimed.turned (asks looked.0 claimed.asked (asked_op q) (alone_then k looked.0 looked.2 alone_k) claimed.posted) answered.2)
 
     same_node : answered.1.0.caller.node ≡ known.0.caller.node
-    same_node = let o = was_at old new same 0 answered.1.0 answered.1.1 in ap (λ z. z.0.node) o.2 ∙ ap (λ (z : Part). z.caller.node) (at_one old 0 o.0 known.0 o.1 known.1)
+    same_node = let o = was_at old new same 0 answered.1.0 answered.1.1 in ap (λ z. z.0.node) o.2 ∙ ap (λ (z : Member). z.caller.node) (at_one old 0 o.0 known.0 o.1 known.1)
 
     first_asks : (reply : Reply) × At 0 reply replies × AsksFor last 0 k (asked_op q) reply
     first_asks = (

@@ -1,4 +1,4 @@
--- The parts of a pipeline collect their answers one after the other.
+-- The members of a pipeline collect their answers one after the other.
 use Rattle.std.proofs.Common.{◌≡◌, ◌≢◌, ℕ, zero, suc, ◌+◌, ◌<◌, ◌≤◌, List, [], ◌∷◌, length, map, set, sym, refl, ap, ◌∙◌, subst, arith, ⊎_elim, Some}
 use lib.ListN.{get_elem?}
 use Rattle.std.proofs.lemmas.Bool.{cases_lt}
@@ -13,7 +13,7 @@ use Rattle.accounts.specs.declared.sessions.Pending.{Pending}
 use Rattle.accounts.proofs.Export.{at_below, at_one, at_there}
 use Rattle.store_steps.specs.declared.desks.Turn.{Turn}
 use Rattle.store_steps.specs.declared.desks.Turn.TheVariants.{Collects, Combines, Waits}
-use Rattle.store_steps.specs.declared.pipelines.Part.{Part}
+use Rattle.store_steps.specs.declared.pipelines.Member.{Member}
 use Rattle.store_steps.specs.declared.steps.Shared.{Shared}
 use Rattle.store_steps.specs.Asking.{AwaitsAnswer}
 use Rattle.store_steps.specs.AtDesk.{HasAsked, IsTurn}
@@ -36,20 +36,20 @@ reply_in r (Collects q) = q
 reply_in r Combines = r
 reply_in r Waits = r
 
--- the parts before the number have collected, the part of the number has the desk, and those after it are as they were
-pub record Collecting (shared : Shared) (old : List Part) (s0 : StoreSeat) (h0 : Held Value) (parts : List Part) (number : ℕ) (at : StoreSeat) (h : Held Value) (replies : List Reply) : Type 0 where
-  pub spots : SameSpots old parts
+-- the members before the number have collected, the member of the number has the desk, and those after it are as they were
+pub record Collecting (shared : Shared) (old : List Member) (s0 : StoreSeat) (h0 : Held Value) (members : List Member) (number : ℕ) (at : StoreSeat) (h : Held Value) (replies : List Reply) : Type 0 where
+  pub spots : SameSpots old members
   pub shelf : at.shelf ≡ shared.shelf.now.id
   pub upto : number < length old
   pub long : length replies ≡ length old
-  pub later : (i : ℕ) → number < i → get_elem? parts i ≡ get_elem? old i
-  pub holder : (f : K) → Begins shared old 0 s0 h0 number f → HoldsAt shared parts at h number f
-  pub desk : (part : Part) → At number part parts → IsDesk (here_of shared part) h
-  pub done : (x : DeskView) (j : ℕ) (f : K) (o : Pending) → desk_of h0.value ≡ Some x → j < number → Begins shared old 0 s0 h0 j f → HasAsked f o → (reply : Reply) × At j reply replies × AnswerWaits x f reply × CollectsAt parts j f o reply
+  pub later : (i : ℕ) → number < i → get_elem? members i ≡ get_elem? old i
+  pub holder : (f : K) → Begins shared old 0 s0 h0 number f → HoldsAt shared members at h number f
+  pub desk : (member : Member) → At number member members → IsDesk (here_of shared member) h
+  pub done : (x : DeskView) (j : ℕ) (f : K) (o : Pending) → desk_of h0.value ≡ Some x → j < number → Begins shared old 0 s0 h0 j f → HasAsked f o → (reply : Reply) × At j reply replies × AnswerWaits x f reply × CollectsAt members j f o reply
   pub left : (x x0 : DeskView) (j : ℕ) (f : K) → desk_of h.value ≡ Some x → desk_of h0.value ≡ Some x0 → number ≤ j → Begins shared old 0 s0 h0 j f → (reply : Reply) × AnswerWaits x f reply × AnswerWaits x0 f reply
 
--- who has a turn, and at which desk the first part began: the first part, which has the desk, or a later one
-pub turn_at : (shared : Shared) (old : List Part) (s0 : StoreSeat) (h0 : Held Value) → 0 < length old → ((part : Part) → At 0 part old → MayTurnWith (here_of shared part) s0 h0) → ((j : ℕ) → 0 < j → WaitsAt shared old j) → (number : ℕ) → number < length old
+-- who has a turn, and at which desk the first member began: the first member, which has the desk, or a later one
+pub turn_at : (shared : Shared) (old : List Member) (s0 : StoreSeat) (h0 : Held Value) → 0 < length old → ((member : Member) → At 0 member old → MayTurnWith (here_of shared member) s0 h0) → ((j : ℕ) → 0 < j → WaitsAt shared old j) → (number : ℕ) → number < length old
     → (f : K) × (o : Pending) × Begins shared old 0 s0 h0 number f × HasAsked f o × ((x : DeskView) × (desk_of h0.value ≡ Some x))
 turn_at shared old s0 h0 some has waits number lt = by number lt
   where
@@ -64,21 +64,21 @@ turn_at shared old s0 h0 some has waits number lt = by number lt
         let p = at_there old (suc number) lt in let w = waits (suc number) (omega arith) p.0 p.1 in
         (w.0, w.1, ((λ e. absurd (omega (arith, e))), λ n. (p.0, p.1, w.2)), w.4, first)
 
-pub begins_below : (shared : Shared) (old : List Part) (s0 : StoreSeat) (h0 : Held Value) (j : ℕ) (f : K) → 0 < length old → Begins shared old 0 s0 h0 j f → j < length old
+pub begins_below : (shared : Shared) (old : List Member) (s0 : StoreSeat) (h0 : Held Value) (j : ℕ) (f : K) → 0 < length old → Begins shared old 0 s0 h0 j f → j < length old
 begins_below shared old s0 h0 zero f lt b = lt
 begins_below shared old s0 h0 (suc j) f lt b = let k = b.1 (λ e. omega (arith, e)) in at_below old (suc j) k.0 k.1
 
--- the next part may have the desk
-pub next_part : (shared : Shared) (own after : Part) → own.caller.node ≡ after.caller.node → (next : StoreSeat) → ((k : K) (ks : List K) → after.seat.sessions ≡ k ∷ ks → next.sessions ≡ k ∷ []) → AwaitsAnswer after.seat after.caller shared → (m : K) × IsNext next (here_of shared own) m
-next_part shared own after near next split w = (w.0, record { is = split w.0 [] w.2; slot = after.caller.slot; free = subst (λ z. IsFree (record { node = z; slot = after.caller.slot }) w.0) (sym near) w.3; on = w.5 })
+-- the next member may have the desk
+pub next_member : (shared : Shared) (own after : Member) → own.caller.node ≡ after.caller.node → (next : StoreSeat) → ((k : K) (ks : List K) → after.seat.sessions ≡ k ∷ ks → next.sessions ≡ k ∷ []) → AwaitsAnswer after.seat after.caller shared → (m : K) × IsNext next (here_of shared own) m
+next_member shared own after near next split w = (w.0, record { is = split w.0 [] w.2; slot = after.caller.slot; free = subst (λ z. IsFree (record { node = z; slot = after.caller.slot }) w.0) (sym near) w.3; on = w.5 })
 
-module _ (shared : Shared) (old : List Part) (s0 : StoreSeat) (h0 : Held Value) where
+module _ (shared : Shared) (old : List Member) (s0 : StoreSeat) (h0 : Held Value) where
   abbrev Starts : ℕ → K → Type 0
   Starts = Begins shared old 0 s0 h0
 
-  module _ (parts : List Part) (number : ℕ) (at : StoreSeat) (h : Held Value) (replies : List Reply) (inv : Collecting shared old s0 h0 parts number at h replies) (own : Part) (at_own : At number own parts) (x0 : DeskView) (is0 : desk_of h0.value ≡ Some x0) (cur : (f : K) × Starts number f) where
+  module _ (members : List Member) (number : ℕ) (at : StoreSeat) (h : Held Value) (replies : List Reply) (inv : Collecting shared old s0 h0 members number at h replies) (own : Member) (at_own : At number own members) (x0 : DeskView) (is0 : desk_of h0.value ≡ Some x0) (cur : (f : K) × Starts number f) where
     pub has : (f : K) → Starts number f → (t : K) × HasDesk at (here_of shared own) h f t
-    has f b = let w = inv.holder f b in (w.1, subst (λ (z : Part). HasDesk at (here_of shared z) h f w.1) (at_one parts number w.0 own w.2 at_own) w.3)
+    has f b = let w = inv.holder f b in (w.1, subst (λ (z : Member). HasDesk at (here_of shared z) h f w.1) (at_one members number w.0 own w.2 at_own) w.3)
 
     pub place_here : held_place h < shared.shelf.now.places
     place_here = let w = has cur.0 cur.1 in held_there at (here_of shared own) h cur.0 w.0 w.1 (inv.desk own at_own)
@@ -89,7 +89,7 @@ module _ (shared : Shared) (old : List Part) (s0 : StoreSeat) (h0 : Held Value) 
     own_here : (f : K) → Starts number f → f.session ≡ first_author x_here.0 + own.caller.slot
     own_here f b = let w = has f b in author_here shared at h own f w.0 w.1 (inv.desk own at_own) x_here.0 x_here.1
 
-    -- the turn of the part that has the desk
+    -- the turn of the member that has the desk
     module _ (batch : BatchView) (turn : Turn) (P : DeskView → Type 0) (had : IsTurnThere (here_of shared own) h batch turn P) where
       pub collects_now : (f : K) (b : Starts number f) → turn ≡ Collects (inv.left x_here.0 x0 number f x_here.1 is0 (omega arith) b).0
       collects_now f b =
@@ -108,24 +108,24 @@ module _ (shared : Shared) (old : List Part) (s0 : StoreSeat) (h0 : Held Value) 
         written = subst (λ z. At number reply z) (sym writes) (set_here replies number reply (let long = inv.long in let up = inv.upto in omega (arith, long, up)))
 
         -- whoever has done so, has collected
-        collected_at : (parts2 : List Part) (Q : K → Type 0) → SessionTurnsThere at (here_of shared own) h batch turn Q → ((after : K) → Q after → KnownAt parts2 number after) → (f : K) (o : Pending) → Starts number f → HasAsked f o
-            → (r : Reply) × At number r replies2 × AnswerWaits x0 f r × CollectsAt parts2 number f o r
-        collected_at parts2 Q turns known f o b asked =
+        collected_at : (members2 : List Member) (Q : K → Type 0) → SessionTurnsThere at (here_of shared own) h batch turn Q → ((after : K) → Q after → KnownAt members2 number after) → (f : K) (o : Pending) → Starts number f → HasAsked f o
+            → (r : Reply) × At number r replies2 × AnswerWaits x0 f r × CollectsAt members2 number f o r
+        collected_at members2 Q turns known f o b asked =
             let w = has f b in
             let t = turns f w.0 o w.1 asked in
             let l = inv.left x_here.0 x0 number f x_here.1 is0 (omega arith) b in
             (reply, written, subst (λ r. AnswerWaits x0 f r) (sym (reply_is f b)) l.2, record { after = t.after; is = known t.after t.is; batch = batch; turned = subst (λ z. HasTurned f t.after o batch z) says t.turned; turns = subst (λ z. TurnsBy f t.after batch z) says t.turns })
 
         -- those that collected before have done so still
-        before_at : (parts2 : List Part) → ((i : ℕ) → i < number → get_elem? parts2 i ≡ get_elem? parts i) → (x : DeskView) (j : ℕ) (f : K) (o : Pending) → desk_of h0.value ≡ Some x → j < number → Starts j f → HasAsked f o
-            → (r : Reply) × At j r replies2 × AnswerWaits x f r × CollectsAt parts2 j f o r
-        before_at parts2 same x j f o e lt b asked =
+        before_at : (members2 : List Member) → ((i : ℕ) → i < number → get_elem? members2 i ≡ get_elem? members i) → (x : DeskView) (j : ℕ) (f : K) (o : Pending) → desk_of h0.value ≡ Some x → j < number → Starts j f → HasAsked f o
+            → (r : Reply) × At j r replies2 × AnswerWaits x f r × CollectsAt members2 j f o r
+        before_at members2 same x j f o e lt b asked =
             let d = inv.done x j f o e lt b asked in
             (d.0, subst (λ z. At j d.0 z) (sym writes) (set_else replies number j reply (λ q. omega (arith, q, lt)) ∙ d.1), d.2, record { after = d.3.after; is = (d.3.is.0, same j lt ∙ d.3.is.1, d.3.is.2); batch = d.3.batch; turned = d.3.turned; turns = d.3.turns })
 
-        -- it hands the desk on to the next part
-        module _ (n : ℕ) (is : n ≡ suc number) (more : n < length old) (waits : (j : ℕ) → 0 < j → WaitsAt shared old j) (up : AscendFrom shared old s0 h0) (after : Part) (at_n : At n after parts) (near : own.caller.node ≡ after.caller.node) (next hollow done : StoreSeat) (split : (k : K) (ks : List K) → after.seat.sessions ≡ k ∷ ks → next.sessions ≡ k ∷ [])
-            (hs : hollow.shelf ≡ after.seat.shelf) (ds : done.shelf ≡ own.seat.shelf) (parts2 : List Part) (sets : parts2 ≡ set (set parts n (record after { seat = hollow })) number (record own { seat = done })) (at2 : StoreSeat) (shelf2 : at2.shelf ≡ shared.shelf.now.id) (h2 : Held Value)
+        -- it hands the desk on to the next member
+        module _ (n : ℕ) (is : n ≡ suc number) (more : n < length old) (waits : (j : ℕ) → 0 < j → WaitsAt shared old j) (up : AscendFrom shared old s0 h0) (after : Member) (at_n : At n after members) (near : own.caller.node ≡ after.caller.node) (next hollow done : StoreSeat) (split : (k : K) (ks : List K) → after.seat.sessions ≡ k ∷ ks → next.sessions ≡ k ∷ [])
+            (hs : hollow.shelf ≡ after.seat.shelf) (ds : done.shelf ≡ own.seat.shelf) (members2 : List Member) (sets : members2 ≡ set (set members n (record after { seat = hollow })) number (record own { seat = done })) (at2 : StoreSeat) (shelf2 : at2.shelf ≡ shared.shelf.now.id) (h2 : Held Value)
             (hands : (m : K) → IsNext next (here_of shared own) m → SessionTurnsThere at (here_of shared own) h batch turn (HasHanded at2 done h2 m)) (comes : (y : DeskView) → P y → desk_of h2.value ≡ Some y) (place2 : IsDesk (here_of shared own) h2) where
           n_after : n ≢ number
           n_after e = omega (arith, e, is)
@@ -150,19 +150,19 @@ module _ (shared : Shared) (old : List Part) (s0 : StoreSeat) (h0 : Held Value) 
             on = on_n f known;
           }
 
-          in_two : (i : ℕ) (p : Part) → At i p (set (set parts n (record after { seat = hollow })) number (record own { seat = done })) → At i p parts2
+          in_two : (i : ℕ) (p : Member) → At i p (set (set members n (record after { seat = hollow })) number (record own { seat = done })) → At i p members2
           in_two i p a = ap (λ z. get_elem? z i) sets ∙ a
 
-          there_n : At n (record after { seat = hollow }) parts2
-          there_n = in_two n (record after { seat = hollow }) (set_first parts n number after (record after { seat = hollow }) (record own { seat = done }) n_after at_n)
+          there_n : At n (record after { seat = hollow }) members2
+          there_n = in_two n (record after { seat = hollow }) (set_first members n number after (record after { seat = hollow }) (record own { seat = done }) n_after at_n)
 
           y_here : (y : DeskView) × IsTurn own.caller.slot x_here.0 y batch (Collects reply) × (desk_of h2.value ≡ Some y)
           y_here = let y = had x_here.0 x_here.1 in (y.0, subst (λ z. IsTurn own.caller.slot x_here.0 y.0 batch z) says y.1, comes y.0 y.2)
 
-          holder2 : (o : Pending) → HasAsked cur.0 o → (f : K) → Starts n f → HoldsAt shared parts2 at2 h2 n f
+          holder2 : (o : Pending) → HasAsked cur.0 o → (f : K) → Starts n f → HoldsAt shared members2 at2 h2 n f
           holder2 o asked f b =
               let known = b.1 (λ e. omega (arith, e, is)) in
-              let known_n : IsSession after.seat f = subst (λ (z : Part). IsSession z.seat f) (at_one old n known.0 after known.1 at_old) known.2 in
+              let known_n : IsSession after.seat f = subst (λ (z : Member). IsSession z.seat f) (at_one old n known.0 after known.1 at_old) known.2 in
               let m = next_is f known_n in
               let w = has cur.0 cur.1 in
               let p = (hands f m cur.0 w.0 o w.1 asked).is in
@@ -175,35 +175,35 @@ module _ (shared : Shared) (old : List Part) (s0 : StoreSeat) (h0 : Held Value) 
               let same = desk_is h2.value y_here.0 x y_here.2 e in
               (l.0, subst (λ u. AnswerWaits u f l.0) same (collect_keeps own.caller.slot x_here.0 y_here.0 cur.0 f reply l.0 y_here.1 (own_here cur.0 cur.1) (λ q. omega (arith, q, lower)) l.1), l.2)
 
-          pub collecting_on : (o : Pending) → HasAsked cur.0 o → Collecting shared old s0 h0 parts2 n at2 h2 replies2
+          pub collecting_on : (o : Pending) → HasAsked cur.0 o → Collecting shared old s0 h0 members2 n at2 h2 replies2
           collecting_on o asked = record {
-            spots = ap (map spot_of) sets ∙ (set_both parts n number after own (record after { seat = hollow }) (record own { seat = done }) n_after at_n at_own (λ i. (after.caller, hs i)) (λ i. (own.caller, ds i)) ∙ inv.spots);
+            spots = ap (map spot_of) sets ∙ (set_both members n number after own (record after { seat = hollow }) (record own { seat = done }) n_after at_n at_own (λ i. (after.caller, hs i)) (λ i. (own.caller, ds i)) ∙ inv.spots);
             shelf = shelf2;
             upto = more;
             long = ap length writes ∙ (set_size replies number reply ∙ inv.long);
-            later = λ i lt. ap (λ z. get_elem? z i) sets ∙ (set_neither parts n number (record after { seat = hollow }) (record own { seat = done }) i (λ e. omega (arith, e, lt)) (λ e. omega (arith, e, lt, is)) ∙ inv.later i (omega (arith, lt, is)));
+            later = λ i lt. ap (λ z. get_elem? z i) sets ∙ (set_neither members n number (record after { seat = hollow }) (record own { seat = done }) i (λ e. omega (arith, e, lt)) (λ e. omega (arith, e, lt, is)) ∙ inv.later i (omega (arith, lt, is)));
             holder = holder2 o asked;
-            desk = λ part there. let same = at_one parts2 n part (record after { seat = hollow }) there there_n in place2 ∙ ap (λ z. 1 + shared.nodes + z) (near ∙ ap (λ (z : Part). z.caller.node) (sym same));
+            desk = λ member there. let same = at_one members2 n member (record after { seat = hollow }) there there_n in place2 ∙ ap (λ z. 1 + shared.nodes + z) (near ∙ ap (λ (z : Member). z.caller.node) (sym same));
             done = λ x j f q e lt b a. ⊎_elim
-                (λ before. before_at parts2 (λ i low. ap (λ z. get_elem? z i) sets ∙ set_neither parts n number (record after { seat = hollow }) (record own { seat = done }) i (λ s. omega (arith, s, low, is)) (λ s. omega (arith, s, low))) x j f q e before b a)
+                (λ before. before_at members2 (λ i low. ap (λ z. get_elem? z i) sets ∙ set_neither members n number (record after { seat = hollow }) (record own { seat = done }) i (λ s. omega (arith, s, low, is)) (λ s. omega (arith, s, low))) x j f q e before b a)
                 (λ not.
                 let same : j ≡ number = omega (arith, not, lt, is) in
                 let m = next_is waits_n.0 waits_n.2 in
-                subst (λ i. (r : Reply) × At i r replies2 × AnswerWaits x f r × CollectsAt parts2 i f q r) (sym same)
-                (subst (λ u. (r : Reply) × At number r replies2 × AnswerWaits u f r × CollectsAt parts2 number f q r) (desk_is h0.value x0 x is0 e)
-                (collected_at parts2 (HasHanded at2 done h2 waits_n.0) (hands waits_n.0 m) (λ k p. (record own { seat = done }, in_two number (record own { seat = done }) (set_second parts n number own (record after { seat = hollow }) (record own { seat = done }) n_after at_own), p.done_is)) f q (subst (λ i. Starts i f) same b) a)))
+                subst (λ i. (r : Reply) × At i r replies2 × AnswerWaits x f r × CollectsAt members2 i f q r) (sym same)
+                (subst (λ u. (r : Reply) × At number r replies2 × AnswerWaits u f r × CollectsAt members2 number f q r) (desk_is h0.value x0 x is0 e)
+                (collected_at members2 (HasHanded at2 done h2 waits_n.0) (hands waits_n.0 m) (λ k p. (record own { seat = done }, in_two number (record own { seat = done }) (set_second members n number own (record after { seat = hollow }) (record own { seat = done }) n_after at_own), p.done_is)) f q (subst (λ i. Starts i f) same b) a)))
                 (cases_lt j number);
             left = left2;
           }
 
-        -- the last part puts the desk back
-        module _ (parts2 : List Part) (back : StoreSeat) (bs : back.shelf ≡ own.seat.shelf) (sets : parts2 ≡ set parts number (record own { seat = back })) (turns : SessionTurnsThere at (here_of shared own) h batch turn (IsSession back)) where
-          pub all_collected : (x : DeskView) (j : ℕ) (f : K) (o : Pending) → desk_of h0.value ≡ Some x → j ≤ number → Starts j f → HasAsked f o → (r : Reply) × At j r replies2 × AnswerWaits x f r × CollectsAt parts2 j f o r
+        -- the last member puts the desk back
+        module _ (members2 : List Member) (back : StoreSeat) (bs : back.shelf ≡ own.seat.shelf) (sets : members2 ≡ set members number (record own { seat = back })) (turns : SessionTurnsThere at (here_of shared own) h batch turn (IsSession back)) where
+          pub all_collected : (x : DeskView) (j : ℕ) (f : K) (o : Pending) → desk_of h0.value ≡ Some x → j ≤ number → Starts j f → HasAsked f o → (r : Reply) × At j r replies2 × AnswerWaits x f r × CollectsAt members2 j f o r
           all_collected x j f o e le b asked = ⊎_elim
-              (λ before. before_at parts2 (λ i low. ap (λ z. get_elem? z i) sets ∙ set_else parts number i (record own { seat = back }) (λ s. omega (arith, s, low))) x j f o e before b asked)
+              (λ before. before_at members2 (λ i low. ap (λ z. get_elem? z i) sets ∙ set_else members number i (record own { seat = back }) (λ s. omega (arith, s, low))) x j f o e before b asked)
               (λ not.
               let same : j ≡ number = omega (arith, not, le) in
-              subst (λ i. (r : Reply) × At i r replies2 × AnswerWaits x f r × CollectsAt parts2 i f o r) (sym same)
-              (subst (λ u. (r : Reply) × At number r replies2 × AnswerWaits u f r × CollectsAt parts2 number f o r) (desk_is h0.value x0 x is0 e)
-              (collected_at parts2 (IsSession back) turns (λ k p. (record own { seat = back }, ap (λ z. get_elem? z number) sets ∙ set_here parts number (record own { seat = back }) (at_below parts number own at_own), p)) f o (subst (λ i. Starts i f) same b) asked)))
+              subst (λ i. (r : Reply) × At i r replies2 × AnswerWaits x f r × CollectsAt members2 i f o r) (sym same)
+              (subst (λ u. (r : Reply) × At number r replies2 × AnswerWaits u f r × CollectsAt members2 number f o r) (desk_is h0.value x0 x is0 e)
+              (collected_at members2 (IsSession back) turns (λ k p. (record own { seat = back }, ap (λ z. get_elem? z number) sets ∙ set_here members number (record own { seat = back }) (at_below members number own at_own), p)) f o (subst (λ i. Starts i f) same b) asked)))
               (cases_lt j number)

@@ -1,4 +1,5 @@
 -- The lemmas that other crates may cite.
+pub use Rattle.store_steps.proofs.AskingEach.{was_at}
 pub use Rattle.store_steps.proofs.Begun.{deeds_on, go_deeds}
 pub use Rattle.store_steps.proofs.Gone.{asks, on_known}
 pub use Rattle.store_steps.proofs.Places.{at_drop}

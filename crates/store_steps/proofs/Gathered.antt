@@ -26,7 +26,7 @@ use Rattle.accounts.specs.Batches.{Ascend}
 use Rattle.node.specs.Answering.{answered_batch, answers_from}
 use Rattle.replica.specs.Views.{RepliesView}
 use Rattle.store_steps.specs.AtDesk.{IsTurn}
-use Rattle.store_steps.specs.EachPart.{HasRecordOf}
+use Rattle.store_steps.specs.EachMember.{HasRecordOf}
 use Rattle.store_steps.specs.Pipelines.{AnswerWaits, Asks}
 use Rattle.store_steps.specs.declared.desks.Turn.{Turn}
 use Rattle.store_steps.specs.declared.desks.Turn.TheVariants.{Collects, Combines, Waits}

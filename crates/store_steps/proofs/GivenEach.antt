@@ -1,4 +1,4 @@
--- The first part of a pipeline has answered its batch, and each part may collect.
+-- The first member of a pipeline has answered its batch, and each member may collect.
 use Rattle.std.proofs.Common.{◌≡◌, ◌≢◌, ℕ, zero, suc, ◌+◌, ◌<◌, List, length, set, sym, refl, ap, ◌∙◌, subst, arith, Some}
 use Rattle.std.proofs.lemmas.Option.{same_Some}
 use Rattle.atomic_table.proofs.Lists.{set_else, set_here}
@@ -13,7 +13,7 @@ use Rattle.replica.specs.Views.{RepliesView}
 use Rattle.accounts.specs.Batches.{Ascend}
 use Rattle.accounts.specs.declared.sessions.Pending.{Pending}
 use Rattle.accounts.proofs.Export.{at_below, at_one, at_there}
-use Rattle.store_steps.specs.declared.pipelines.Part.{Part}
+use Rattle.store_steps.specs.declared.pipelines.Member.{Member}
 use Rattle.store_steps.specs.declared.steps.Shared.{Shared}
 use Rattle.store_steps.specs.declared.values.Value.{Value}
 use Rattle.store_steps.specs.AtDesk.{HasAsked, IsReady}
@@ -22,7 +22,7 @@ use Rattle.store_steps.specs.Whole.{HandsOver}
 use Rattle.store_steps.proofs.AtDesk.{is_answered}
 use Rattle.store_steps.proofs.Posting.{desk_here}
 use Rattle.store_steps.specs.Combining.{HasCombined}
-use Rattle.store_steps.specs.EachPart.{AllRequested, AscendEach, HasRecordOf, InOrder}
+use Rattle.store_steps.specs.EachMember.{AllRequested, AscendEach, HasRecordOf, InOrder}
 use Rattle.store_steps.specs.Lending.{desk_of}
 use Rattle.store_steps.specs.Pipelines.{AllAnswered, AnswerWaits, AscendFrom, Begins, CollectsEach, HasDesk, IsDesk, IsReplied, KnownAt, SessionGivesThere, WaitsAt, here_of}
 use Rattle.store_steps.specs.Standing.{IsFree, SessionKnown, Stands, StoreSeat}
@@ -36,12 +36,12 @@ use Rattle.store_steps.proofs.Handing.{ready_there, taken, took_as}
 abbrev K : Type 0
 K = SessionKnown
 
--- a part has taken its desk
-pub has_taken : (shared : Shared) (own : Part) (at : StoreSeat) (h : Held Value) (p : ℕ) (k t : K) → IsSession at t → IsFree own.caller k → IsOn shared k → held_place h ≡ p → Acquired store_rules p k t h.value → HasDesk at (here_of shared own) h k t
+-- a member has taken its desk
+pub has_taken : (shared : Shared) (own : Member) (at : StoreSeat) (h : Held Value) (p : ℕ) (k t : K) → IsSession at t → IsFree own.caller k → IsOn shared k → held_place h ≡ p → Acquired store_rules p k t h.value → HasDesk at (here_of shared own) h k t
 has_taken shared own at h p k t is free on place won = record { is = is; free = free; on = on; took = took_as k t p (held_place h) h.value h.value place refl won }
 
--- the first part has taken its desk, and has handed over the answers of its batch
-pub record Given (shared : Shared) (own : Part) (batch : BatchView) (kept : RepliesView) (s1 : StoreSeat) (h1 : Held Value) (s2 : StoreSeat) (h2 : Held Value) (b : BatchView) : Type 0 where
+-- the first member has taken its desk, and has handed over the answers of its batch
+pub record Given (shared : Shared) (own : Member) (batch : BatchView) (kept : RepliesView) (s1 : StoreSeat) (h1 : Held Value) (s2 : StoreSeat) (h2 : Held Value) (b : BatchView) : Type 0 where
   pub k : K
   pub known : IsSession own.seat k
   pub ready : IsReady k batch kept
@@ -60,7 +60,7 @@ pub record Given (shared : Shared) (own : Part) (batch : BatchView) (kept : Repl
   pub is2 : desk_of h2.value ≡ Some (replied b x0)
   pub all : IsAnswered b
 
-pub given_of : (shared : Shared) (own : Part) (batch : BatchView) (kept : RepliesView) (moved s1 : StoreSeat) (h1 : Held Value) (s2 : StoreSeat) (h2 : Held Value) (b : BatchView) → ((k : K) → IsSession own.seat k → IsSession moved k) → MayHandOver own.seat own.caller shared batch kept
+pub given_of : (shared : Shared) (own : Member) (batch : BatchView) (kept : RepliesView) (moved s1 : StoreSeat) (h1 : Held Value) (s2 : StoreSeat) (h2 : Held Value) (b : BatchView) → ((k : K) → IsSession own.seat k → IsSession moved k) → MayHandOver own.seat own.caller shared batch kept
     → Takes store_rules moved (1 + shared.nodes + own.caller.node) h1.value s1 → IsDesk (here_of shared own) h1 → SessionGivesThere s1 s2 (here_of shared own) h1 h2 batch kept → IsReplied h1 b h2 → b ≡ answered_batch kept batch → Given shared own batch kept s1 h1 s2 h2 b
 given_of shared own batch kept moved s1 h1 s2 h2 b split may takes place keeps replies answered =
     let t = takes may.0 (split may.0 may.1) in
@@ -89,19 +89,19 @@ given_of shared own batch kept moved s1 h1 s2 h2 b split may takes place keeps r
     }
 
 -- the requests of the batch are those of the answered one
-pub requested_still : (parts : List Part) (b c : BatchView) (kept : RepliesView) → c ≡ answered_batch kept b → AllRequested parts b → AllRequested parts c
-requested_still parts b c kept same all j k known = subst (λ (z : BatchView). HasRecordOf z.records k.session) (sym same) (all j k known)
+pub requested_still : (members : List Member) (b c : BatchView) (kept : RepliesView) → c ≡ answered_batch kept b → AllRequested members b → AllRequested members c
+requested_still members b c kept same all j k known = subst (λ (z : BatchView). HasRecordOf z.records k.session) (sym same) (all j k known)
 
--- the first part has its desk again
-module _ (shared : Shared) (old : List Part) (own : Part) (at_own : At 0 own old) (hollow s2 : StoreSeat) (h2 : Held Value) (k combined now : K) (known : IsSession own.seat k) (has : HasCombined k combined) (desk : HasDesk s2 (here_of shared own) h2 combined now) (place : IsDesk (here_of shared own) h2) where
-  abbrev pub rest : List Part
+-- the first member has its desk again
+module _ (shared : Shared) (old : List Member) (own : Member) (at_own : At 0 own old) (hollow s2 : StoreSeat) (h2 : Held Value) (k combined now : K) (known : IsSession own.seat k) (has : HasCombined k combined) (desk : HasDesk s2 (here_of shared own) h2 combined now) (place : IsDesk (here_of shared own) h2) where
+  abbrev pub rest : List Member
   rest = set old 0 (record own { seat = hollow })
 
-  -- the part that has the desk is the session k
-  first_session : (f : K) (part : Part) (t : K) → At 0 part rest → HasDesk s2 (here_of shared part) h2 f t → f.session ≡ k.session
-  first_session f part t at d0 =
-      let same = at_one rest 0 part (record own { seat = hollow }) at (set_here old 0 (record own { seat = hollow }) (at_below old 0 own at_own)) in
-      let d = subst (λ (z : Part). HasDesk s2 (here_of shared z) h2 f t) same d0 in
+  -- the member that has the desk is the session k
+  first_session : (f : K) (member : Member) (t : K) → At 0 member rest → HasDesk s2 (here_of shared member) h2 f t → f.session ≡ k.session
+  first_session f member t at d0 =
+      let same = at_one rest 0 member (record own { seat = hollow }) at (set_here old 0 (record own { seat = hollow }) (at_below old 0 own at_own)) in
+      let d = subst (λ (z : Member). HasDesk s2 (here_of shared z) h2 f t) same d0 in
       let a = taken s2 (here_of shared own) h2 f t d place in
       let b = taken s2 (here_of shared own) h2 combined now desk place in
       sym a.session ∙ (ap (λ (z : K). z.session) (one_known s2 t now d.is desk.is) ∙ (b.session ∙ has.session))
@@ -138,7 +138,7 @@ module _ (shared : Shared) (old : List Part) (own : Part) (at_own : At 0 own old
         let w = waits_there f (record_there j f s) in
         (w.0, subst (λ z. AnswerWaits z f w.0) (same_Some x2 x (sym is2 ∙ is)) w.1)
 
-    module _ (waits : (j : ℕ) → 0 < j → WaitsAt shared old j) (o0 : Pending) (asked0 : HasAsked combined o0) (new : List Part) (replies : List Reply) (long : length replies ≡ length old) (collected : CollectsEach shared rest new s2 h2 replies) where
+    module _ (waits : (j : ℕ) → 0 < j → WaitsAt shared old j) (o0 : Pending) (asked0 : HasAsked combined o0) (new : List Member) (replies : List Reply) (long : length replies ≡ length old) (collected : CollectsEach shared rest new s2 h2 replies) where
       some_at : (j : ℕ) → j < length old → (f : K) × (o : Pending) × Begins shared rest 0 s2 h2 j f × HasAsked f o
       some_at zero lt = (combined, o0, begins_first, asked0)
       some_at (suc j) lt =
@@ -156,7 +156,7 @@ module _ (shared : Shared) (old : List Part) (own : Part) (at_own : At 0 own old
           let p = session_of j s.0 s.2 in
           (s.0, p.0, p.1, p.2, w.2 ∙ ap Some (one_answer x2 s.0 w.0 c.0 w.1 c.2 ∙ at_one replies j c.0 reply c.1 at))
 
-pub in_order_so : (old : List Part) (b : BatchView) (kept : RepliesView) (replies : List Reply) → AscendEach old → Ascend b.records
+pub in_order_so : (old : List Member) (b : BatchView) (kept : RepliesView) (replies : List Reply) → AscendEach old → Ascend b.records
     → ((j : ℕ) (reply : Reply) → At j reply replies → (f g : K) × KnownAt old j g × (f.session ≡ g.session) × (answer_for f.session b.records (answered_batch kept b).answers ≡ Some reply)) → InOrder replies
 in_order_so old b kept replies up ascend answers i j a c x y lt one two =
     let p = answers i (Placed a x) one in let q = answers j (Placed c y) two in
@@ -164,6 +164,6 @@ in_order_so old b kept replies up ascend answers i j a c x y lt one two =
     in_order b kept ascend p.0.session q.0.session a c x y (omega (arith, low, ep, eq)) p.4 q.4
 
 -- so it is of the batch as it was answered
-pub answers_as : (old : List Part) (b c : BatchView) (kept : RepliesView) (replies : List Reply) → c ≡ answered_batch kept b → ((j : ℕ) (reply : Reply) → At j reply replies → (f g : K) × KnownAt old j g × (f.session ≡ g.session) × (answer_for f.session c.records c.answers ≡ Some reply))
+pub answers_as : (old : List Member) (b c : BatchView) (kept : RepliesView) (replies : List Reply) → c ≡ answered_batch kept b → ((j : ℕ) (reply : Reply) → At j reply replies → (f g : K) × KnownAt old j g × (f.session ≡ g.session) × (answer_for f.session c.records c.answers ≡ Some reply))
     → (j : ℕ) (reply : Reply) → At j reply replies → (f g : K) × KnownAt old j g × (f.session ≡ g.session) × (answer_for f.session b.records (answered_batch kept b).answers ≡ Some reply)
 answers_as old b c kept replies same all j reply at = let a = all j reply at in (a.0, a.1, a.2, a.3, ap (λ (z : BatchView). answer_for a.0.session z.records z.answers) (sym same) ∙ a.4)

@@ -1,15 +1,15 @@
--- The parts of a pipeline have posted, or only looked.
+-- The members of a pipeline have posted, or only looked.
 use Rattle.std.proofs.Common.{◌≡◌, ℕ, zero, suc, ◌<◌, Bool, true, false, List, set, ◌==◌, sym, refl, ◌∙◌, subst, arith}
 use Rattle.std.proofs.lemmas.Bool.{eqb-true, eqb-false}
 use Rattle.atomic_table.proofs.Lists.{set_else, set_here}
 use Rattle.ownlock.specs.Seats.{At, IsSession}
 use Rattle.ownlock.specs.declared.shelf.Held.{Held}
 use Rattle.combiner.specs.Desks.{BatchView}
-use Rattle.store_steps.specs.declared.pipelines.Part.{Part}
+use Rattle.store_steps.specs.declared.pipelines.Member.{Member}
 use Rattle.store_steps.specs.declared.steps.Shared.{Shared}
 use Rattle.store_steps.specs.declared.values.Value.{Value}
 use Rattle.accounts.proofs.Export.{at_below}
-use Rattle.store_steps.specs.EachPart.{AllRequested, HasRecordOf, LooksEach}
+use Rattle.store_steps.specs.EachMember.{AllRequested, HasRecordOf, LooksEach}
 use Rattle.store_steps.specs.Knowing.{Learns}
 use Rattle.store_steps.specs.Pipelines.{Begins, HasLooked, KnownAt, SessionTakes, here_of}
 use Rattle.store_steps.specs.Standing.{SessionKnown, StoreSeat}
@@ -19,11 +19,11 @@ use Rattle.store_steps.proofs.Posting.{known_as}
 abbrev K : Type 0
 K = SessionKnown
 
--- the session of the last part is in a seat of its own, and that part has an empty one
-module _ (old : List Part) (last : ℕ) (own : Part) (at_own : At last own old) (moved : StoreSeat) (split : (k : K) → IsSession own.seat k → IsSession moved k) where
+-- the session of the last member is in a seat of its own, and that member has an empty one
+module _ (old : List Member) (last : ℕ) (own : Member) (at_own : At last own old) (moved : StoreSeat) (split : (k : K) → IsSession own.seat k → IsSession moved k) where
   -- it took the desk, in the seat `at`
   module _ (shared : Shared) (hollow at : StoreSeat) (h : Held Value) (takes : SessionTakes moved at (here_of shared own) h) where
-    abbrev pub rest : List Part
+    abbrev pub rest : List Member
     rest = set old last (record own { seat = hollow })
 
     pub begins_so : (j : ℕ) (k : K) → KnownAt old j k → Begins shared rest last at h j k
@@ -47,7 +47,7 @@ module _ (old : List Part) (last : ℕ) (own : Part) (at_own : At last own old) 
             (t.0, (record own { seat = at }, subst (λ i. At i (record own { seat = at }) (set old last (record own { seat = at }))) (sym same) (set_here old last (record own { seat = at }) (at_below old last own at_own)), t.1), t.2)
         by false e = (k, (known.0, set_else old last j (record own { seat = at }) (eqb-false j last e) ∙ known.1, known.2), not_looked k)
 
--- each part has a request: the first, and each later one
-pub requested : (parts : List Part) (batch : BatchView) → ((k : K) → KnownAt parts 0 k → HasRecordOf batch.records k.session) → ((j : ℕ) (k : K) → 0 < j → KnownAt parts j k → HasRecordOf batch.records k.session) → AllRequested parts batch
-requested parts batch first others zero k known = first k known
-requested parts batch first others (suc j) k known = others (suc j) k (omega arith) known
+-- each member has a request: the first, and each later one
+pub requested : (members : List Member) (batch : BatchView) → ((k : K) → KnownAt members 0 k → HasRecordOf batch.records k.session) → ((j : ℕ) (k : K) → 0 < j → KnownAt members j k → HasRecordOf batch.records k.session) → AllRequested members batch
+requested members batch first others zero k known = first k known
+requested members batch first others (suc j) k known = others (suc j) k (omega arith) known

@@ -37,5 +37,5 @@ pub mod AtOnce
 pub mod Polling
 -- Updates of several sessions of one node in two holds of its desk.
 pub mod Pipelines
--- What the parts of a pipeline do in each hold, and in the whole call.
-pub mod EachPart
+-- What the members of a pipeline do in each hold, and in the whole call.
+pub mod EachMember

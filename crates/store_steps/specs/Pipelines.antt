@@ -1,5 +1,5 @@
 -- Sessions of one node, each with a seat of its own, which hand their node's desk from one to the next.
-use Rattle.std.specs.Prelude.{◌≡◌, ◌≢◌, ℕ, ◌+◌, ◌-◌, ◌<◌, ◌≤◌, List, length, map, true, false, Some}
+use Rattle.std.specs.Prelude.{◌≡◌, ◌≢◌, ℕ, ◌+◌, ◌-◌, ◌<◌, List, length, map, false, Some}
 use Rattle.ownlock.specs.Held.{held_place}
 use Rattle.ownlock.specs.Seats.{At, IsSession, ShelfId, TookNext}
 use Rattle.ownlock.specs.Knowledge.{Acquired}
@@ -9,16 +9,14 @@ use Rattle.combiner.specs.Slots.{slot}
 use Rattle.combiner.specs.declared.slots.Reply.{Reply}
 use Rattle.combiner.specs.declared.slots.Stage.TheVariants.{Answered, Posted}
 use Rattle.loader.specs.CatalogueView.{CatalogueView}
-use Rattle.maps.specs.declared.shapes.TheConstants.{MAX_ARG_LEN}
 use Rattle.verifier.specs.declared.refusal.Mode.TheVariants.{Update}
 use Rattle.accounts.specs.Accounts.{Extends}
-use Rattle.replica.specs.StoreMeaning.{is_operation}
 use Rattle.oplog.specs.Operations.{Operation}
 use Rattle.accounts.specs.declared.sessions.Pending.{Pending}
 use Rattle.replica.specs.Views.{RepliesView}
 use Rattle.store_steps.specs.declared.desks.Turn.{Turn}
 use Rattle.store_steps.specs.declared.desks.Turn.TheVariants.{Collects}
-use Rattle.store_steps.specs.declared.pipelines.Part.{Part}
+use Rattle.store_steps.specs.declared.pipelines.Member.{Member}
 use Rattle.store_steps.specs.declared.steps.Caller.{Caller}
 use Rattle.store_steps.specs.declared.steps.Here.{Here}
 use Rattle.store_steps.specs.declared.steps.Question.{Question}
@@ -30,6 +28,7 @@ use Rattle.store_steps.specs.AtOnce.{IsAlone, MayAsk}
 use Rattle.store_steps.specs.Combining.{HasCombined}
 use Rattle.store_steps.specs.Knowing.{IsOn}
 use Rattle.store_steps.specs.Lending.{desk_of}
+use Rattle.store_steps.specs.Questions.{MayAskEach}
 use Rattle.store_steps.specs.Requests.{HasPosted, HasTurned}
 use Rattle.store_steps.specs.Shelving.{store_rules}
 use Rattle.store_steps.specs.Standing.{IsFree, SessionKnown, Stands, StoreSeat}
@@ -166,53 +165,53 @@ HasNoCombiner h = (x : DeskView) → desk_of h.value ≡ Some x → has_combiner
 abbrev pub SessionTakes : (old new : StoreSeat) → Here → Held Value → Type 0
 SessionTakes old new here h = (k : SessionKnown) → IsSession old k → (t : SessionKnown) × HasDesk new here h k t
 
--- ---- the parts of a pipeline
+-- ---- the members of a pipeline
 
--- where a part works
-abbrev pub here_of : Shared → Part → Here
-here_of shared part = record { shared = shared; caller = part.caller }
+-- where a member works
+abbrev pub here_of : Shared → Member → Here
+here_of shared member = record { shared = shared; caller = member.caller }
 
--- the j-th part is the session k
-abbrev pub KnownAt : List Part → ℕ → SessionKnown → Type 0
-KnownAt parts j k = (part : Part) × At j part parts × IsSession part.seat k
+-- the j-th member is the session k
+abbrev pub KnownAt : List Member → ℕ → SessionKnown → Type 0
+KnownAt members j k = (member : Member) × At j member members × IsSession member.seat k
 
--- the seat of each part is of this shelf, and all are of one node
-pub record AreParts (id : ShelfId) (parts : List Part) : Type 0 where
-  pub own : (j : ℕ) (part : Part) → At j part parts → part.seat.shelf ≡ id
-  pub near : (i j : ℕ) (p q : Part) → At i p parts → At j q parts → p.caller.node ≡ q.caller.node
+-- the seat of each member is of this shelf, and all are of one node
+pub record AreMembers (id : ShelfId) (members : List Member) : Type 0 where
+  pub own : (j : ℕ) (member : Member) → At j member members → member.seat.shelf ≡ id
+  pub near : (i j : ℕ) (p q : Member) → At i p members → At j q members → p.caller.node ≡ q.caller.node
 
--- the slot of a part, and the shelf of its seat
-abbrev pub spot_of : Part → Caller × ShelfId
-spot_of part = (part.caller, part.seat.shelf)
+-- the slot of a member, and the shelf of its seat
+abbrev pub spot_of : Member → Caller × ShelfId
+spot_of member = (member.caller, member.seat.shelf)
 
--- each part has the slot and the shelf that it had
-abbrev pub SameSpots : (old new : List Part) → Type 0
+-- each member has the slot and the shelf that it had
+abbrev pub SameSpots : (old new : List Member) → Type 0
 SameSpots old new = map spot_of new ≡ map spot_of old
 
 -- each call may be asked for
 abbrev pub AreCalls : CatalogueView → List Question → Type 0
-AreCalls c calls = (j : ℕ) (q : Question) → At j q calls → (is_operation Update c (asked_op q) ≡ true) × (length q.argument.now ≤ MAX_ARG_LEN)
+AreCalls c calls = MayAskEach Update c calls
 
--- the session of the j-th part, before it took the desk: that of the number `from` has it, in the seat s
-abbrev pub Begins : Shared → List Part → (from : ℕ) → StoreSeat → Held Value → ℕ → SessionKnown → Type 0
-Begins shared parts from s h j f =
-    (j ≡ from → (part : Part) × (t : SessionKnown) × At j part parts × HasDesk s (here_of shared part) h f t) × (j ≢ from → KnownAt parts j f)
+-- the session of the j-th member, before it took the desk: that of the number `from` has it, in the seat s
+abbrev pub Begins : Shared → List Member → (from : ℕ) → StoreSeat → Held Value → ℕ → SessionKnown → Type 0
+Begins shared members from s h j f =
+    (j ≡ from → (member : Member) × (t : SessionKnown) × At j member members × HasDesk s (here_of shared member) h f t) × (j ≢ from → KnownAt members j f)
 
--- the sessions of later parts have higher numbers
-abbrev pub AscendFrom : Shared → List Part → StoreSeat → Held Value → Type 0
-AscendFrom shared parts s h = (i j : ℕ) (f g : SessionKnown) → i < j → Begins shared parts 0 s h i f → Begins shared parts 0 s h j g → f.session < g.session
+-- the sessions of later members have higher numbers
+abbrev pub AscendFrom : Shared → List Member → StoreSeat → Held Value → Type 0
+AscendFrom shared members s h = (i j : ℕ) (f g : SessionKnown) → i < j → Begins shared members 0 s h i f → Begins shared members 0 s h j g → f.session < g.session
 
--- the j-th part has the desk now
-abbrev pub HoldsAt : Shared → List Part → StoreSeat → Held Value → ℕ → SessionKnown → Type 0
-HoldsAt shared parts s h j f = (part : Part) × (t : SessionKnown) × At j part parts × HasDesk s (here_of shared part) h f t
+-- the j-th member has the desk now
+abbrev pub HoldsAt : Shared → List Member → StoreSeat → Held Value → ℕ → SessionKnown → Type 0
+HoldsAt shared members s h j f = (member : Member) × (t : SessionKnown) × At j member members × HasDesk s (here_of shared member) h f t
 
--- the j-th part may ask for an update
-abbrev pub MayAskAt : Shared → List Part → ℕ → Type 0
-MayAskAt shared parts j = (part : Part) → At j part parts → MayAsk part.seat part.caller shared
+-- the j-th member may ask for an update
+abbrev pub MayAskAt : Shared → List Member → ℕ → Type 0
+MayAskAt shared members j = (member : Member) → At j member members → MayAsk member.seat member.caller shared
 
--- the j-th part has posted
-abbrev pub PostsAt : List Part → ℕ → SessionKnown → Operation → Type 0
-PostsAt parts j f op = (asked : SessionKnown) × KnownAt parts j asked × HasPosted f asked op × PostsBy f asked op
+-- the j-th member has posted
+abbrev pub PostsAt : List Member → ℕ → SessionKnown → Operation → Type 0
+PostsAt members j f op = (asked : SessionKnown) × KnownAt members j asked × HasPosted f asked op × PostsBy f asked op
 
 -- the session has a request at the desk that nobody has claimed
 abbrev pub Asks : DeskView → SessionKnown → Type 0
@@ -229,39 +228,39 @@ MayPostWith here s h = IsDesk here h × MayPostThere s here h
 abbrev pub MayTurnWith : Here → StoreSeat → Held Value → Type 0
 MayTurnWith here s h = IsDesk here h × MayTurnThere s here h
 
--- the j-th part waits for an answer
-abbrev pub WaitsAt : Shared → List Part → ℕ → Type 0
-WaitsAt shared parts j = (part : Part) → At j part parts → AwaitsAnswer part.seat part.caller shared
+-- the j-th member waits for an answer
+abbrev pub WaitsAt : Shared → List Member → ℕ → Type 0
+WaitsAt shared members j = (member : Member) → At j member members → AwaitsAnswer member.seat member.caller shared
 
 -- each call except the first is posted; the seat s is for the last one
-abbrev pub PostsLater : Shared → (old new : List Part) → List Question → StoreSeat → Held Value → Type 0
+abbrev pub PostsLater : Shared → (old new : List Member) → List Question → StoreSeat → Held Value → Type 0
 PostsLater shared old new calls s h =
     (j : ℕ) (f : SessionKnown) (q : Question) → 0 < j → At j q calls → Begins shared old (length calls - 1) s h j f → PostsAt new j f (asked_op q)
 
--- the desk has come from the part with this number to the first one
-abbrev pub HoldsFirst : Shared → (old new : List Part) → (from : ℕ) → (last first : StoreSeat × Held Value) → Type 0
+-- the desk has come from the member with this number to the first one
+abbrev pub HoldsFirst : Shared → (old new : List Member) → (from : ℕ) → (last first : StoreSeat × Held Value) → Type 0
 HoldsFirst shared old new from last first =
-    ((f : SessionKnown) → Begins shared old from last.0 last.1 0 f → HoldsAt shared new first.0 first.1 0 f) × ((part : Part) → At 0 part new → IsDesk (here_of shared part) first.1)
+    ((f : SessionKnown) → Begins shared old from last.0 last.1 0 f → HoldsAt shared new first.0 first.1 0 f) × ((member : Member) → At 0 member new → IsDesk (here_of shared member) first.1)
 
--- it has the requests of all later parts then, and no session combines that did not
-abbrev pub DeskAsks : Shared → List Part → (from : ℕ) → (last first : StoreSeat × Held Value) → Type 0
-DeskAsks shared parts from last first =
-    (HasNoCombiner last.1 → HasNoCombiner first.1) × ((x : DeskView) (j : ℕ) (f : SessionKnown) → desk_of first.1.value ≡ Some x → 0 < j → Begins shared parts from last.0 last.1 j f → Asks x f)
+-- it has the requests of all later members then, and no session combines that did not
+abbrev pub DeskAsks : Shared → List Member → (from : ℕ) → (last first : StoreSeat × Held Value) → Type 0
+DeskAsks shared members from last first =
+    (HasNoCombiner last.1 → HasNoCombiner first.1) × ((x : DeskView) (j : ℕ) (f : SessionKnown) → desk_of first.1.value ≡ Some x → 0 < j → Begins shared members from last.0 last.1 j f → Asks x f)
 
--- an answer waits for each part at the desk that the first one has
-abbrev pub AllAnswered : Shared → List Part → StoreSeat → Held Value → Type 0
-AllAnswered shared parts s h = (x : DeskView) (j : ℕ) (f : SessionKnown) → desk_of h.value ≡ Some x → Begins shared parts 0 s h j f → (reply : Reply) × AnswerWaits x f reply
+-- an answer waits for each member at the desk that the first one has
+abbrev pub AllAnswered : Shared → List Member → StoreSeat → Held Value → Type 0
+AllAnswered shared members s h = (x : DeskView) (j : ℕ) (f : SessionKnown) → desk_of h.value ≡ Some x → Begins shared members 0 s h j f → (reply : Reply) × AnswerWaits x f reply
 
--- the j-th part has collected the reply
-pub record CollectsAt (parts : List Part) (j : ℕ) (f : SessionKnown) (o : Pending) (reply : Reply) : Type 0 where
+-- the j-th member has collected the reply
+pub record CollectsAt (members : List Member) (j : ℕ) (f : SessionKnown) (o : Pending) (reply : Reply) : Type 0 where
   pub after : SessionKnown
-  pub is : KnownAt parts j after
+  pub is : KnownAt members j after
   pub batch : BatchView
   pub turned : HasTurned f after o batch (Collects reply)
   pub turns : TurnsBy f after batch (Collects reply)
 
--- each part has collected the answer that waited for it
-abbrev pub CollectsEach : Shared → (old new : List Part) → StoreSeat → Held Value → List Reply → Type 0
+-- each member has collected the answer that waited for it
+abbrev pub CollectsEach : Shared → (old new : List Member) → StoreSeat → Held Value → List Reply → Type 0
 CollectsEach shared old new s h replies =
     (x : DeskView) (j : ℕ) (f : SessionKnown) (o : Pending) → desk_of h.value ≡ Some x → Begins shared old 0 s h j f → HasAsked f o
     → (reply : Reply) × At j reply replies × AnswerWaits x f reply × CollectsAt new j f o reply

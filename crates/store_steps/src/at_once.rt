@@ -151,7 +151,7 @@ pub fn ask_at_once<R: Wait>(
             Turn::Collects(reply) => return reply,
             Turn::Combines => {
                 append_and_replay(rt, here, seat, &room.batch, &mut room.replies);
-                room.count();
+                room.count_batch();
                 at = hand_over_and_turn(rt, here, seat, &mut room.batch, &room.replies);
             }
             Turn::Waits => {

@@ -26,8 +26,8 @@ impl Room {
         }
     }
 
-    // Counts the batch that is in it.
-    pub(crate) fn count(&mut self)
+    // Counts the batch that the room has, with its requests.
+    pub(crate) fn count_batch(&mut self)
         ensures room { (self.new.batch ≡ self.old.batch) × (self.new.replies ≡ self.old.replies) }
     {
         self.batches = self.batches.and_one(self.batch.records().len() as u64);

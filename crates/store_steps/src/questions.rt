@@ -1,10 +1,11 @@
-// Several reads at one point.
+// Several questions in one call: whether they may be asked, and several reads at one point.
 
-ghost use Rattle.std.specs.Prelude.{◌≡◌, length, None, Some, MatchResult};
+ghost use Rattle.std.specs.Prelude.{◌≡◌, length, None, Some, IfOk, MatchResult};
 ghost use Rattle.loader.specs.CatalogueView.{sizes_for};
 ghost use Rattle.loader.specs.StoreState.{sizes_of};
+ghost use Rattle.replica.specs.Refusals.{IsRefusedAs, early_refusal};
 ghost use Rattle.store_steps.specs.Asking.{asked_op};
-ghost use Rattle.store_steps.specs.Questions.{EachReplies, first_refused, question_refusal};
+ghost use Rattle.store_steps.specs.Questions.{EachReplies, MayAskEach, MayAskFor, first_refused, first_refused_in, question_refusal};
 ghost use Rattle.store_steps.specs.Seen.{AReply, Replies};
 ghost use Rattle.store_steps.specs.Views.{RepliesIn};
 
@@ -25,14 +26,36 @@ pub struct QuestionRefused {
     pub refused: StoreRefused,
 }
 
-// Whether each question may be asked: the first that may not.
-fn check_each(catalogue: &Catalogue, questions: &[Question<'_>]) -> Result<(), QuestionRefused>
-    ensures refusal { MatchResult result (λ _. first_refused catalogue.now 0 questions.now ≡ None)
-        (λ e. first_refused catalogue.now 0 questions.now ≡ Some e) }
+// Whether a program may be called in this mode on this argument.
+fn check_one(
+    catalogue: &Catalogue,
+    mode: Mode,
+    program: u16,
+    argument: &[u8],
+) -> Result<(), StoreRefused>
+    ensures refusal { IsRefusedAs (early_refusal catalogue.now mode program argument.now) result }
+    ensures may { IfOk result (λ _. MayAskFor mode catalogue.now program argument.now) }
+{
+    check_call(catalogue, mode, program, argument)?;
+    Ok(())
+}
+
+/// Whether each question may be asked in this mode.
+///
+/// # Errors
+///
+/// The first question that may not: S1 unknown program, S2 argument length, S3 the other mode.
+pub fn check_each(
+    catalogue: &Catalogue,
+    mode: Mode,
+    questions: &[Question<'_>],
+) -> Result<(), QuestionRefused>
+    ensures refusal { let first = first_refused_in mode catalogue.now 0 questions.now in MatchResult result (λ _. first ≡ None) (λ e. first ≡ Some e) }
+    ensures may { IfOk result (λ _. MayAskEach mode catalogue.now questions.now) }
 {
     for number in 0..questions.len() {
         let asked = questions[number];
-        if let Err(refused) = check_call(catalogue, Mode::Read, asked.program, asked.argument) {
+        if let Err(refused) = check_one(catalogue, mode, asked.program, asked.argument) {
             return Err(QuestionRefused { number, refused });
         }
     }
@@ -121,7 +144,7 @@ impl Look for Reads<'_, '_> {
     ghost lent = { λ old new. new.replies.ghost_name ≡ old.replies.ghost_name };
 
     fn check(&self, catalogue: &Catalogue) -> Result<(), QuestionRefused> {
-        check_each(catalogue, self.questions)
+        check_each(catalogue, Mode::Read, self.questions)
     }
 
     fn at(&mut self, catalogue: &Catalogue, node: &mut NodeReplica) -> u64 {

@@ -143,7 +143,7 @@ pub fn complete<R: Wait>(rt: &R, here: Here<'_>, seat: &mut Seat<Value>, room: &
             Turn::Collects(reply) => return reply,
             Turn::Combines => {
                 combine(rt, here, seat, &mut room.batch, &mut room.replies);
-                room.count();
+                room.count_batch();
             }
             Turn::Waits => watch(here.shared.shelf, 1 + here.caller.node),
         }

@@ -63,7 +63,7 @@ pub struct Here<'a> {
     pub caller: Caller,
 }
 
-/// What a read asks for.
+/// What a read or an update asks for.
 #[derive(Clone, Copy)]
 pub struct Question<'a> {
     /// A program, by its number.
@@ -154,7 +154,12 @@ fn is_base_due(log: &LogState, node: &NodeReplica, shared: Shared<'_>, want: usi
 // Brings the replica up to the log's end, where the log has no room for so many without the records that it has applied. Answers whether
 // it did.
 #[inline(never)]
-fn come_up(log: &LogState, node: &mut NodeReplica, catalogue: &Catalogue, want: usize) -> bool
+fn follow_for_room(
+    log: &LogState,
+    node: &mut NodeReplica,
+    catalogue: &Catalogue,
+    want: usize,
+) -> bool
     requires above { is_above log.now node.old ≡ true }
     requires fits { Fits log.now node.old }
     requires sizes { sizes_of node.old.replica.state ≡ sizes_for catalogue.now }
@@ -249,7 +254,7 @@ fn make_room(
     } = shared;
     rebase_if_behind(log, node);
     if is_base_due(log, node, shared, want) {
-        come_up(log, node, catalogue, want);
+        follow_for_room(log, node, catalogue, want);
         raise_to(shelf, seat, node.replica.tail());
         bring_base(log, node, worth)
     } else {
@@ -259,7 +264,7 @@ fn make_room(
 }
 
 // Applies the first of the records in the hand to the replica, so many, and puts these behind the others.
-fn come_back(node: &mut NodeReplica, catalogue: &Catalogue, owed: usize, appended: &[Record])
+fn replay_owed(node: &mut NodeReplica, catalogue: &Catalogue, owed: usize, appended: &[Record])
     requires next { IsNext catalogue.now node.old }
     requires owed { owed ≤ length node.old.hand.records }
     requires room { length (drop owed node.old.hand.records) + length appended.now ≤ node.old.hand.window }
@@ -299,7 +304,7 @@ pub(crate) fn try_append_and_copy(
     let owed = make_room(shared, seat, log, node, records.len());
     append_only(log, records, replies);
     shared.shelf.put::<Brand>(seat, held);
-    come_back(node, shared.catalogue, owed, &records[..replies.len()]);
+    replay_owed(node, shared.catalogue, owed, &records[..replies.len()]);
     Some(())
 }
 
@@ -326,7 +331,7 @@ pub(crate) fn replay_and_raise(
 // Takes the log, brings the replica up to its end while it is held, puts it back, and raises the completed tail to the replica's.
 // Where another session holds the log it answers `None`, and nothing has changed.
 #[inline(never)]
-fn try_follow_and_raise(
+fn try_follow_log(
     shelf: &Shelf<Value>,
     seat: &mut Seat<Value>,
     node: &mut NodeReplica,
@@ -355,7 +360,7 @@ fn try_follow_and_raise(
 // Brings the replica up to that completed tail, where it has not reached it. Where another session holds the log, which that takes, it
 // answers `None`, and nothing has changed.
 #[inline(always)]
-fn try_reach(
+fn try_follow_if_behind(
     shared: Shared<'_>,
     seat: &mut Seat<Value>,
     node: &mut NodeReplica,
@@ -372,7 +377,7 @@ fn try_reach(
     if ready(&node.replica, done) {
         return Some(());
     }
-    let Some(()) = try_follow_and_raise(shared.shelf, seat, node, shared.catalogue) else {
+    let Some(()) = try_follow_log(shared.shelf, seat, node, shared.catalogue) else {
         return None;
     };
     Some(())
@@ -397,7 +402,7 @@ pub(crate) fn try_hold_ready(here: Here<'_>, seat: &mut Seat<Value>) -> Result<H
         return Err(1 + here.caller.node);
     };
     let node = held.value.replica_mut();
-    let Some(()) = try_reach(here.shared, seat, node, done) else {
+    let Some(()) = try_follow_if_behind(here.shared, seat, node, done) else {
         shelf.put::<Brand>(seat, held);
         return Err(LEADER);
     };

@@ -66,12 +66,12 @@ hand_over_and_turn-at-requires-clause-ready g c =
     let frees = free_back c.args.here.caller n.waited n.now (free_then c.args.here.caller p.asked n.waited free n.resumed) h.back in
     let on = shelf_then _ _ _ n.waited n.now h.back.extends (shelf_then _ _ _ p.asked n.waited n.resumed.extends (shelf_then _ _ _ i.0 p.asked p.posted.back.extends i.4)) in
     let a = c.append_and_replay.ensures.combined n.now n.is in
-    let room = c.count.ensures.room in (
+    let room = c.count_batch.ensures.room in (
       a.0,
       a.1,
       (
         free_on c.args.here.caller n.now a.0 a.2.session a.2.held a.2.extends frees,
-        subst (λ (z : RepliesView). IsReady a.0 c.count.new.self.batch z) (sym room.1) (subst (λ (z : BatchView). IsReady a.0 z c.append_and_replay.new.replies) (sym room.0) a.2.ready),
+        subst (λ (z : RepliesView). IsReady a.0 c.count_batch.new.self.batch z) (sym room.1) (subst (λ (z : BatchView). IsReady a.0 z c.append_and_replay.new.replies) (sym room.0) a.2.ready),
         shelf_on _ _ _ n.now a.0 a.2.extends on,
         a.2.stands,
         (o, still_waits n.now a.0 o c.loop.room.batch c.append_and_replay.new.replies n.waited h (asked_by p.asked n.waited o n.resumed.note w) a.2),
@@ -87,10 +87,10 @@ loop-preserved-in-Combines g c = (
       let kept = c.append_and_replay.new.replies in
       let h = subst (λ z. HasTurned n.waited n.now o b z) c.in-Combines.is n.turned in
       let a = c.append_and_replay.ensures.combined n.now n.is in
-      let room = c.count.ensures.room in
+      let room = c.count_batch.ensures.room in
       let r = c.hand_over_and_turn-at.ensures.turned a.0 o a.1 (still_waits n.now a.0 o b kept n.waited h (asked_by asked n.waited o n.resumed.note w) a.2) in
       let first = c.append_and_replay.ensures.goes n.now a.0 n.is a.1 in
-      let last = subst (λ (z : RepliesView). HandsOver c.args.here.caller.node a.0 r.combined b z) room.1 (subst (λ (z : BatchView). HandsOver c.args.here.caller.node a.0 r.combined z c.count.new.self.replies) room.0 r.gives) in
+      let last = subst (λ (z : RepliesView). HandsOver c.args.here.caller.node a.0 r.combined b z) room.1 (subst (λ (z : BatchView). HandsOver c.args.here.caller.node a.0 r.combined z c.count_batch.new.self.replies) room.0 r.gives) in
       record {
         waited = r.combined;
         resumed = resumed_combined c.args.here.caller asked n.waited n.now r.combined o b free w n.resumed h (combined_then n.now a.0 r.combined b kept a.2 r.has);

@@ -2,38 +2,38 @@ use Rattle.std.proofs.Common.{◌≡◌, ℕ, ◌<◌, arith, ◌∙◌, sym, su
 use Rattle.atomic_table.proofs.Lists.{set_else, set_here}
 use Rattle.combiner.specs.Desks.{BatchView}
 use Rattle.accounts.proofs.Export.{at_one}
-use Rattle.store_steps.specs.EachPart.{HasRecordOf}
+use Rattle.store_steps.specs.EachMember.{HasRecordOf}
 use Rattle.store_steps.specs.Pipelines.{HasDesk, here_of, spot_of}
 use Rattle.store_steps.specs.Requests.{HasTurned}
 use Rattle.store_steps.specs.Updating.{TurnsBy}
 use Rattle.store_steps.specs.declared.desks.Turn.{Turn}
 use Rattle.store_steps.specs.declared.desks.Turn.TheVariants.{Collects, Combines, Waits}
-use Rattle.store_steps.specs.declared.pipelines.Part.{Part}
+use Rattle.store_steps.specs.declared.pipelines.Member.{Member}
 use Rattle.store_steps.proofs.AtOnce.{asks}
 use Rattle.store_steps.proofs.Handing.{held_there, session_turns, taken, was_turn}
 use Rattle.store_steps.proofs.Gathered.{claimed_of, post_asks, post_keeps}
-use Rattle.store_steps.proofs.Posting.{claiming, map_set, part_at}
+use Rattle.store_steps.proofs.Posting.{claiming, map_set, member_at}
 use Rattle.store_steps.proofs.pipelines.claim_first.Goals as goal
 
 pub post_and_settle-held-requires-clause-place : goal.post_and_settle-held-requires-clause-place
 post_and_settle-held-requires-clause-place c =
-    (c.requires.has (slice_index_or c.args.parts.now 0 c.index-parts-0.result) (part_at c.args.parts.now 0 c.index-parts-0.result c.requires.some c.index-parts-0.is)).0
+    (c.requires.has (slice_index_or c.args.members.now 0 c.index-members-0.result) (member_at c.args.members.now 0 c.index-members-0.result c.requires.some c.index-members-0.is)).0
 
 pub post_and_settle-held-requires-clause-has : goal.post_and_settle-held-requires-clause-has
 post_and_settle-held-requires-clause-has c =
-    (c.requires.has (slice_index_or c.args.parts.now 0 c.index-parts-0.result) (part_at c.args.parts.now 0 c.index-parts-0.result c.requires.some c.index-parts-0.is)).1
+    (c.requires.has (slice_index_or c.args.members.now 0 c.index-members-0.result) (member_at c.args.members.now 0 c.index-members-0.result c.requires.some c.index-members-0.is)).1
 
 pub turn_and_put-requires-clause-there : goal.turn_and_put-requires-clause-there
 turn_and_put-requires-clause-there c =
-    let own = slice_index_or c.args.parts.now 0 c.index-parts-0.result in
-    let i = (c.requires.has own (part_at c.args.parts.now 0 c.index-parts-0.result c.requires.some c.index-parts-0.is)).1 in
+    let own = slice_index_or c.args.members.now 0 c.index-members-0.result in
+    let i = (c.requires.has own (member_at c.args.members.now 0 c.index-members-0.result c.requires.some c.index-members-0.is)).1 in
     let p = c.post_and_settle-held.ensures.kept i.0 i.1 i.2 i.3 in
     held_there c.post_and_settle-held.new.seat (here_of c.args.shared own) c.post_and_settle-held.result p.asked p.now p.has c.post_and_settle-held.ensures.same.1
 
 pub turn_and_put-requires-clause-asked : goal.turn_and_put-requires-clause-asked
 turn_and_put-requires-clause-asked c =
-    let own = slice_index_or c.args.parts.now 0 c.index-parts-0.result in
-    let i = (c.requires.has own (part_at c.args.parts.now 0 c.index-parts-0.result c.requires.some c.index-parts-0.is)).1 in
+    let own = slice_index_or c.args.members.now 0 c.index-members-0.result in
+    let i = (c.requires.has own (member_at c.args.members.now 0 c.index-members-0.result c.requires.some c.index-members-0.is)).1 in
     let p = c.post_and_settle-held.ensures.kept i.0 i.1 i.2 i.3 in
     (p.asked, p.now, p.posted.request, p.has.is, taken c.post_and_settle-held.new.seat (here_of c.args.shared own) c.post_and_settle-held.result p.asked p.now p.has c.post_and_settle-held.ensures.same.1, asks i.0 p.asked c.args.op.now i.3 p.posted)
 
@@ -44,8 +44,8 @@ IsNoClaim Waits = Unit {0}
 
 pub unreachable-requires : goal.unreachable-requires
 unreachable-requires c =
-    let own = slice_index_or c.args.parts.now 0 c.index-parts-0.result in
-    let h = c.requires.has own (part_at c.args.parts.now 0 c.index-parts-0.result c.requires.some c.index-parts-0.is) in
+    let own = slice_index_or c.args.members.now 0 c.index-members-0.result in
+    let h = c.requires.has own (member_at c.args.members.now 0 c.index-members-0.result c.requires.some c.index-members-0.is) in
     let i = h.1 in
     let p = c.post_and_settle-held.ensures.kept i.0 i.1 i.2 i.3 in
     let g = claiming c.args.shared own c.args.first.0 c.post_and_settle-held.new.seat c.args.first.1 c.post_and_settle-held.result i.0 i.1 p.asked p.now i.2 h.0 c.args.op.now c.post_and_settle-held.ensures.posted c.requires.free p.has c.post_and_settle-held.ensures.same.1 p.posted.back.session c.turn_and_put.new.batch c.turn_and_put.result _ (was_turn (here_of c.args.shared own) c.post_and_settle-held.result c.turn_and_put.new.batch c.turn_and_put.result c.turn_and_put.ensures.turn) in
@@ -56,19 +56,19 @@ not_zero j lt e = omega (arith, lt, e)
 
 pub returns-clause-same : goal.returns-clause-same
 returns-clause-same c =
-    let own = slice_index_or c.args.parts.now 0 c.index-parts-0.result in
-    let there = part_at c.args.parts.now 0 c.index-parts-0.result c.requires.some c.index-parts-0.is in
-    let shelf = c.turn_and_put.ensures.same ∙ (c.post_and_settle-held.ensures.same.0 ∙ (c.requires.own ∙ sym (c.requires.parts.own 0 own there))) in (
-      map_set spot_of c.args.parts.now 0 own (record own { seat = c.turn_and_put.new.seat }) there (λ i. (own.caller, shelf i)),
-      λ j part lt at. set_else c.args.parts.now 0 j (record own { seat = c.turn_and_put.new.seat }) (λ e. not_zero j lt e) ∙ at,
+    let own = slice_index_or c.args.members.now 0 c.index-members-0.result in
+    let there = member_at c.args.members.now 0 c.index-members-0.result c.requires.some c.index-members-0.is in
+    let shelf = c.turn_and_put.ensures.same ∙ (c.post_and_settle-held.ensures.same.0 ∙ (c.requires.own ∙ sym (c.requires.members.own 0 own there))) in (
+      map_set spot_of c.args.members.now 0 own (record own { seat = c.turn_and_put.new.seat }) there (λ i. (own.caller, shelf i)),
+      λ j member lt at. set_else c.args.members.now 0 j (record own { seat = c.turn_and_put.new.seat }) (λ e. not_zero j lt e) ∙ at,
     )
 
 pub returns-clause-claims : goal.returns-clause-claims
-returns-clause-claims c part f t at d0 alone =
-    let own = slice_index_or c.args.parts.now 0 c.index-parts-0.result in
-    let there = part_at c.args.parts.now 0 c.index-parts-0.result c.requires.some c.index-parts-0.is in
+returns-clause-claims c member f t at d0 alone =
+    let own = slice_index_or c.args.members.now 0 c.index-members-0.result in
+    let there = member_at c.args.members.now 0 c.index-members-0.result c.requires.some c.index-members-0.is in
     let h = c.requires.has own there in
-    let d = subst (λ (z : Part). HasDesk c.args.first.0 (here_of c.args.shared z) c.args.first.1 f t) (at_one c.args.parts.now 0 part own at there) d0 in
+    let d = subst (λ (z : Member). HasDesk c.args.first.0 (here_of c.args.shared z) c.args.first.1 f t) (at_one c.args.members.now 0 member own at there) d0 in
     let p = c.post_and_settle-held.ensures.kept f t d alone in
     let g = claiming c.args.shared own c.args.first.0 c.post_and_settle-held.new.seat c.args.first.1 c.post_and_settle-held.result f t p.asked p.now d h.0 c.args.op.now c.post_and_settle-held.ensures.posted c.requires.free p.has c.post_and_settle-held.ensures.same.1 p.posted.back.session c.turn_and_put.new.batch c.turn_and_put.result _ (was_turn (here_of c.args.shared own) c.post_and_settle-held.result c.turn_and_put.new.batch c.turn_and_put.result c.turn_and_put.ensures.turn) in
     let u = session_turns c.post_and_settle-held.new.seat c.turn_and_put.new.seat (here_of c.args.shared own) c.post_and_settle-held.result c.post_and_settle-held.ensures.same.1 c.turn_and_put.new.batch c.turn_and_put.result c.turn_and_put.ensures.turned p.asked p.now p.posted.request p.has (asks f p.asked c.args.op.now alone p.posted) in
@@ -77,7 +77,7 @@ returns-clause-claims c part f t at d0 alone =
       posted = p.posted;
       posts = p.posts;
       after = u.after;
-      is = (record own { seat = c.turn_and_put.new.seat }, set_here c.args.parts.now 0 (record own { seat = c.turn_and_put.new.seat }) c.requires.some, u.is);
+      is = (record own { seat = c.turn_and_put.new.seat }, set_here c.args.members.now 0 (record own { seat = c.turn_and_put.new.seat }) c.requires.some, u.is);
       turned = subst (λ z. HasTurned p.asked u.after p.posted.request c.turn_and_put.new.batch z) g.claims u.turned;
       turns = subst (λ z. TurnsBy p.asked u.after c.turn_and_put.new.batch z) g.claims u.turns;
       own = subst (λ (z : BatchView). HasRecordOf z.records f.session) (sym g.batch_is) (claimed_of g.y f (post_asks f own.caller.slot c.args.op.now g.x g.y g.becomes g.own));
@@ -85,8 +85,8 @@ returns-clause-claims c part f t at d0 alone =
 
 pub returns-clause-asks : goal.returns-clause-asks
 returns-clause-asks c x f is a =
-    let own = slice_index_or c.args.parts.now 0 c.index-parts-0.result in
-    let h = c.requires.has own (part_at c.args.parts.now 0 c.index-parts-0.result c.requires.some c.index-parts-0.is) in
+    let own = slice_index_or c.args.members.now 0 c.index-members-0.result in
+    let h = c.requires.has own (member_at c.args.members.now 0 c.index-members-0.result c.requires.some c.index-members-0.is) in
     let i = h.1 in
     let p = c.post_and_settle-held.ensures.kept i.0 i.1 i.2 i.3 in
     let g = claiming c.args.shared own c.args.first.0 c.post_and_settle-held.new.seat c.args.first.1 c.post_and_settle-held.result i.0 i.1 p.asked p.now i.2 h.0 c.args.op.now c.post_and_settle-held.ensures.posted c.requires.free p.has c.post_and_settle-held.ensures.same.1 p.posted.back.session c.turn_and_put.new.batch c.turn_and_put.result _ (was_turn (here_of c.args.shared own) c.post_and_settle-held.result c.turn_and_put.new.batch c.turn_and_put.result c.turn_and_put.ensures.turn) in

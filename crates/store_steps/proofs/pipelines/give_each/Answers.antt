@@ -1,5 +1,5 @@
 use Rattle.std.proofs.Common.{◌<◌, length, refl, sym, ap, ◌∙◌, subst}
-use Rattle.store_steps.specs.Pipelines.{AreParts}
+use Rattle.store_steps.specs.Pipelines.{AreMembers}
 use Rattle.store_steps.proofs.AskingEach.{still_gives}
 use Rattle.store_steps.proofs.pipelines.give_each.Goals as goal
 
@@ -7,9 +7,9 @@ pub loop-init : goal.loop-init
 loop-init g c =
     (refl, refl, refl, refl)
 
-pub try_give_each-requires-clause-parts : goal.try_give_each-requires-clause-parts
-try_give_each-requires-clause-parts g c =
-    subst (λ z. AreParts c.args.shared.shelf.now.id z) (sym c.loop.invariant.0) c.requires.parts
+pub try_give_each-requires-clause-members : goal.try_give_each-requires-clause-members
+try_give_each-requires-clause-members g c =
+    subst (λ z. AreMembers c.args.shared.shelf.now.id z) (sym c.loop.invariant.0) c.requires.members
 
 pub try_give_each-requires-clause-count : goal.try_give_each-requires-clause-count
 try_give_each-requires-clause-count g c =
@@ -17,4 +17,4 @@ try_give_each-requires-clause-count g c =
 
 pub try_give_each-requires-clause-may : goal.try_give_each-requires-clause-may
 try_give_each-requires-clause-may g c =
-    still_gives c.args.shared c.args.parts.now c.loop.parts c.args.room.now.batch c.loop.room.batch c.args.room.now.replies c.loop.room.replies c.loop.invariant.0 c.loop.invariant.1 c.loop.invariant.2 c.requires.may
+    still_gives c.args.shared c.args.members.now c.loop.members c.args.room.now.batch c.loop.room.batch c.args.room.now.replies c.loop.room.replies c.loop.invariant.0 c.loop.invariant.1 c.loop.invariant.2 c.requires.may

@@ -1,7 +1,7 @@
 use Rattle.std.proofs.Common.{length, sym, ap, refl, ◌∙◌}
 use Rattle.std.proofs.lemmas.List.{length-map}
 use Rattle.store_steps.specs.Pipelines.{spot_of}
-use Rattle.store_steps.proofs.AskingEach.{are_parts, looked_then, may_ask_then}
+use Rattle.store_steps.proofs.AskingEach.{are_members, looked_then, may_ask_then}
 use Rattle.store_steps.proofs.Handing.{not_looked}
 use Rattle.store_steps.proofs.pipelines.post_each.Goals as goal
 
@@ -14,10 +14,10 @@ try_post_each-requires g c =
     let same = c.loop.invariant.spots in
     record {
       may = record {
-        parts = are_parts c.args.shared c.args.parts.now c.loop.parts same c.requires.may.parts;
+        members = are_members c.args.shared c.args.members.now c.loop.members same c.requires.may.members;
         some = c.requires.may.some;
-        count = sym (length-map c.loop.parts spot_of) ∙ (ap length same ∙ (length-map c.args.parts.now spot_of ∙ c.requires.may.count));
-        idle = may_ask_then c.args.shared c.args.parts.now c.loop.parts same c.loop.invariant.looks c.requires.may.idle;
+        count = sym (length-map c.loop.members spot_of) ∙ (ap length same ∙ (length-map c.args.members.now spot_of ∙ c.requires.may.count));
+        idle = may_ask_then c.args.shared c.args.members.now c.loop.members same c.loop.invariant.looks c.requires.may.idle;
         calls = c.requires.may.calls;
       };
     }
@@ -28,7 +28,7 @@ returns-in-Ok-clause-same g c =
 
 pub returns-in-Ok-clause-posted : goal.returns-in-Ok-clause-posted
 returns-in-Ok-clause-posted g c =
-    record { mid = c.loop.parts; spots = c.loop.invariant.spots; looks = c.loop.invariant.looks; posts = c.in-Ok.ensures.posted }
+    record { mid = c.loop.members; spots = c.loop.invariant.spots; looks = c.loop.invariant.looks; posts = c.in-Ok.ensures.posted }
 
 pub loop-preserved : goal.loop-preserved
 loop-preserved g c =

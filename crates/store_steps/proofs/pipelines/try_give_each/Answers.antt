@@ -9,86 +9,86 @@ use Rattle.accounts.proofs.Export.{at_one}
 use Rattle.store_steps.specs.AtOnce.{StillWaits}
 use Rattle.store_steps.specs.Pipelines.{MayTurnWith, here_of, spot_of}
 use Rattle.store_steps.specs.Standing.{SessionKnown, StoreSeat}
-use Rattle.store_steps.specs.declared.pipelines.Part.{Part}
-use Rattle.store_steps.proofs.AskingEach.{are_parts}
+use Rattle.store_steps.specs.declared.pipelines.Member.{Member}
+use Rattle.store_steps.proofs.AskingEach.{are_members}
 use Rattle.store_steps.proofs.AtOnce.{asks_still}
 use Rattle.store_steps.proofs.GivenEach.{all_answered, answer_of, answers_as, ascends, begins_first, begins_later, given_of, has_taken, in_order_so, requested_still}
 use Rattle.store_steps.proofs.Handing.{spot_of_desk}
-use Rattle.store_steps.proofs.Posting.{known_as, map_set, part_at}
+use Rattle.store_steps.proofs.Posting.{known_as, map_set, member_at}
 use Rattle.store_steps.proofs.TakenDesk.{may_take_its_desk}
 use Rattle.store_steps.proofs.pipelines.try_give_each.Goals as goal
 
 pub try_take-requires-clause-may : goal.try_take-requires-clause-may
 try_take-requires-clause-may c =
-    let own = slice_index_or c.args.parts.now 0 c.index-parts-0.result in
-    let there = part_at c.args.parts.now 0 c.index-parts-0.result c.requires.count.0 c.index-parts-0.is in
+    let own = slice_index_or c.args.members.now 0 c.index-members-0.result in
+    let there = member_at c.args.members.now 0 c.index-members-0.result c.requires.count.0 c.index-members-0.is in
     let r = c.requires.may.ready own there in
     (r.0, (c.split-at.ensures.apart r.0 [] r.1).1, may_take_its_desk r.0 own.caller (1 + c.args.shared.nodes + own.caller.node) r.2.0 (spot_of_desk (here_of c.args.shared own) r.0 r.2.2))
 
 pub give_and_settle-held-requires-clause-has : goal.give_and_settle-held-requires-clause-has
 give_and_settle-held-requires-clause-has c =
-    let own = slice_index_or c.args.parts.now 0 c.index-parts-0.result in
-    let there = part_at c.args.parts.now 0 c.index-parts-0.result c.requires.count.0 c.index-parts-0.is in
+    let own = slice_index_or c.args.members.now 0 c.index-members-0.result in
+    let there = member_at c.args.members.now 0 c.index-members-0.result c.requires.count.0 c.index-members-0.is in
     let r = c.requires.may.ready own there in
     let t = c.in-Some.ensures.taken r.0 (c.split-at.ensures.apart r.0 [] r.1).1 in
     (r.0, t.0, has_taken c.args.shared own c.try_take.new.seat c.in-Some.held (1 + c.args.shared.nodes + own.caller.node) r.0 t.0 t.2 r.2.0 r.2.2 c.in-Some.ensures.place t.1, r.2.1, r.2.3)
 
-pub collect_each-requires-clause-parts : goal.collect_each-requires-clause-parts
-collect_each-requires-clause-parts c =
-    let own = slice_index_or c.args.parts.now 0 c.index-parts-0.result in
-    let there = part_at c.args.parts.now 0 c.index-parts-0.result c.requires.count.0 c.index-parts-0.is in
-    are_parts c.args.shared c.args.parts.now (set c.args.parts.now 0 (record own { seat = c.split-at.new.seat })) (map_set spot_of c.args.parts.now 0 own (record own { seat = c.split-at.new.seat }) there (λ i. (own.caller, c.split-at.ensures.same.0 i))) c.requires.parts
+pub collect_each-requires-clause-members : goal.collect_each-requires-clause-members
+collect_each-requires-clause-members c =
+    let own = slice_index_or c.args.members.now 0 c.index-members-0.result in
+    let there = member_at c.args.members.now 0 c.index-members-0.result c.requires.count.0 c.index-members-0.is in
+    are_members c.args.shared c.args.members.now (set c.args.members.now 0 (record own { seat = c.split-at.new.seat })) (map_set spot_of c.args.members.now 0 own (record own { seat = c.split-at.new.seat }) there (λ i. (own.caller, c.split-at.ensures.same.0 i))) c.requires.members
 
 pub collect_each-requires-clause-waits : goal.collect_each-requires-clause-waits
-collect_each-requires-clause-waits c j lt part at =
-    let own = slice_index_or c.args.parts.now 0 c.index-parts-0.result in
-    c.requires.may.waits j lt part (sym (set_else c.args.parts.now 0 j (record own { seat = c.split-at.new.seat }) (λ e. omega (arith, e, lt))) ∙ at)
+collect_each-requires-clause-waits c j lt member at =
+    let own = slice_index_or c.args.members.now 0 c.index-members-0.result in
+    c.requires.may.waits j lt member (sym (set_else c.args.members.now 0 j (record own { seat = c.split-at.new.seat }) (λ e. omega (arith, e, lt))) ∙ at)
 
 pub collect_each-requires-clause-has : goal.collect_each-requires-clause-has
-collect_each-requires-clause-has c part at =
-    let own = slice_index_or c.args.parts.now 0 c.index-parts-0.result in
-    let there = part_at c.args.parts.now 0 c.index-parts-0.result c.requires.count.0 c.index-parts-0.is in
+collect_each-requires-clause-has c member at =
+    let own = slice_index_or c.args.members.now 0 c.index-members-0.result in
+    let there = member_at c.args.members.now 0 c.index-members-0.result c.requires.count.0 c.index-members-0.is in
     let w = given_of c.args.shared own c.args.batch.now c.args.kept.now c.split-at.result c.try_take.new.seat c.in-Some.held c.give_and_settle-held.new.seat c.give_and_settle-held.result c.give_and_settle-held.new.batch (λ k is. (c.split-at.ensures.apart k [] is).1) (c.requires.may.ready own there) c.in-Some.ensures.taken c.in-Some.ensures.place c.give_and_settle-held.ensures.kept c.give_and_settle-held.ensures.replied c.give_and_settle-held.ensures.answered in
     let new = record own { seat = c.split-at.new.seat } in
-    subst (λ (z : Part). MayTurnWith (here_of c.args.shared z) c.give_and_settle-held.new.seat c.give_and_settle-held.result) (at_one (set c.args.parts.now 0 new) 0 new part (set_here c.args.parts.now 0 new c.requires.count.0) at)
+    subst (λ (z : Member). MayTurnWith (here_of c.args.shared z) c.give_and_settle-held.new.seat c.give_and_settle-held.result) (at_one (set c.args.members.now 0 new) 0 new member (set_here c.args.members.now 0 new c.requires.count.0) at)
     (c.give_and_settle-held.ensures.same.1, (w.combined, w.now, w.o, w.desk, asks_still w.k w.combined w.o w.waits w.has))
 
 pub collect_each-requires-clause-ascend : goal.collect_each-requires-clause-ascend
 collect_each-requires-clause-ascend c =
-    let own = slice_index_or c.args.parts.now 0 c.index-parts-0.result in
-    let there = part_at c.args.parts.now 0 c.index-parts-0.result c.requires.count.0 c.index-parts-0.is in
+    let own = slice_index_or c.args.members.now 0 c.index-members-0.result in
+    let there = member_at c.args.members.now 0 c.index-members-0.result c.requires.count.0 c.index-members-0.is in
     let w = given_of c.args.shared own c.args.batch.now c.args.kept.now c.split-at.result c.try_take.new.seat c.in-Some.held c.give_and_settle-held.new.seat c.give_and_settle-held.result c.give_and_settle-held.new.batch (λ k is. (c.split-at.ensures.apart k [] is).1) (c.requires.may.ready own there) c.in-Some.ensures.taken c.in-Some.ensures.place c.give_and_settle-held.ensures.kept c.give_and_settle-held.ensures.replied c.give_and_settle-held.ensures.answered in
-    ascends c.args.shared c.args.parts.now own there c.split-at.new.seat c.give_and_settle-held.new.seat c.give_and_settle-held.result w.k w.combined w.now w.known w.has w.desk c.give_and_settle-held.ensures.same.1 c.requires.may.ascend
+    ascends c.args.shared c.args.members.now own there c.split-at.new.seat c.give_and_settle-held.new.seat c.give_and_settle-held.result w.k w.combined w.now w.known w.has w.desk c.give_and_settle-held.ensures.same.1 c.requires.may.ascend
 
 pub collect_each-requires-clause-answered : goal.collect_each-requires-clause-answered
 collect_each-requires-clause-answered c =
-    let own = slice_index_or c.args.parts.now 0 c.index-parts-0.result in
-    let there = part_at c.args.parts.now 0 c.index-parts-0.result c.requires.count.0 c.index-parts-0.is in
+    let own = slice_index_or c.args.members.now 0 c.index-members-0.result in
+    let there = member_at c.args.members.now 0 c.index-members-0.result c.requires.count.0 c.index-members-0.is in
     let w = given_of c.args.shared own c.args.batch.now c.args.kept.now c.split-at.result c.try_take.new.seat c.in-Some.held c.give_and_settle-held.new.seat c.give_and_settle-held.result c.give_and_settle-held.new.batch (λ k is. (c.split-at.ensures.apart k [] is).1) (c.requires.may.ready own there) c.in-Some.ensures.taken c.in-Some.ensures.place c.give_and_settle-held.ensures.kept c.give_and_settle-held.ensures.replied c.give_and_settle-held.ensures.answered in
-    all_answered c.args.shared c.args.parts.now own there c.split-at.new.seat c.give_and_settle-held.new.seat c.give_and_settle-held.result w.k w.combined w.now w.known w.has w.desk c.give_and_settle-held.ensures.same.1 c.give_and_settle-held.new.batch (requested_still c.args.parts.now c.args.batch.now c.give_and_settle-held.new.batch c.args.kept.now c.give_and_settle-held.ensures.answered c.requires.may.requests) w.x0 (replied c.give_and_settle-held.new.batch w.x0) w.is2 refl w.of w.all
+    all_answered c.args.shared c.args.members.now own there c.split-at.new.seat c.give_and_settle-held.new.seat c.give_and_settle-held.result w.k w.combined w.now w.known w.has w.desk c.give_and_settle-held.ensures.same.1 c.give_and_settle-held.new.batch (requested_still c.args.members.now c.args.batch.now c.give_and_settle-held.new.batch c.args.kept.now c.give_and_settle-held.ensures.answered c.requires.may.requests) w.x0 (replied c.give_and_settle-held.new.batch w.x0) w.is2 refl w.of w.all
 
 pub returns-clause-gives : goal.returns-clause-gives
 returns-clause-gives c =
-    let own = slice_index_or c.args.parts.now 0 c.index-parts-0.result in
-    let there = part_at c.args.parts.now 0 c.index-parts-0.result c.requires.count.0 c.index-parts-0.is in
+    let own = slice_index_or c.args.members.now 0 c.index-members-0.result in
+    let there = member_at c.args.members.now 0 c.index-members-0.result c.requires.count.0 c.index-members-0.is in
     let w = given_of c.args.shared own c.args.batch.now c.args.kept.now c.split-at.result c.try_take.new.seat c.in-Some.held c.give_and_settle-held.new.seat c.give_and_settle-held.result c.give_and_settle-held.new.batch (λ k is. (c.split-at.ensures.apart k [] is).1) (c.requires.may.ready own there) c.in-Some.ensures.taken c.in-Some.ensures.place c.give_and_settle-held.ensures.kept c.give_and_settle-held.ensures.replied c.give_and_settle-held.ensures.answered in
     record {
-      first = λ part k o0 at known waits.
-          let is_own = at_one c.args.parts.now 0 own part there at in
-          let one = one_known own.seat w.k k w.known (known_as c.args.parts.now 0 k own there known) in
-          let e = c.collect_each.ensures.collected (replied c.give_and_settle-held.new.batch w.x0) 0 w.combined o0 w.is2 (begins_first c.args.shared c.args.parts.now own there c.split-at.new.seat c.give_and_settle-held.new.seat c.give_and_settle-held.result w.k w.combined w.now w.known w.has w.desk c.give_and_settle-held.ensures.same.1) (asks_still w.k w.combined o0 (subst (λ z. StillWaits z o0) (sym one) waits) w.has) in
-          (w.combined, e.0, e.1, subst (λ z. HasCombined z w.combined) one w.has, subst (λ (u : Part × SessionKnown). HandsOver u.0.caller.node u.1 w.combined c.args.batch.now c.args.kept.now) (λ i. (is_own i, one i)) w.gives, e.3);
-      others = λ j k o0 lt known asked. let e = c.collect_each.ensures.collected (replied c.give_and_settle-held.new.batch w.x0) j k o0 w.is2 (begins_later c.args.shared c.args.parts.now own there c.split-at.new.seat c.give_and_settle-held.new.seat c.give_and_settle-held.result w.k w.combined w.now w.known w.has w.desk c.give_and_settle-held.ensures.same.1 j k lt known) asked in (e.0, e.1, e.3);
-      in_order = in_order_so c.args.parts.now c.args.batch.now c.args.kept.now c.collect_each.new.replies c.requires.may.ascend w.ready.ascend
-          (answers_as c.args.parts.now c.args.batch.now c.give_and_settle-held.new.batch c.args.kept.now c.collect_each.new.replies c.give_and_settle-held.ensures.answered
-          (answer_of c.args.shared c.args.parts.now own there c.split-at.new.seat c.give_and_settle-held.new.seat c.give_and_settle-held.result w.k w.combined w.now w.known w.has w.desk c.give_and_settle-held.ensures.same.1 c.give_and_settle-held.new.batch (requested_still c.args.parts.now c.args.batch.now c.give_and_settle-held.new.batch c.args.kept.now c.give_and_settle-held.ensures.answered c.requires.may.requests) w.x0 (replied c.give_and_settle-held.new.batch w.x0) w.is2 refl w.of w.all c.requires.may.waits w.o (asks_still w.k w.combined w.o w.waits w.has) c.collect_each.new.parts c.collect_each.new.replies (c.collect_each.ensures.same.1 ∙ c.requires.count.1) c.collect_each.ensures.collected));
+      first = λ member k o0 at known waits.
+          let is_own = at_one c.args.members.now 0 own member there at in
+          let one = one_known own.seat w.k k w.known (known_as c.args.members.now 0 k own there known) in
+          let e = c.collect_each.ensures.collected (replied c.give_and_settle-held.new.batch w.x0) 0 w.combined o0 w.is2 (begins_first c.args.shared c.args.members.now own there c.split-at.new.seat c.give_and_settle-held.new.seat c.give_and_settle-held.result w.k w.combined w.now w.known w.has w.desk c.give_and_settle-held.ensures.same.1) (asks_still w.k w.combined o0 (subst (λ z. StillWaits z o0) (sym one) waits) w.has) in
+          (w.combined, e.0, e.1, subst (λ z. HasCombined z w.combined) one w.has, subst (λ (u : Member × SessionKnown). HandsOver u.0.caller.node u.1 w.combined c.args.batch.now c.args.kept.now) (λ i. (is_own i, one i)) w.gives, e.3);
+      others = λ j k o0 lt known asked. let e = c.collect_each.ensures.collected (replied c.give_and_settle-held.new.batch w.x0) j k o0 w.is2 (begins_later c.args.shared c.args.members.now own there c.split-at.new.seat c.give_and_settle-held.new.seat c.give_and_settle-held.result w.k w.combined w.now w.known w.has w.desk c.give_and_settle-held.ensures.same.1 j k lt known) asked in (e.0, e.1, e.3);
+      in_order = in_order_so c.args.members.now c.args.batch.now c.args.kept.now c.collect_each.new.replies c.requires.may.ascend w.ready.ascend
+          (answers_as c.args.members.now c.args.batch.now c.give_and_settle-held.new.batch c.args.kept.now c.collect_each.new.replies c.give_and_settle-held.ensures.answered
+          (answer_of c.args.shared c.args.members.now own there c.split-at.new.seat c.give_and_settle-held.new.seat c.give_and_settle-held.result w.k w.combined w.now w.known w.has w.desk c.give_and_settle-held.ensures.same.1 c.give_and_settle-held.new.batch (requested_still c.args.members.now c.args.batch.now c.give_and_settle-held.new.batch c.args.kept.now c.give_and_settle-held.ensures.answered c.requires.may.requests) w.x0 (replied c.give_and_settle-held.new.batch w.x0) w.is2 refl w.of w.all c.requires.may.waits w.o (asks_still w.k w.combined w.o w.waits w.has) c.collect_each.new.members c.collect_each.new.replies (c.collect_each.ensures.same.1 ∙ c.requires.count.1) c.collect_each.ensures.collected));
     }
 
 pub returns-in_default-clause-stays : goal.returns-in_default-clause-stays
 returns-in_default-clause-stays c =
-    let own = slice_index_or c.args.parts.now 0 c.index-parts-0.result in
-    let there = part_at c.args.parts.now 0 c.index-parts-0.result c.requires.count.0 c.index-parts-0.is in
+    let own = slice_index_or c.args.members.now 0 c.index-members-0.result in
+    let there = member_at c.args.members.now 0 c.index-members-0.result c.requires.count.0 c.index-members-0.is in
     let r = c.requires.may.ready own there in
     let same : c.try_take.new.seat ≡ c.split-at.result = search rules in
     let back : record own { seat = c.try_take.new.seat } ≡ own = ap (λ (z : StoreSeat). record own { seat = z }) (same ∙ λ i. record { shelf = c.split-at.ensures.same.1 i; sessions = ((c.split-at.ensures.apart r.0 [] r.1).1 ∙ sym r.1) i }) in
-    (ap (set c.args.parts.now 0) back ∙ set_again c.args.parts.now 0 own there, refl)
+    (ap (set c.args.members.now 0) back ∙ set_again c.args.members.now 0 own there, refl)

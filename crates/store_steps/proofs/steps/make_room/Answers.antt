@@ -17,38 +17,38 @@ is_base_due-requires-clause-above c = let i = c.requires.holds in let r = c.reba
 pub is_base_due-requires-clause-fits : goal.is_base_due-requires-clause-fits
 is_base_due-requires-clause-fits c = let i = c.requires.holds in let r = c.rebase_if_behind in kept_fits i.0 _ _ _ i.2 r.new.node r.ensures.behind r.ensures.above
 
-pub come_up-requires-clause-above : goal.come_up-requires-clause-above
-come_up-requires-clause-above c = let i = c.requires.holds in let r = c.rebase_if_behind in kept_above i.0 _ _ _ i.2 r.new.node r.ensures.behind r.ensures.above
+pub follow_for_room-requires-clause-above : goal.follow_for_room-requires-clause-above
+follow_for_room-requires-clause-above c = let i = c.requires.holds in let r = c.rebase_if_behind in kept_above i.0 _ _ _ i.2 r.new.node r.ensures.behind r.ensures.above
 
-pub come_up-requires-clause-fits : goal.come_up-requires-clause-fits
-come_up-requires-clause-fits c = let i = c.requires.holds in let r = c.rebase_if_behind in kept_fits i.0 _ _ _ i.2 r.new.node r.ensures.behind r.ensures.above
+pub follow_for_room-requires-clause-fits : goal.follow_for_room-requires-clause-fits
+follow_for_room-requires-clause-fits c = let i = c.requires.holds in let r = c.rebase_if_behind in kept_fits i.0 _ _ _ i.2 r.new.node r.ensures.behind r.ensures.above
 
-pub come_up-requires-clause-sizes : goal.come_up-requires-clause-sizes
-come_up-requires-clause-sizes c = let i = c.requires.holds in let r = c.rebase_if_behind in kept_sizes i.0 _ _ _ i.2 r.new.node r.ensures.behind r.ensures.above
+pub follow_for_room-requires-clause-sizes : goal.follow_for_room-requires-clause-sizes
+follow_for_room-requires-clause-sizes c = let i = c.requires.holds in let r = c.rebase_if_behind in kept_sizes i.0 _ _ _ i.2 r.new.node r.ensures.behind r.ensures.above
 
-pub come_up-requires-clause-updates : goal.come_up-requires-clause-updates
-come_up-requires-clause-updates c = let i = c.requires.holds in let r = c.rebase_if_behind in kept_updates i.0 _ _ _ i.2 r.new.node r.ensures.behind r.ensures.above
+pub follow_for_room-requires-clause-updates : goal.follow_for_room-requires-clause-updates
+follow_for_room-requires-clause-updates c = let i = c.requires.holds in let r = c.rebase_if_behind in kept_updates i.0 _ _ _ i.2 r.new.node r.ensures.behind r.ensures.above
 
 pub raise_to-requires-clause-known : goal.raise_to-requires-clause-known
 raise_to-requires-clause-known c =
-    let i = c.requires.holds in let r = c.rebase_if_behind in let d = c.is_base_due.ensures in let m = c.come_up in
+    let i = c.requires.holds in let r = c.rebase_if_behind in let d = c.is_base_due.ensures in let m = c.follow_for_room in
     let low = risen_within i.0 _ _ _ i.2 r.new.node r.ensures.behind r.ensures.above c.args.want c.requires.few d.window.0 (d.due c.if-is_base_due.true) m.new.node m.result m.ensures.stays m.ensures.follows m.ensures.sizes in
     let here = c.tail.ensures.tail in
     (i.0, i.1, omega (arith, low, here))
 
 pub bring_base-requires-clause-above : goal.bring_base-requires-clause-above
 bring_base-requires-clause-above c =
-    let i = c.requires.holds in let r = c.rebase_if_behind in let d = c.is_base_due.ensures in let m = c.come_up in
+    let i = c.requires.holds in let r = c.rebase_if_behind in let d = c.is_base_due.ensures in let m = c.follow_for_room in
     risen_above i.0 _ _ _ i.2 r.new.node r.ensures.behind r.ensures.above c.args.want c.requires.few d.window.0 (d.due c.if-is_base_due.true) m.new.node m.result m.ensures.stays m.ensures.follows m.ensures.sizes
 
 pub bring_base-requires-clause-fits : goal.bring_base-requires-clause-fits
 bring_base-requires-clause-fits c =
-    let i = c.requires.holds in let r = c.rebase_if_behind in let d = c.is_base_due.ensures in let m = c.come_up in
+    let i = c.requires.holds in let r = c.rebase_if_behind in let d = c.is_base_due.ensures in let m = c.follow_for_room in
     risen_fits i.0 _ _ _ i.2 r.new.node r.ensures.behind r.ensures.above c.args.want c.requires.few d.window.0 (d.due c.if-is_base_due.true) m.new.node m.result m.ensures.stays m.ensures.follows m.ensures.sizes
 
 pub bring_base-requires-clause-sizes : goal.bring_base-requires-clause-sizes
 bring_base-requires-clause-sizes c =
-    let i = c.requires.holds in let r = c.rebase_if_behind in let d = c.is_base_due.ensures in let m = c.come_up in
+    let i = c.requires.holds in let r = c.rebase_if_behind in let d = c.is_base_due.ensures in let m = c.follow_for_room in
     risen_sizes i.0 _ _ _ i.2 r.new.node r.ensures.behind r.ensures.above c.args.want c.requires.few d.window.0 (d.due c.if-is_base_due.true) m.new.node m.result m.ensures.stays m.ensures.follows m.ensures.sizes
 
 pub copy-requires-clause-above : goal.copy-requires-clause-above
@@ -59,14 +59,14 @@ copy-requires-clause-fits c = let i = c.requires.holds in let r = c.rebase_if_be
 
 pub returns-then-is_base_due-clause-owes : goal.returns-then-is_base_due-clause-owes
 returns-then-is_base_due-clause-owes c =
-    let i = c.requires.holds in let r = c.rebase_if_behind in let d = c.is_base_due.ensures in let m = c.come_up in
+    let i = c.requires.holds in let r = c.rebase_if_behind in let d = c.is_base_due.ensures in let m = c.follow_for_room in
     let rose = c.raise_to.ensures.raised i.0 i.1 in let here = c.tail.ensures.tail in let b = c.bring_base in
     base_owes i.0 _ _ _ i.2 r.new.node r.ensures.behind r.ensures.above c.args.want c.requires.few d.window.0 (d.due c.if-is_base_due.true) m.new.node m.result m.ensures.stays m.ensures.follows m.ensures.sizes
     rose.0 _ rose.2 (omega (arith, here)) b.new.log b.new.node b.result b.ensures.log b.ensures.within b.ensures.copied b.ensures.exchanged
 
 pub returns-then-is_base_due-clause-room : goal.returns-then-is_base_due-clause-room
 returns-then-is_base_due-clause-room c k is =
-    let i = c.requires.holds in let r = c.rebase_if_behind in let d = c.is_base_due.ensures in let m = c.come_up in
+    let i = c.requires.holds in let r = c.rebase_if_behind in let d = c.is_base_due.ensures in let m = c.follow_for_room in
     let rose = c.raise_to.ensures.raised i.0 i.1 in let here = c.tail.ensures.tail in let b = c.bring_base in
     let room = base_room i.0 _ _ _ i.2 r.new.node r.ensures.behind r.ensures.above c.args.want c.requires.few d.window.0 (d.due c.if-is_base_due.true) m.new.node m.result m.ensures.stays m.ensures.follows m.ensures.sizes
     rose.0 _ rose.2 (omega (arith, here)) b.new.log b.new.node b.result b.ensures.log b.ensures.within b.ensures.copied b.ensures.exchanged in
@@ -85,7 +85,7 @@ returns-else-is_base_due-clause-room c k is =
 
 pub returns-then-is_base_due-clause-goes : goal.returns-then-is_base_due-clause-goes
 returns-then-is_base_due-clause-goes c k after is now =
-    let i = c.requires.holds in let r = c.rebase_if_behind in let d = c.is_base_due.ensures in let m = c.come_up in
+    let i = c.requires.holds in let r = c.rebase_if_behind in let d = c.is_base_due.ensures in let m = c.follow_for_room in
     let rose = c.raise_to.ensures.raised i.0 i.1 in let here = c.tail.ensures.tail in let b = c.bring_base in
     let goes = base_goes i.0 _ _ _ i.2 r.new.node r.ensures.behind r.ensures.above c.args.want c.requires.few d.window.0 (d.due c.if-is_base_due.true) m.new.node m.result m.ensures.stays m.ensures.follows m.ensures.sizes
     rose.0 _ rose.2 (omega (arith, here)) b.new.log b.new.node b.result b.ensures.log b.ensures.within b.ensures.copied b.ensures.exchanged (d.reason c.if-is_base_due.true) in

@@ -51,14 +51,14 @@ put-requires-clause-may c =
           (a.log, refl, a.replies, a.within) _ c.in-Some.ensures.place,
     )
 
-pub come_back-requires-clause-next : goal.come_back-requires-clause-next
-come_back-requires-clause-next c = c.make_room-owed.ensures.owes.next
+pub replay_owed-requires-clause-next : goal.replay_owed-requires-clause-next
+replay_owed-requires-clause-next c = c.make_room-owed.ensures.owes.next
 
-pub come_back-requires-clause-owed : goal.come_back-requires-clause-owed
-come_back-requires-clause-owed c = c.make_room-owed.ensures.owes.within
+pub replay_owed-requires-clause-owed : goal.replay_owed-requires-clause-owed
+replay_owed-requires-clause-owed c = c.make_room-owed.ensures.owes.within
 
-pub come_back-requires-clause-room : goal.come_back-requires-clause-room
-come_back-requires-clause-room c =
+pub replay_owed-requires-clause-room : goal.replay_owed-requires-clause-room
+replay_owed-requires-clause-room c =
     let o = c.make_room-owed in let h = o.new.log in let v = caught_up c.args.shared.catalogue.now o.result o.new.node in let a = c.append_only.ensures in
     let count : length c.append_only.new.replies.outcomes ≡ room_for c.args.records.now h = ap (λ z. length z.outcomes) a.replies ∙ length-replicate (room_for c.args.records.now h) _ in
     has_room c.args.shared.catalogue.now h c.append_only.new.log o.new.node o.new.node o.result c.args.records.now _ o.ensures.owes a.log (ap (λ z. take z c.args.records.now) (c.len.ensures.count ∙ count)) a.kept
@@ -71,10 +71,10 @@ returns-clause-appended c k is =
     let o = c.make_room-owed in let h = o.new.log in let v = caught_up c.args.shared.catalogue.now o.result o.new.node in let a = c.append_only.ensures in
     let count : length c.append_only.new.replies.outcomes ≡ room_for c.args.records.now h = ap (λ z. length z.outcomes) a.replies ∙ length-replicate (room_for c.args.records.now h) _ in
     let m = o.ensures.room t.0 t.2 in let p = c.put.ensures.put m.0 m.1 in
-    let back = as_copied c.args.shared.catalogue.now h c.append_only.new.log o.new.node c.come_back.new.node o.result c.args.records.now _ o.ensures.owes a.log (ap (λ z. take z c.args.records.now) (c.len.ensures.count ∙ count)) c.come_back.ensures.node in (
+    let back = as_copied c.args.shared.catalogue.now h c.append_only.new.log o.new.node c.replay_owed.new.node o.result c.args.records.now _ o.ensures.owes a.log (ap (λ z. take z c.args.records.now) (c.len.ensures.count ∙ count)) c.replay_owed.ensures.node in (
       _,
       p.2,
-      back_appended k t.0 m.0 n c.log_mut-log.result.now h v c.come_back.new.node c.args.records.now c.append_only.new.replies has.1 o.new.seat.sessions m.1 x c.log_mut-log.ensures.log b m.2 c.append_only.new.log
+      back_appended k t.0 m.0 n c.log_mut-log.result.now h v c.replay_owed.new.node c.args.records.now c.append_only.new.replies has.1 o.new.seat.sessions m.1 x c.log_mut-log.ensures.log b m.2 c.append_only.new.log
           (a.log, back, a.replies, a.within) _ c.in-Some.ensures.place p.0 p.1.0 p.1.1 _ (adds_on m.0 _ _ _ _ p.3),
     )
 
@@ -86,13 +86,13 @@ returns-clause-goes c k after is now batch same =
     let o = c.make_room-owed in let h = o.new.log in let v = caught_up c.args.shared.catalogue.now o.result o.new.node in let a = c.append_only.ensures in
     let count : length c.append_only.new.replies.outcomes ≡ room_for c.args.records.now h = ap (λ z. length z.outcomes) a.replies ∙ length-replicate (room_for c.args.records.now h) _ in
     let m = o.ensures.room t.0 t.2 in let p = c.put.ensures.put m.0 m.1 in
-    let there = as_copied c.args.shared.catalogue.now h c.append_only.new.log o.new.node c.come_back.new.node o.result c.args.records.now _ o.ensures.owes a.log (ap (λ z. take z c.args.records.now) (c.len.ensures.count ∙ count)) c.come_back.ensures.node in
-    let done = back_appended k t.0 m.0 n f h v c.come_back.new.node c.args.records.now c.append_only.new.replies has.1 o.new.seat.sessions m.1 x c.log_mut-log.ensures.log b m.2 c.append_only.new.log
+    let there = as_copied c.args.shared.catalogue.now h c.append_only.new.log o.new.node c.replay_owed.new.node o.result c.args.records.now _ o.ensures.owes a.log (ap (λ z. take z c.args.records.now) (c.len.ensures.count ∙ count)) c.replay_owed.ensures.node in
+    let done = back_appended k t.0 m.0 n f h v c.replay_owed.new.node c.args.records.now c.append_only.new.replies has.1 o.new.seat.sessions m.1 x c.log_mut-log.ensures.log b m.2 c.append_only.new.log
     (a.log, there, a.replies, a.within) _ c.in-Some.ensures.place p.0 p.1.0 p.1.1 _ (adds_on m.0 _ _ _ _ p.3) in
-    let back = back_log k t.0 m.0 n f h v c.come_back.new.node c.args.records.now c.append_only.new.replies has.1 o.new.seat.sessions m.1 x c.log_mut-log.ensures.log b m.2 c.append_only.new.log
+    let back = back_log k t.0 m.0 n f h v c.replay_owed.new.node c.args.records.now c.append_only.new.replies has.1 o.new.seat.sessions m.1 x c.log_mut-log.ensures.log b m.2 c.append_only.new.log
     (a.log, there, a.replies, a.within) _ c.in-Some.ensures.place p.0 p.1.0 p.1.1 _ (adds_on m.0 _ _ _ _ p.3) in
     let room = o.ensures.goes t.0 m.0 t.2 m.1 in
-    subst (λ z. AppendsBy k z batch n c.come_back.new.node c.append_only.new.replies) (one_known c.put.new.seat _ after p.2 now)
-    (appends_by k t.0 m.0 _ f h c.append_only.new.log n v c.come_back.new.node c.args.records.now c.append_only.new.replies b.extends (b.log f c.log_mut-log.ensures.log) room
+    subst (λ z. AppendsBy k z batch n c.replay_owed.new.node c.append_only.new.replies) (one_known c.put.new.seat _ after p.2 now)
+    (appends_by k t.0 m.0 _ f h c.append_only.new.log n v c.replay_owed.new.node c.args.records.now c.append_only.new.replies b.extends (b.log f c.log_mut-log.ensures.log) room
     (may t.0 m.0 f h v c.args.records.now m.2) a.log there a.replies back.0 back.1.completed done.stands
     x c.log_mut-log.ensures.log b.steps _ c.in-Some.ensures.place (refl, adds_on m.0 _ _ _ _ p.3) batch same)

@@ -25,8 +25,8 @@ replica_mut-node-requires c =
     let b = took_replica _ t.0 c.args.here.caller w (free_on c.args.here.caller i.0 (having_read i.0 d.0 c.done-done.result (run_of c.done-done.new.seat.sessions)) refl i.2.0.held d.1.1.0.0 i.2.0) t.1 in
     record { replica = b.holds.replica }
 
-pub try_reach-requires-clause-holds : goal.try_reach-requires-clause-holds
-try_reach-requires-clause-holds c =
+pub try_follow_if_behind-requires-clause-holds : goal.try_follow_if_behind-requires-clause-holds
+try_follow_if_behind-requires-clause-holds c =
     let i = c.requires.idle in
     let w = c.in-Some.held.value in
     let d = c.done-done.ensures.read i.0 i.1 in
@@ -45,7 +45,7 @@ returns-clause-ready c k is =
     let told = having_read k d.0 c.done-done.result (run_of c.done-done.new.seat.sessions) in
     let t = c.in-Some.ensures.taken told d.3 in
     let b = took_replica told t.0 c.args.here.caller w (free_on c.args.here.caller k told refl free.held d.1.1.0.0 free) t.1 in
-    let r = c.in-Some-try_reach.ensures.reached t.0 t.2 in (
+    let r = c.in-Some-try_follow_if_behind.ensures.reached t.0 t.2 in (
       r.0,
       r.1,
       record {
@@ -59,9 +59,9 @@ returns-clause-ready c k is =
         value = w;
         own = c.replica_mut-node.result.now;
         own_is = b.agrees c.replica_mut-node.result.now c.replica_mut-node.ensures.replica;
-        node = c.try_reach.new.node;
+        node = c.try_follow_if_behind.new.node;
         on = r.2.goes.extends;
-        follows = c.in-Some-try_reach.ensures.goes t.0 r.0 t.2 r.1;
+        follows = c.in-Some-try_follow_if_behind.ensures.goes t.0 r.0 t.2 r.1;
         agrees = r.2.agrees;
         within = r.2.within;
         reached = r.2.reached;
@@ -93,30 +93,30 @@ pub put-requires-clause-may : goal.put-requires-clause-may
 put-requires-clause-may c =
     let i = c.requires.idle in
     let w = c.in-Some.held.value in
-    let n = c.try_reach.new.node in
+    let n = c.try_follow_if_behind.new.node in
     let d = c.done-done.ensures.read i.0 i.1 in
     let t = c.in-Some.ensures.taken _ d.3 in
     let b = took_replica _ t.0 c.args.here.caller w (free_on c.args.here.caller i.0 (having_read i.0 d.0 c.done-done.result (run_of c.done-done.new.seat.sessions)) refl i.2.0.held d.1.1.0.0 i.2.0) t.1 in
-    let e = c.in_default-try_reach.ensures.stays in
+    let e = c.in_default-try_follow_if_behind.ensures.stays in
     let is = ap (λ z. z.sessions) e.0 ∙ t.2 in
     let held = b.held ∙ ap (λ z. (z, w) ∷ []) (sym c.in-Some.ensures.place) in
     let agrees = subst (Agrees t.0.progress) (sym e.1) (b.agrees c.replica_mut-node.result.now c.replica_mut-node.ensures.replica) in
-    (t.0, is, may_put_replica t.0 w b.holds c.try_reach.new.seat.sessions is n agrees (low_enough t.0 n agrees b.stands) _ held)
+    (t.0, is, may_put_replica t.0 w b.holds c.try_follow_if_behind.new.seat.sessions is n agrees (low_enough t.0 n agrees b.stands) _ held)
 
-pub returns-in_default-try_reach-clause-stays : goal.returns-in_default-try_reach-clause-stays
-returns-in_default-try_reach-clause-stays c k is0 =
+pub returns-in_default-try_follow_if_behind-clause-stays : goal.returns-in_default-try_follow_if_behind-clause-stays
+returns-in_default-try_follow_if_behind-clause-stays c k is0 =
     let i = c.requires.idle in
     let w = c.in-Some.held.value in
-    let n = c.try_reach.new.node in
+    let n = c.try_follow_if_behind.new.node in
     let free = subst (λ z. IsFree c.args.here.caller z) (one_known c.args.seat.now i.0 k i.1 is0) i.2.0 in
     let d = c.done-done.ensures.read k is0 in
     let told = having_read k d.0 c.done-done.result (run_of c.done-done.new.seat.sessions) in
     let t = c.in-Some.ensures.taken told d.3 in
     let b = took_replica told t.0 c.args.here.caller w (free_on c.args.here.caller k told refl free.held d.1.1.0.0 free) t.1 in
-    let e = c.in_default-try_reach.ensures.stays in
+    let e = c.in_default-try_follow_if_behind.ensures.stays in
     let is = ap (λ z. z.sessions) e.0 ∙ t.2 in
     let held = b.held ∙ ap (λ z. (z, w) ∷ []) (sym c.in-Some.ensures.place) in
     let agrees = subst (Agrees t.0.progress) (sym e.1) (b.agrees c.replica_mut-node.result.now c.replica_mut-node.ensures.replica) in
     let p = c.put.ensures.put t.0 is in
-    let f = back t.0 w b.holds c.try_reach.new.seat.sessions is n agrees (low_enough t.0 n agrees b.stands) c.in-Some.held.place held p.0 p.1.0 p.1.1 _ (adds_on t.0 _ _ _ _ p.3) in
+    let f = back t.0 w b.holds c.try_follow_if_behind.new.seat.sessions is n agrees (low_enough t.0 n agrees b.stands) c.in-Some.held.place held p.0 p.1.0 p.1.1 _ (adds_on t.0 _ _ _ _ p.3) in
     (_, p.2, still_then k told _ (still_told k d.0 c.done-done.result d.1.0 _ free.held d.1.1 d.2 (adds_on k _ _ _ _ d.4)) (still_back (1 + c.args.here.caller.node) c.in-Some.held.place told t.0 _ w n b f (c.replica_mut-node.ensures.replica ∙ ap Some (sym e.1)) c.in-Some.ensures.place (refl, adds_on t.0 _ _ _ _ p.3)))

@@ -6,10 +6,10 @@ use Rattle.store_steps.specs.Standing.{Agrees, Stands}
 use Rattle.store_steps.specs.Whole.{FollowsBy}
 use Rattle.store_steps.proofs.Finished.{is_there, far_enough}
 use Rattle.store_steps.proofs.Stretches.{follows_none}
-use Rattle.store_steps.proofs.steps.try_reach.Goals as goal
+use Rattle.store_steps.proofs.steps.try_follow_if_behind.Goals as goal
 
-pub try_follow_and_raise-requires-clause-holds : goal.try_follow_and_raise-requires-clause-holds
-try_follow_and_raise-requires-clause-holds c = let i = c.requires.holds in (i.0, i.1, i.2.0)
+pub try_follow_log-requires-clause-holds : goal.try_follow_log-requires-clause-holds
+try_follow_log-requires-clause-holds c = let i = c.requires.holds in (i.0, i.1, i.2.0)
 
 pub returns-then-ready-clause-reached : goal.returns-then-ready-clause-reached
 returns-then-ready-clause-reached c k is =
@@ -23,7 +23,7 @@ returns-clause-reached c k is =
     let i = c.requires.holds in
     let e = one_known c.args.seat.now i.0 k i.1 is in
     let r = c.in-Some.ensures.reached k is in
-    (r.0, r.1, far_enough k r.0 c.try_follow_and_raise.new.node c.args.done k.progress.completed (subst (λ z. c.args.done ≤ z.progress.completed) e i.2.1) r.2)
+    (r.0, r.1, far_enough k r.0 c.try_follow_log.new.node c.args.done k.progress.completed (subst (λ z. c.args.done ≤ z.progress.completed) e i.2.1) r.2)
 
 pub returns-then-ready-clause-goes : goal.returns-then-ready-clause-goes
 returns-then-ready-clause-goes c k after is now =
@@ -38,4 +38,4 @@ pub returns-clause-goes : goal.returns-clause-goes
 returns-clause-goes c k after is now =
     let far = c.ready.ensures.reached in let not_ready = c.if-ready.false in
     let low : c.args.node.now.replica.tail < c.args.done = grind (arith, far.1, not_ready) in
-    subst (λ lacks. FollowsBy lacks k after c.args.node.now c.try_follow_and_raise.new.node) (sym (lt-ltb c.args.node.now.replica.tail c.args.done low)) (c.in-Some.ensures.goes k after is now)
+    subst (λ lacks. FollowsBy lacks k after c.args.node.now c.try_follow_log.new.node) (sym (lt-ltb c.args.node.now.replica.tail c.args.done low)) (c.in-Some.ensures.goes k after is now)

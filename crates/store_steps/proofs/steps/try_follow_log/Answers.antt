@@ -11,7 +11,7 @@ use Rattle.store_steps.proofs.Followed.{above, fits, kept_up, updates}
 use Rattle.store_steps.proofs.Played.{followed_all, raised_as}
 use Rattle.store_steps.proofs.Finished.{log_catalogue, same_put, same_back, long_enough, followed}
 use Rattle.store_steps.proofs.Stretches.{follows_by}
-use Rattle.store_steps.proofs.steps.try_follow_and_raise.Goals as goal
+use Rattle.store_steps.proofs.steps.try_follow_log.Goals as goal
 
 pub try_take-requires-clause-may : goal.try_take-requires-clause-may
 try_take-requires-clause-may c =

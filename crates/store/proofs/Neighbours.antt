@@ -1,0 +1,225 @@
+-- The sessions of a pipeline: whether they are neighbours, how they come into it, and how they leave it.
+use Rattle.std.proofs.Common.{◌≡◌, ℕ, zero, suc, ◌+◌, ◌*◌, ◌-◌, ◌/◌, ◌%◌, ◌<◌, ◌≤◌, List, [], ◌∷◌, ◌++◌, append-nil, append_assoc, length, length-append, sym, refl, ap, ◌∙◌, subst, arith, ◌⊎◌, inl, inr, ⊎_elim}
+use Rattle.std.proofs.lemmas.Bool.{cases_lt}
+use Rattle.std.proofs.lemmas.List.{length-map}
+use Rattle.std.specs.Prelude.{slice_index_or}
+use Rattle.std.specs.List.{remove}
+use Rattle.std.proofs.lemmas.Nat.{div-mul-add, mod-mul-add}
+use lib.ListN.{get_elem?}
+use mathlib.Core.Option as kernel
+use mathlib.Core.Option.{some-injective}
+use Rattle.ownlock.specs.Seats.{At}
+use Rattle.loader.specs.Installed.{InstalledView}
+use Rattle.oplog.specs.declared.configuration.Sizes.{Sizes}
+use Rattle.oplog.specs.Sessions.{session}
+use Rattle.accounts.proofs.Export.{at_below, at_joined, at_map, at_none}
+use Rattle.store_steps.specs.declared.pipelines.Member.{Member}
+use Rattle.store_steps.specs.declared.steps.Caller.{Caller}
+use Rattle.store_steps.specs.EachMember.{AscendEach}
+use Rattle.store_steps.specs.Standing.{SessionKnown, StoreSeat}
+use Rattle.store_steps.specs.Views.{IsIdle, SessionView, session_view}
+use Rattle.store_steps.proofs.Export.{seen_as}
+use Rattle.store.specs.Opening.{AreOf}
+use Rattle.store.specs.Pipelines.{AreJoined, AreNeighbours, views_of}
+use Rattle.store.specs.Sessions.{HasRoom, IsOf, StoreView, known_of}
+
+abbrev K : Type 0
+K = SessionKnown
+
+-- ---- slots by their numbers
+
+-- a number has one node and one slot
+pub caller_is : (slots m n s t : ℕ) → s < slots → t < slots → m * slots + s ≡ n * slots + t → (m ≡ n) × (s ≡ t)
+caller_is slots m n s t hs ht e =
+    (sym (div-mul-add m slots s hs) ∙ (ap (λ z. z / slots) e ∙ div-mul-add n slots t ht), sym (mod-mul-add m slots s hs) ∙ (ap (λ z. z % slots) e ∙ mod-mul-add n slots t ht))
+
+-- the first n sessions are neighbours of the first
+pub record Checked (config : Sizes) (sessions : List SessionView) (first : Caller) (n : ℕ) : Type 0 where
+  pub numbers : (j : ℕ) (s : SessionView) → j < n → At j s sessions → s.session ≡ session config first.node (first.slot + j)
+  pub within : (j : ℕ) → j < n → first.slot + j < config.slots
+
+-- a session has this slot
+pub record HasSlot (config : Sizes) (s : SessionView) (caller : Caller) : Type 0 where
+  pub own : s.session ≡ session config caller.node caller.slot
+  pub within : caller.slot < config.slots
+
+module _ (config : Sizes) (sessions : List SessionView) (first : Caller) where
+  pub none_checked : Checked config sessions first 0
+  none_checked = record { numbers = λ j s lt at. absurd (omega (arith, lt)); within = λ j lt. absurd (omega (arith, lt)) }
+
+  pub one_checked : (n : ℕ) (s : SessionView) (caller : Caller) → Checked config sessions first n → At n s sessions → HasSlot config s caller → caller.node ≡ first.node → caller.slot ≡ first.slot + n → Checked config sessions first (n + 1)
+  one_checked n s caller c at has node slot = record { numbers = numbers; within = within }
+    where
+      last : s.session ≡ session config first.node (first.slot + n)
+      last = has.own ∙ (λ i. session config (node i) (slot i))
+
+      numbers : (j : ℕ) (t : SessionView) → j < n + 1 → At j t sessions → t.session ≡ session config first.node (first.slot + j)
+      numbers j t lt there = ⊎_elim (λ below. c.numbers j t below there) (λ above. here (omega (arith, above, lt))) (cases_lt j n)
+        where
+          here : j ≡ n → t.session ≡ session config first.node (first.slot + j)
+          here same = ap (λ (z : SessionView). z.session) (some-injective t s (sym there ∙ (ap (λ z. get_elem? sessions z) same ∙ at))) ∙ (last ∙ ap (λ z. session config first.node (first.slot + z)) (sym same))
+
+      within : (j : ℕ) → j < n + 1 → first.slot + j < config.slots
+      within j lt = ⊎_elim (λ below. c.within j below) (λ above. let fits = has.within in omega (arith, fits, slot, above, lt)) (cases_lt j n)
+
+  pub all_checked : (n : ℕ) → Checked config sessions first n → n ≡ length sessions → 0 < length sessions → AreNeighbours config sessions
+  all_checked n c all some = record {
+    node = first.node;
+    slot = first.slot;
+    some = some;
+    within = let last = c.within (length sessions - 1) (omega (arith, some, all)) in omega (arith, last, some);
+    numbers = λ j s at. c.numbers j s (let below = at_below sessions j s at in omega (arith, below, all)) at;
+  }
+
+  -- one of another node, or of another slot than the next one
+  pub are_no_neighbours : (n : ℕ) (s t : SessionView) (caller : Caller) → At 0 s sessions → HasSlot config s first → At n t sessions → HasSlot config t caller → (caller.node ≡ first.node → caller.slot ≡ first.slot + n → ⊥) → AreNeighbours config sessions → ⊥
+  are_no_neighbours n s t caller at_s has_s at_t has_t differs are =
+      let low = are.within in
+      let short = at_below sessions n t at_t in
+      let one = caller_is config.slots first.node are.node first.slot (are.slot + 0) has_s.within (omega (arith, low, short)) (sym has_s.own ∙ are.numbers 0 s at_s) in
+      let two = caller_is config.slots caller.node are.node caller.slot (are.slot + n) has_t.within (omega (arith, low, short)) (sym has_t.own ∙ are.numbers n t at_t) in
+      differs (two.0 ∙ sym one.0) (let e = one.1 in let f = two.1 in omega (arith, e, f))
+
+-- ---- lists
+
+module _ {A : Type 0} where
+  -- an element that is read stands there
+  pub at_read : (xs : List A) (n : ℕ) (x : A) → n < length xs → x ≡ slice_index_or xs n x → At n x xs
+  at_read [] n x lt is = absurd (omega (arith, lt))
+  at_read (y ∷ xs) zero x lt is = ap kernel.some (sym is)
+  at_read (y ∷ xs) (suc n) x lt is = at_read xs n x (omega (arith, lt)) is
+
+  -- the first that is taken out
+  pub first_out : (xs rest : List A) (x : A) → 0 < length xs → x ≡ slice_index_or xs 0 x → rest ≡ remove xs 0 → xs ≡ x ∷ rest
+  first_out [] rest x some is left = absurd (omega (arith, some))
+  first_out (y ∷ xs) rest x some is left = λ i. sym is i ∷ sym left i
+
+  pub none_left : (xs : List A) → length xs ≡ 0 → xs ≡ []
+  none_left [] e = refl
+  none_left (x ∷ xs) e = absurd (omega (arith, e))
+
+  -- an element of a list with one more is of the list, or the last
+  pub at_last : (xs : List A) (x : A) (j : ℕ) (a : A) → At j a (xs ++ x ∷ []) → At j a xs ⊎ ((j ≡ length xs) × (a ≡ x))
+  at_last xs x j a at = ⊎_elim (λ h. inl h) (λ t. inr (only t.0 t.1 t.2)) (at_joined xs (x ∷ []) j a at)
+    where
+      only : (i : ℕ) → j ≡ length xs + i → At i a (x ∷ []) → (j ≡ length xs) × (a ≡ x)
+      only zero e here = (omega (arith, e), sym (some-injective x a here))
+      only (suc i) e here = absurd (at_none i a here)
+
+more_views : (ms : List Member) (m : Member) → views_of (ms ++ m ∷ []) ≡ views_of ms ++ session_view m.seat ∷ []
+more_views [] m = refl
+more_views (n ∷ ms) m = ap (λ z. session_view n.seat ∷ z) (more_views ms m)
+
+-- a seat of one session is seen as that session
+pub seat_seen : (seat : StoreSeat) (s : SessionView) → seat.shelf ≡ s.shelf → seat.sessions ≡ known_of s ∷ [] → session_view seat ≡ s
+seat_seen seat s shelf known = λ i. session_view (record { shelf = shelf i; sessions = known i })
+
+-- ---- into the pipeline
+
+-- each of these members is idle, and has its room
+pub record AreIdleMembers (ms : List Member) (rooms : List InstalledView) : Type 0 where
+  pub idle : (j : ℕ) (m : Member) → At j m ms → IsIdle m.seat m.caller
+  pub count : length rooms ≡ length ms
+  pub rooms_are : (j : ℕ) (m : Member) (r : InstalledView) → At j m ms → At j r rooms → HasRoom r m.seat
+
+pub no_members : AreIdleMembers [] []
+no_members = record { idle = λ j m at. absurd (at_none j m at); count = refl; rooms_are = λ j m r at there. absurd (at_none j m at) }
+
+pub more_members : (ms : List Member) (rooms : List InstalledView) (m : Member) (room : InstalledView) → AreIdleMembers ms rooms → IsIdle m.seat m.caller → HasRoom room m.seat → AreIdleMembers (ms ++ m ∷ []) (rooms ++ room ∷ [])
+more_members ms rooms m room a idle has = record {
+  idle = λ j n at. ⊎_elim (λ h. a.idle j n h) (λ e. subst (λ (z : Member). IsIdle z.seat z.caller) (sym e.1) idle) (at_last ms m j n at);
+  count = let long = length-append ms (m ∷ []) in let wide = length-append rooms (room ∷ []) in let same = a.count in omega (arith, long, wide, same);
+  rooms_are = rooms_are;
+}
+  where
+    rooms_are : (j : ℕ) (n : Member) (r : InstalledView) → At j n (ms ++ m ∷ []) → At j r (rooms ++ room ∷ []) → HasRoom r n.seat
+    rooms_are j n r at there = ⊎_elim (λ h. ⊎_elim (λ g. a.rooms_are j n r h g) (λ f. let below = at_below ms j n h in let same = a.count in let e = f.0 in absurd (omega (arith, below, same, e))) (at_last rooms room j r there))
+        (λ e. ⊎_elim (λ g. let below = at_below rooms j r g in let same = a.count in let f = e.0 in absurd (omega (arith, below, same, f))) (λ f. subst (λ (z : InstalledView × Member). HasRoom z.0 z.1.seat) (λ i. (sym f.1 i, sym e.1 i)) has) (at_last rooms room j r there)) (at_last ms m j n at)
+
+-- some sessions have come into the pipeline, and the others are left
+pub record Joining (all : List SessionView) (ms : List Member) (rooms : List InstalledView) (rest : List SessionView) : Type 0 where
+  pub split : views_of ms ++ rest ≡ all
+  pub members : AreIdleMembers ms rooms
+
+pub joining_first : (all : List SessionView) (ms : List Member) (rooms : List InstalledView) → ms ≡ [] → rooms ≡ [] → Joining all ms rooms all
+joining_first all ms rooms none empty = subst (λ (z : List Member × List InstalledView). Joining all z.0 z.1 all) (λ i. (sym none i, sym empty i)) (record { split = refl; members = no_members })
+
+pub joining_more : (all : List SessionView) (ms : List Member) (rooms : List InstalledView) (before rest : List SessionView) (s : SessionView) (seat : StoreSeat) (caller : Caller) (room : InstalledView) → Joining all ms rooms before → before ≡ s ∷ rest → seat.shelf ≡ s.shelf → seat.sessions ≡ known_of s ∷ []
+    → IsIdle seat caller → HasRoom room seat → Joining all (ms ++ record { seat = seat; caller = caller } ∷ []) (rooms ++ room ∷ []) rest
+joining_more all ms rooms before rest s seat caller room g is shelf known idle has = record {
+  split = ap (λ z. z ++ rest) (more_views ms (record { seat = seat; caller = caller }) ∙ ap (λ z. views_of ms ++ z ∷ []) (seat_seen seat s shelf known)) ∙ (append_assoc (views_of ms) (s ∷ []) rest ∙ (ap (λ z. views_of ms ++ z) (sym is) ∙ g.split));
+  members = more_members ms rooms (record { seat = seat; caller = caller }) room g.members idle has;
+}
+
+-- ---- neighbours in the pipeline
+
+pub has_slot : (store : StoreView) (s : SessionView) (caller : Caller) → IsOf store s → s.session ≡ session s.progress.config caller.node caller.slot → caller.slot < s.progress.config.slots → HasSlot store.config s caller
+has_slot store s caller of own within = record { own = own ∙ ap (λ z. session z caller.node caller.slot) of.config; within = subst (λ (z : Sizes). caller.slot < z.slots) of.config within }
+
+module _ (store : StoreView) (ms : List Member) (rooms : List InstalledView) (are : AreIdleMembers ms rooms) (own : AreOf store (views_of ms)) (near : AreNeighbours store.config (views_of ms)) where
+  -- the number of a member's session
+  number_is : (j : ℕ) (m : Member) → At j m ms → (session_view m.seat).session ≡ session store.config near.node (near.slot + j)
+  number_is j m at = near.numbers j (session_view m.seat) (at_map (λ (z : Member). session_view z.seat) ms j m at)
+
+  node_is : (j : ℕ) (m : Member) → At j m ms → m.caller.node ≡ near.node
+  node_is j m at =
+      let i = are.idle j m at in
+      let seen = seen_as m.seat i.known i.is in
+      let there = at_map (λ (z : Member). session_view z.seat) ms j m at in
+      let of = own j (session_view m.seat) there in
+      let slot = has_slot store (session_view m.seat) m.caller of (ap (λ (z : SessionView). z.session) seen ∙ (i.free.own ∙ ap (λ (z : SessionView). session z.progress.config m.caller.node m.caller.slot) (sym seen))) (subst (λ (z : SessionView). m.caller.slot < z.progress.config.slots) (sym seen) i.free.within) in
+      let low = near.within in
+      let below = at_below (views_of ms) j (session_view m.seat) there in
+      (caller_is store.config.slots m.caller.node near.node m.caller.slot (near.slot + j) slot.within (omega (arith, low, below)) (sym slot.own ∙ number_is j m at)).0
+
+  ascend : AscendEach ms
+  ascend i j f g lt a b =
+      let low = ap (λ (z : SessionView). z.session) (sym (seen_as a.0.seat f a.2)) ∙ number_is i a.0 a.1 in
+      let high = ap (λ (z : SessionView). z.session) (sym (seen_as b.0.seat g b.2)) ∙ number_is j b.0 b.1 in
+      below (near.node * store.config.slots) near.slot f.session g.session low high
+    where
+      below : (base slot x y : ℕ) → x ≡ base + (slot + i) → y ≡ base + (slot + j) → x < y
+      below base slot x y low high = omega (arith, low, high, lt)
+
+  pub are_joined : length ms ≤ 16 → AreJoined ms rooms
+  are_joined few = record {
+    idle = are.idle;
+    count = are.count;
+    rooms_are = are.rooms_are;
+    few = few;
+    near = λ i j m n at there. node_is i m at ∙ sym (node_is j n there);
+    ascend = ascend;
+  }
+
+pub all_joined : (store : StoreView) (all : List SessionView) (ms : List Member) (rooms : List InstalledView) (rest : List SessionView) → Joining all ms rooms rest → rest ≡ [] → AreOf store all → AreNeighbours store.config all → length all ≤ 16 → AreJoined ms rooms × (views_of ms ≡ all)
+all_joined store all ms rooms rest g none own near few =
+    let is : views_of ms ≡ all = sym (append-nil (views_of ms)) ∙ (ap (λ z. views_of ms ++ z) (sym none) ∙ g.split) in
+    let long : length ms ≡ length all = sym (length-map ms (λ (z : Member). session_view z.seat)) ∙ ap length is in
+    (are_joined store ms rooms g.members (subst (AreOf store) (sym is) own) (subst (AreNeighbours store.config) (sym is) near) (omega (arith, few, long)), is)
+
+-- the union of 16 slots of a node
+pub few_slots : (config : Sizes) (sessions : List SessionView) → config.slots ≤ 16 → AreNeighbours config sessions → length sessions ≤ 16
+few_slots config sessions most near = let fits = near.within in omega (arith, fits, most)
+
+-- ---- out of the pipeline
+
+-- some sessions have left the pipeline, and the others are members still
+pub record Leaving (all out : List SessionView) (ms : List Member) (rooms : List InstalledView) : Type 0 where
+  pub split : out ++ views_of ms ≡ all
+  pub members : AreIdleMembers ms rooms
+
+pub leaving_first : (ms : List Member) (rooms : List InstalledView) (out : List SessionView) → AreJoined ms rooms → out ≡ [] → Leaving (views_of ms) out ms rooms
+leaving_first ms rooms out j none = record { split = ap (λ z. z ++ views_of ms) none; members = record { idle = j.idle; count = j.count; rooms_are = j.rooms_are } }
+
+pub leaving_more : (all before out : List SessionView) (m : Member) (ms : List Member) (room : InstalledView) (rooms : List InstalledView) (s : SessionView) → Leaving all before (m ∷ ms) (room ∷ rooms) → s ≡ session_view m.seat → out ≡ before ++ s ∷ [] → Leaving all out ms rooms
+leaving_more all before out m ms room rooms s g seen is = record {
+  split = ap (λ z. z ++ views_of ms) (is ∙ ap (λ z. before ++ z ∷ []) seen) ∙ (append_assoc before (session_view m.seat ∷ []) (views_of ms) ∙ g.split);
+  members = record {
+    idle = λ j n at. g.members.idle (suc j) n at;
+    count = let same = g.members.count in omega (arith, same);
+    rooms_are = λ j n r at there. g.members.rooms_are (suc j) n r at there;
+  };
+}
+
+pub all_left : (all out : List SessionView) (ms : List Member) (rooms : List InstalledView) → Leaving all out ms rooms → ms ≡ [] → out ≡ all
+all_left all out ms rooms g none = sym (append-nil out) ∙ (ap (λ z. out ++ views_of z) (sym none) ∙ g.split)
