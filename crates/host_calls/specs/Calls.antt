@@ -11,14 +11,14 @@ use Rattle.replica.specs.declared.refusals.StoreRefused.TheVariants.{NotDecoded,
 use Rattle.store_steps.specs.Views.{SessionView, op_of}
 use Rattle.store.specs.Sessions.{StoreView, install_of, install_refused, new_program}
 use Rattle.store.specs.Within.{within_refusal}
-use Rattle.host_calls.specs.declared.attached.Told.{Told}
-use Rattle.host_calls.specs.declared.attached.Told.TheVariants.{Busy, Again, Answered as Answers, Refused, NotOpen, IsOut, NoWord}
+use Rattle.host_calls.specs.declared.attached.CallResult.{CallResult}
+use Rattle.host_calls.specs.declared.attached.CallResult.TheVariants.{Busy, Again, Answered as Answers, Refused, NotOpen, IsOut, NoWord}
 use Rattle.host_calls.specs.declared.handles.Asked.{Asked}
 use Rattle.host_calls.specs.declared.handles.Answered.{Answered}
 use Rattle.host_calls.specs.declared.handles.SessionHandle.{SessionHandle}
 use Rattle.host_calls.specs.declared.handles.TheConstants.{CALL_ROOM}
 use Rattle.host_calls.specs.Statuses.{again, busy, done, is_out, no_word, not_open, refusal, letter_D, letter_S, letter_V}
-use Rattle.host_calls.specs.Told.{TellsReading, TellsUpdate}
+use Rattle.host_calls.specs.CallResults.{TellsReading, TellsUpdate}
 use Rattle.host_calls.specs.Views.{AttachedView, IsSame}
 
 -- ---- what is asked
@@ -60,18 +60,18 @@ asks store a = if nat_le a.length CALL_ROOM then asks_of store a (take a.length 
 
 -- ---- what is told
 
-abbrev pub TellsCall : Asks → (old new : SessionView) → Told → Type 0
+abbrev pub TellsCall : Asks → (old new : SessionView) → CallResult → Type 0
 TellsCall (Updates op refused) old new told = TellsUpdate op refused old new told
 TellsCall (Reads op refused) old new told = TellsReading op refused old new told
 TellsCall Nothing old new told = (told ≡ NoWord) × (new ≡ old)
 
-pub record TellsAttached (a : Asked) (old new : AttachedView) (told : Told) : Type 0 where
+pub record TellsAttached (a : Asked) (old new : AttachedView) (told : CallResult) : Type 0 where
   pub same : IsSame old new
   pub tells : TellsCall (asks old.store a) old.session new.session told
 
 -- ---- what is written
 
-abbrev pub status_of : Told → ℕ
+abbrev pub status_of : CallResult → ℕ
 status_of Busy = busy
 status_of Again = again
 status_of (Answers point reply) = done
@@ -81,17 +81,17 @@ status_of IsOut = is_out
 status_of NoWord = no_word
 
 -- why the decoder or the verifier refuses a program, and at which slot
-abbrev pub inner_of : Told → ℕ × ℕ
+abbrev pub inner_of : CallResult → ℕ × ℕ
 inner_of (Refused (NotDecoded why)) = (refusal letter_D (decode_number why.why), why.slot)
 inner_of (Refused (NotAccepted why)) = (refusal letter_V (verify_number why.why), why.slot)
 inner_of told = (0, 0)
 
 -- the point and the reply of an answer; where there is none, those that stood there
-abbrev pub point_and_reply : Answered → Told → ℕ × ℕ
+abbrev pub point_and_reply : Answered → CallResult → ℕ × ℕ
 point_and_reply before (Answers point reply) = (point, reply)
 point_and_reply before told = (before.point, before.reply)
 
-abbrev pub written : Answered → Told → Answered
+abbrev pub written : Answered → CallResult → Answered
 written before told = record {
   status = status_of told;
   inner = (inner_of told).0;
@@ -105,12 +105,12 @@ written before told = record {
 -- ---- a call
 
 -- on a closed handle it says so; else the session goes on as it tells, and the handle stays open
-abbrev pub TellsHandle : (before after : SessionHandle) → Told → Type 0
+abbrev pub TellsHandle : (before after : SessionHandle) → CallResult → Type 0
 TellsHandle before after told =
     MatchOption before.own ((told ≡ NotOpen) × (after.own ≡ None)) (λ b. MatchOption after.own ⊥ (λ b'. TellsAttached before.asked b.value b'.value told))
 
 pub record Goes (before after : SessionHandle) : Type 0 where
   pub asked : after.asked ≡ before.asked
-  pub told : Told
+  pub told : CallResult
   pub written : after.answered ≡ written before.answered told
   pub tells : TellsHandle before after told
