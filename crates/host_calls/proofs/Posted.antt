@@ -14,7 +14,7 @@ use Rattle.store_steps.specs.Views.{SessionView}
 use Rattle.store.specs.Polled.{HasPostedFor}
 use Rattle.store_steps.proofs.Export.{store_laws}
 use Rattle.host_calls.specs.declared.attached.CallResult.{CallResult}
-use Rattle.host_calls.specs.declared.attached.CallResult.TheVariants.{Busy, Again, Answered, Refused, NotOpen, IsOut, NoWord}
+use Rattle.host_calls.specs.declared.attached.CallResult.TheVariants.{Busy, Again, Answered, Refused, NotOpen, IsOut, NoWord, Allowed}
 use Rattle.host_calls.specs.CallResults.{HasGrown, TellsOut, TellsPosting, TellsRefused, TellsUpdate}
 
 pub none_of : {A : Type 0} (x : Option A) → ((a : A) → x ≡ Some a → ⊥) → x ≡ None
@@ -34,6 +34,7 @@ out_from old mid new o Busy same note t = t
 out_from old mid new o NotOpen same note t = t
 out_from old mid new o IsOut same note t = t
 out_from old mid new o NoWord same note t = t
+out_from old mid new o Allowed same note t = t
 
 posting : (op : Operation) (old new : SessionView) (o : Pending) (told : CallResult) → o.op ≡ op → length old.progress.history ≤ o.seen → TellsOut old new o told → TellsPosting op old new told
 posting op old new o Busy is seen t = absurd t
@@ -43,6 +44,7 @@ posting op old new o (Refused why) is seen t = (o, is, seen, t)
 posting op old new o NotOpen is seen t = absurd t
 posting op old new o IsOut is seen t = absurd t
 posting op old new o NoWord is seen t = absurd t
+posting op old new o Allowed is seen t = absurd t
 
 -- who has posted has asked
 pub asked_for : (old mid : SessionView) (op : Operation) → HasPostedFor old mid op → HasAskedFor old mid op

@@ -10,9 +10,10 @@ use Rattle.accounts.specs.declared.sessions.Pending.{Pending}
 use Rattle.accounts.specs.Accounts.{Extends, IsWellFormed}
 use Rattle.store_steps.specs.Views.{SessionView}
 use Rattle.store.specs.Looks.{IsSight, HasReply}
+use Rattle.store.specs.Polled.{HasPostedFor}
 use Rattle.store_steps.specs.Stages.{TellsDone}
 use Rattle.host_calls.specs.declared.attached.CallResult.{CallResult}
-use Rattle.host_calls.specs.declared.attached.CallResult.TheVariants.{Busy, Again, Answered, Refused, NotOpen, IsOut, NoWord}
+use Rattle.host_calls.specs.declared.attached.CallResult.TheVariants.{Busy, Again, Answered, Refused, NotOpen, IsOut, NoWord, Allowed}
 
 -- the session knows a history that has grown, and that its store may have
 pub record HasGrown (old new : SessionView) : Type 0 where
@@ -29,6 +30,7 @@ TellsOut old new o Busy = ⊥
 TellsOut old new o NotOpen = ⊥
 TellsOut old new o IsOut = ⊥
 TellsOut old new o NoWord = ⊥
+TellsOut old new o Allowed = ⊥
 
 -- a request of this operation is posted now, when the history is no shorter than the session knew
 abbrev pub TellsNew : Operation → (old new : SessionView) → CallResult → Type 0
@@ -47,6 +49,16 @@ TellsRefused old new told why = (told ≡ Refused why) × (new ≡ old)
 abbrev pub TellsUpdate : Operation → Option StoreRefused → (old new : SessionView) → CallResult → Type 0
 TellsUpdate op refused old new told =
     HasGrown old new × MatchOption old.note.pending (MatchOption refused (TellsPosting op old new told) (λ why. TellsRefused old new told why)) (λ o. TellsOut old new o told)
+
+-- an update alike that is posted and nothing more: the session takes along no other
+abbrev pub TellsPostedAlone : Operation → (old new : SessionView) → CallResult → Type 0
+TellsPostedAlone op old new Busy = new ≡ old
+TellsPostedAlone op old new Again = HasPostedFor old new op
+TellsPostedAlone op old new told = ⊥
+
+abbrev pub TellsPost : Operation → Option StoreRefused → (old new : SessionView) → CallResult → Type 0
+TellsPost op refused old new told =
+    HasGrown old new × MatchOption old.note.pending (MatchOption refused (TellsPostedAlone op old new told) (λ why. TellsRefused old new told why)) (λ o. TellsOut old new o told)
 
 -- a read that isn't refused: a place was held, or it has seen all that was completed when it began, and has the reply there
 abbrev pub TellsSeen : Operation → (old new : SessionView) → CallResult → Type 0

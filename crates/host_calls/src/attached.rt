@@ -4,13 +4,16 @@ ghost use Rattle.std.specs.Prelude.{◌≡◌, ◌≤◌, None, Some, true, fals
 ghost use Rattle.std.specs.Arc.{arc_value};
 ghost use Rattle.accounts.specs.declared.sessions.Pending.{Pending};
 ghost use Rattle.store.specs.Sessions.{IsOf};
-ghost use Rattle.host_calls.specs.Calls.{TellsCall, asks_install, asks_read, asks_update, asks_within};
+ghost use Rattle.replica.specs.Refusals.{early_refusal};
+ghost use Rattle.verifier.specs.declared.refusal.Mode.TheVariants.{Update};
+ghost use Rattle.host_calls.specs.Calls.{TellsCall, asks_install, asks_post, asks_read, asks_update, asks_within, check_result};
 ghost use Rattle.host_calls.specs.Looks.{TellsAnswers, TellsGot, TellsMany, TellsScanned, TellsSnapped, look_each, next_word, questions_of};
 ghost use Rattle.host_calls.specs.CallResults.{HasGrown, TellsOut};
 ghost use Rattle.host_calls.specs.Views.{IsSame};
 
 use crate::handles::{AT_END, Asking, MOST_ASKED};
 use crate::statuses::{OTHER_SIZES, refusal};
+use replica::check_call;
 use std::alloc::Global;
 use std::marker::Model;
 use std::sync::Arc;
@@ -50,7 +53,7 @@ pub enum CallResult {
     Busy,
     /// An update is posted, and not answered.
     Again,
-    //// A point, and the reply there.
+    /// A point, and the reply there.
     Answered { point: u64, reply: u64 },
     /// The store refuses the call.
     Refused(StoreRefused),
@@ -60,6 +63,8 @@ pub enum CallResult {
     IsOut,
     /// H5: a word is none of a call.
     NoWord,
+    /// The store would not refuse the update. Nothing is done.
+    Allowed,
 }
 
 /// What a look at the maps of a session's node answers.
@@ -213,6 +218,32 @@ impl Attached {
         }
     }
 
+    /// Posts an update and nothing more, or goes on with the one that is out.
+    pub fn post(&mut self, program: u16, argument: &[u8]) -> CallResult
+        ensures same { IsSame self.old self.new }
+        ensures tells { TellsCall (asks_post self.old.store program argument.now) self.old.session self.new.session result }
+    {
+        if self.is_waiting() {
+            return self.go_on();
+        }
+        let Attached { store, session, .. } = &mut *self;
+        match session.try_post(store, program, argument) {
+            Err(why) => CallResult::Refused(why),
+            Ok(None) => CallResult::Busy,
+            Ok(Some(())) => CallResult::Again,
+        }
+    }
+
+    /// Whether the store refuses this update. Nothing is done.
+    pub fn check(&self, program: u16, argument: &[u8]) -> CallResult
+        ensures checks { result ≡ check_result (early_refusal self.now.store.catalogue Update program argument.now) }
+    {
+        match check_call(self.store.catalogue(), Mode::Update, program, argument) {
+            Err(why) => CallResult::Refused(why),
+            Ok(()) => CallResult::Allowed,
+        }
+    }
+
     /// Posts an install, or goes on with the update that is out.
     pub fn install(&mut self, mode: Mode, argument: u64, bytes: &[u8]) -> CallResult
         ensures same { IsSame self.old self.new }
@@ -230,7 +261,13 @@ impl Attached {
     }
 
     /// Posts an install of a program that may name these maps alone, or goes on with the update that is out.
-    pub fn install_within(&mut self, maps: u16, mode: Mode, argument: u64, bytes: &[u8]) -> CallResult
+    pub fn install_within(
+        &mut self,
+        maps: u16,
+        mode: Mode,
+        argument: u64,
+        bytes: &[u8],
+    ) -> CallResult
         ensures same { IsSame self.old self.new }
         ensures tells { TellsCall (asks_within self.old.store maps mode argument bytes.now) self.old.session self.new.session result }
     {

@@ -21,6 +21,12 @@ const INSTALL: u64 = 2;
 // An install of a program that may name some maps alone: the word `program` has them.
 const INSTALL_WITHIN: u64 = 3;
 
+// An update that is posted, and nothing more.
+const POST: u64 = 4;
+
+// A question: whether the store refuses an update.
+const CHECK: u64 = 5;
+
 // A program that updates, as the word `mode` has it.
 const UPDATES: u64 = 0;
 
@@ -34,7 +40,7 @@ fn status_of(told: CallResult) -> u64
     match told {
         CallResult::Busy => BUSY,
         CallResult::Again => AGAIN,
-        CallResult::Answered { .. } => DONE,
+        CallResult::Answered { .. } | CallResult::Allowed => DONE,
         CallResult::Refused(why) => refusal(b'S', why.number()),
         CallResult::NotOpen => NOT_OPEN,
         CallResult::IsOut => IS_OUT,
@@ -86,6 +92,8 @@ fn tell(attached: &mut Attached, asked: &Asked) -> CallResult
             _ => CallResult::NoWord,
         },
         INSTALL_WITHIN => tell_within(attached, asked, bytes),
+        POST => attached.post(asked.program, bytes),
+        CHECK => attached.check(asked.program, bytes),
         _ => CallResult::NoWord,
     }
 }
