@@ -1,7 +1,7 @@
 /* Times the store through nrbpf.h on 1, 2 and 4 threads and 1 and 2 nodes, with none, 90 and all of 100 calls reads, and prints how many calls a
-   second each makes. Beside it stand a mutex round one session of a store of one node, which is one replica of the same machine, and a mutex
-   round the interpreter of threaded.c, which trusts every program. All threads begin at once, behind a barrier, and a round is long enough
-   that they run beside each other. With two words, `update N` or `read N`, one session makes so many calls and nothing is timed, to count their
+   second each makes. Next to it are the same store by lists, which are as long as the slots of a node allow (16 for one thread, 4 for four), a mutex round
+   one session of a store of one node, which is one replica of the same machine, and a mutex round the interpreter of threaded.c, which trusts every program. All threads begin at once, behind a barrier, and a round is long enough
+   that they run beside each other. With two words, `update N`, `list N` or `read N`, one session or one lane makes so many calls and nothing is timed, to count their
    processor instructions. It runs in the top folder. */
 
 #include "threaded.c"
@@ -26,7 +26,7 @@ struct kind {
     const char *name;
     void (*open)(struct load load);
     uint64_t (*update)(int thread, const uint8_t *argument);
-    uint64_t (*read)(int thread, const uint8_t *argument);
+    uint64_t (*read)(int thread, const uint8_t *argument); /* or null: then it has rounds of updates alone */
     void (*close)(struct load load);
 };
 
@@ -62,6 +62,44 @@ static uint64_t read_shared(int thread, const uint8_t *argument) {
     nrbpf_answer answer;
     EXPECT_STATUS(nrbpf_read(sessions[thread], peek, argument, 4, &answer), NRBPF_OK);
     return answer.reply;
+}
+
+/* ---- The same by lists: a lane a thread, which gathers updates and asks for them together */
+
+static struct list {
+    nrbpf_lane *lane;
+    uint32_t length, count;
+    uint8_t arguments[NRBPF_MOST_SLOTS][4];
+    nrbpf_question calls[NRBPF_MOST_SLOTS];
+    nrbpf_outcome outcomes[NRBPF_MOST_SLOTS];
+    char apart[128];                                /* no two threads share a cache line */
+} lists[MOST_THREADS];
+
+static void open_listed(struct load load) {
+    const uint32_t length = NRBPF_MOST_SLOTS / (uint32_t)((load.threads + load.nodes - 1) / load.nodes);
+    nrbpf_config config = NRBPF_CONFIG((uint32_t)load.nodes, NRBPF_MOST_SLOTS);
+    store = opened(&config);
+    for (int i = 0; i < load.threads; i++) {
+        struct list *it = &lists[i];
+        it->length = length;
+        it->count = 0;
+        for (uint32_t k = 0; k < length; k++) it->calls[k] = (nrbpf_question){it->arguments[k], 4, bump};
+        EXPECT_STATUS(nrbpf_attach_lane(store, (uint32_t)(i % load.nodes), length, &it->lane), NRBPF_OK);
+    }
+}
+
+static void close_listed(struct load load) {
+    for (int i = 0; i < load.threads; i++) EXPECT_STATUS(nrbpf_detach_lane(lists[i].lane), NRBPF_OK);
+    EXPECT_STATUS(nrbpf_close(store), NRBPF_OK);
+}
+
+static uint64_t update_listed(int thread, const uint8_t *argument) {
+    struct list *it = &lists[thread];
+    memcpy(it->arguments[it->count++], argument, 4);
+    if (it->count < it->length) return 0;
+    it->count = 0;
+    EXPECT_STATUS(nrbpf_update_each(it->lane, it->calls, it->length, it->outcomes, NULL), NRBPF_OK);
+    return it->outcomes[0].reply;
 }
 
 /* ---- A mutex round one session */
@@ -144,6 +182,7 @@ static uint64_t read_interpreted(int thread, const uint8_t *argument) { return (
 
 static const struct kind kinds[] = {
     {"store", open_shared, update_shared, read_shared, close_shared},
+    {"store, lists", open_listed, update_listed, NULL, close_listed},
     {"mutex, session", open_one, update_one, read_one, close_one},
     {"mutex, threaded", open_interpreter, update_interpreted, read_interpreted, close_interpreter},
 };
@@ -200,6 +239,7 @@ static double time_of(const struct kind *kind, struct load load) {
 
 /* Millions of calls a second of all threads, in one round. */
 static double rate_of(const struct kind *kind, struct load load) {
+    if (load.reads > 0 && !kind->read) return 0;
     load.calls = TRIAL;
     double longer = ROUND / time_of(kind, load);
     uint64_t updates = (uint64_t)load.threads * (100 - load.reads), most = updates ? 100 * (uint64_t)MOST_UPDATES / updates : UINT64_MAX;
@@ -208,16 +248,18 @@ static double rate_of(const struct kind *kind, struct load load) {
     return (double)load.threads * (double)load.calls / time_of(kind, load) * 1e3;
 }
 
-/* Makes so many calls of one session. */
+/* Makes so many calls of one session or lane. */
 static int make_calls(const char *call, long times) {
-    int is_read = strcmp(call, "read") == 0;
-    open_one((struct load){0});
+    const struct load alone = {1, 1, 0, 0};
+    const int is_read = strcmp(call, "read") == 0, is_list = strcmp(call, "list") == 0;
+    const struct kind *kind = &kinds[is_list ? 1 : 0];
+    kind->open(alone);
     for (long i = 0; i < times; i++) {
         const uint8_t argument[4] = {(uint8_t)(i % ENTRIES)};
-        if (is_read) read_shared(0, argument);
-        else update_shared(0, argument);
+        if (is_read) kind->read(0, argument);
+        else kind->update(0, argument);
     }
-    close_one((struct load){0});
+    kind->close(alone);
     return 0;
 }
 

@@ -1,24 +1,8 @@
 // calls.c: the calls on a session of nrbpf.h, each a try, and the loops that wait.
 #include "handles.h"
-#include <sched.h>
 #include <string.h>
 
-enum { SPINS = 9, LONGEST_KEY = 64 };
-
-// Lets another session go on, behind so many tries: spins for longer from try to try, 16 us or so in all, and then lets another thread run.
-static void pause_behind(unsigned tries) {
-    if (tries >= SPINS) {
-        sched_yield();
-        return;
-    }
-    for (volatile unsigned spin = 0; spin < 16u << tries;) {
-        spin = spin + 1;
-    }
-}
-
-static unsigned one_more(unsigned tries) {
-    return tries < SPINS ? tries + 1 : tries;
-}
+enum { LONGEST_KEY = 64 };
 
 // Whether the session of this handle takes a call: H2, H3.
 static nrbpf_status usable(const struct place *place, const nrbpf_session *session) {
@@ -44,18 +28,6 @@ static nrbpf_status told(const struct nrbpf_raw_session *raw, nrbpf_error *why) 
 }
 
 // ---- Updates, reads and installs
-
-// Writes the bytes of a call into the session's words.
-static void put_bytes(struct nrbpf_raw_session *raw, const void *bytes, size_t len) {
-    if (len > sizeof raw->bytes) {
-        raw->length = sizeof raw->bytes;        // no argument of a program has as many: S2
-        return;
-    }
-    raw->length = len;
-    if (len > 0) {
-        memcpy(raw->bytes, bytes, len);
-    }
-}
 
 // Makes the call that the session's words ask for, or goes on with what is posted.
 static nrbpf_status go_on(struct place *place, nrbpf_answer *out, nrbpf_error *why) {

@@ -1,24 +1,31 @@
-// handles.h: what is at the handles of nrbpf.h, for nrbpf.c, calls.c and states.c. No host includes it.
+// handles.h: what is at the handles of nrbpf.h, for nrbpf.c, calls.c, lanes.c and states.c. No host includes it.
 #ifndef NRBPF_HANDLES_H
 #define NRBPF_HANDLES_H
 
 #include "nrbpf.h"
 #include "nrbpf_raw.h"
 #include <pthread.h>
+#include <sched.h>
 #include <stdalign.h>
 #include <string.h>
 
-enum { MOST_SESSIONS = 128, TURNS = 512 };
+enum { MOST_SESSIONS = 128, TURNS = 512, SPINS = 9 };
 
 // A place for a session. Its sessions come one after another, and each has a handle of its own: the
 // address of the place, with the session's turn in its low bits. No code reads through a handle.
 // So the handle of a detached session is found to be none, also after the place has another session.
 // A handle comes again after TURNS turns.
+// A lane has a place for each of its slots. Its handle is that of its first place.
 struct place {
-    alignas(TURNS) nrbpf_session *handle;       // of the session that is attached, or null
-    int is_posted;                              // whether nrbpf_poll has an update or an install to continue
+    alignas(TURNS) nrbpf_session *handle;       // of the session that is attached, or null; of a lane's place the store, which is no session's
+    int is_posted;                              // whether there is an update or an install to continue
     uint32_t turn;                              // of the session that is attached, or else of the next one
     nrbpf_store *of;
+    struct place *next;                         // of a lane's place: that of its next slot, or null
+    nrbpf_lane *lane;                           // of a lane's first place: the lane's handle; else null
+    struct place *unposted;                     // of the same: that of the first call of the list that is not posted, or null
+    struct place *last;                         // of the same: that of the last call of the list, or null if there is no list to continue
+    uint32_t slots;                             // of the same: how many the lane has
     struct nrbpf_raw_session raw;
 };
 
@@ -35,6 +42,48 @@ static inline nrbpf_session *next_handle(const struct place *place) {
 // The place of a session, of an earlier one too.
 static inline struct place *place_of(const nrbpf_session *session) {
     return (struct place *)((uintptr_t)session & ~(uintptr_t)(TURNS - 1));
+}
+
+// A free place: there is always one.
+static inline struct place *free_place(nrbpf_store *store) {
+    struct place *place = store->places;
+    while (place->handle) {
+        place++;
+    }
+    return place;
+}
+
+// Ends the session at a place, which the store has taken back.
+static inline void end_session(struct place *place) {
+    place->handle = NULL;
+    place->turn = (place->turn + 1) % TURNS;
+}
+
+// Writes the bytes of a call into the session's words.
+static inline void put_bytes(struct nrbpf_raw_session *raw, const void *bytes, size_t len) {
+    if (len > sizeof raw->bytes) {
+        raw->length = sizeof raw->bytes;        // no argument of a program has as many: S2
+        return;
+    }
+    raw->length = len;
+    if (len > 0) {
+        memcpy(raw->bytes, bytes, len);
+    }
+}
+
+// Lets another session go on, behind so many tries: spins for longer from try to try, 16 us or so in all, and then lets another thread run.
+static inline void pause_behind(unsigned tries) {
+    if (tries >= SPINS) {
+        sched_yield();
+        return;
+    }
+    for (volatile unsigned spin = 0; spin < 16u << tries;) {
+        spin = spin + 1;
+    }
+}
+
+static inline unsigned one_more(unsigned tries) {
+    return tries < SPINS ? tries + 1 : tries;
 }
 
 // A state's handle is the raw one. Only the calls that say so change it.

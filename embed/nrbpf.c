@@ -322,10 +322,7 @@ nrbpf_status nrbpf_attach(nrbpf_store *store, uint32_t node, nrbpf_session **out
         return NRBPF_H7;
     }
     pthread_mutex_lock(&store->mutex);
-    struct place *place = store->places;
-    while (place->handle) {
-        place++;
-    }
+    struct place *const place = free_place(store);
     store->raw.node = node;
     nrbpf_raw_attach(&store->raw, &place->raw);
     nrbpf_status status = (nrbpf_status)store->raw.status;
@@ -350,8 +347,7 @@ nrbpf_status nrbpf_detach(nrbpf_session *session) {
         nrbpf_raw_detach(&store->raw, &place->raw);
         status = (nrbpf_status)store->raw.status;
         if (status == NRBPF_OK) {
-            place->handle = NULL;
-            place->turn = (place->turn + 1) % TURNS;
+            end_session(place);
         }
     }
     pthread_mutex_unlock(&store->mutex);

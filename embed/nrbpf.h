@@ -31,12 +31,12 @@
 //
 // Each function says in brackets when it may be called:
 //     [any]      At any time, by any number of threads, until the store ends.
-//     [session]  As [any], but one call at a time on this session: one thread
-//                uses it, or hands it to another.
-//     [end]      By one thread at a time. While a session is attached, the call
-//                answers S5, even while a call on that session runs. Once none
-//                is attached, the call ends the store. Then no other call on
-//                the store may be running or follow.
+//     [session]  As [any], but one call at a time on this session or lane: one
+//                thread uses it, or hands it to another.
+//     [end]      By one thread at a time. While a session or a lane is
+//                attached, the call answers S5, even while a call on it runs.
+//                Once none is attached, the call ends the store. Then no other
+//                call on the store may be running or follow.
 // A thread hands a session to another by a mutex, by a thread's start or join,
 // or by a sequentially consistent atomic. Call nothing here from a signal
 // handler, or in the forked child of a process with threads.
@@ -59,13 +59,15 @@ extern "C" {
 typedef struct nrbpf_store nrbpf_store;
 // A thread's way to call a store: one slot of one node.
 typedef struct nrbpf_session nrbpf_session;
+// Some slots of one node: a thread's way to ask for several updates at once.
+typedef struct nrbpf_lane nrbpf_lane;
 // All keys, values and installed programs at one point of a history.
 typedef struct nrbpf_state nrbpf_state;
 
 // The major number changes if a host has to be changed or compiled again. The
 // minor number changes if something is added.
 #define NRBPF_VERSION_MAJOR 2u
-#define NRBPF_VERSION_MINOR 2u
+#define NRBPF_VERSION_MINOR 3u
 #define NRBPF_VERSION (NRBPF_VERSION_MAJOR * 1000u + NRBPF_VERSION_MINOR)
 
 // Answers the version of the library. [any]
@@ -78,8 +80,8 @@ uint32_t nrbpf_version(void);
 // apply, a call answers the first in this order: H7, H8, H2, H3 or H11, H5,
 // then the others. A refused call changes nothing, except that before S4 other
 // updates may have gone in. The statuses 1 and 2 have no letter and are no
-// refusals. Only nrbpf_poll and calls with `try_` in their name answer these:
-// they have no answer yet.
+// refusals. Only nrbpf_poll, nrbpf_poll_each and calls with `try_` in their name
+// answer these: they have no answer yet.
 typedef uint32_t nrbpf_status;
 #define NRBPF_REFUSAL(letter, number) ((nrbpf_status)(letter) << 8 | (nrbpf_status)(number))
 
@@ -89,7 +91,8 @@ enum {
     // Another session was in the way, and nothing has happened: call again, or
     // give up.
     NRBPF_BUSY = 1,
-    // The update is posted and has no answer yet: call nrbpf_poll.
+    // The update is posted and has no answer yet: call nrbpf_poll. Of a lane:
+    // some of its updates are; call nrbpf_poll_each.
     NRBPF_POSTED = 2,
 
     // A manifest
@@ -171,15 +174,18 @@ enum {
     // A host's mistake
 
     // attach: every session of the node is attached, or there is no such node.
+    // attach_lane: the node has fewer free sessions.
     NRBPF_H1 = 'H' << 8 | 1, NRBPF_NO_SESSION = NRBPF_H1,
-    // The session is not attached.
+    // The session or the lane is not attached.
     NRBPF_H2, NRBPF_DETACHED = NRBPF_H2,
-    // An update is posted on this session and has no answer: call nrbpf_poll.
+    // An update is posted on this session or lane and has no answer: call
+    // nrbpf_poll or nrbpf_poll_each.
     NRBPF_H3, NRBPF_UNANSWERED = NRBPF_H3,
     // A text is not UTF-8.
     NRBPF_H4, NRBPF_NOT_UTF8 = NRBPF_H4,
     // install: the mode is neither of the two. read_each: there are more than
-    // 16 questions.
+    // 16 questions. attach_lane: 0 slots, or more than 16. update_each: there
+    // are more calls than the lane has slots.
     NRBPF_H5, NRBPF_BAD_CALL = NRBPF_H5,
     // Of raw calls (nrbpf_raw.h): the session is of another store, or a part of
     // the store is missing. No call below answers this.
@@ -193,7 +199,7 @@ enum {
     NRBPF_H9, NRBPF_OTHER_SIZES = NRBPF_H9,
     // state_dump: the host's writer stopped.
     NRBPF_H10, NRBPF_STOPPED = NRBPF_H10,
-    // poll: no update is posted on this session.
+    // poll, poll_each: no update is posted on this session or lane.
     NRBPF_H11, NRBPF_NOTHING_POSTED = NRBPF_H11
 };
 
@@ -207,8 +213,8 @@ typedef struct nrbpf_error {
     // The line of the manifest (letter C) or of the dump (letter E). The first
     // line is 1.
     uint32_t line;
-    // With `inner`: the slot of the program. Of read_each: the question's
-    // number. The first is 0.
+    // With `inner`: the slot of the program. Of read_each and update_each: the
+    // question's or call's number. The first is 0.
     uint32_t slot;
 } nrbpf_error;
 
@@ -450,7 +456,7 @@ NRBPF_MUST_LOOK nrbpf_status nrbpf_try_scan(
     nrbpf_session *session, uint32_t map, uint32_t from, void *keys,
     size_t keys_room, void *values, size_t values_room, nrbpf_scanned *out);
 
-// One call of nrbpf_read.
+// One call of nrbpf_read or nrbpf_update.
 typedef struct nrbpf_question {
     const void *argument;
     size_t len;
@@ -468,6 +474,59 @@ NRBPF_MUST_LOOK nrbpf_status nrbpf_read_each(
 NRBPF_MUST_LOOK nrbpf_status nrbpf_try_read_each(
     nrbpf_session *session, const nrbpf_question *questions, size_t count,
     uint64_t *replies, uint64_t *point, nrbpf_error *why);
+
+// ---- Lanes: several updates by one call
+
+#define NRBPF_MOST_SLOTS 16
+
+// Gives `slots` free sessions of this node as one lane: 1 to 16. The first node
+// is 0. Gives all or none. Takes no memory. Refuses with H1, H5 and H7. [any]
+NRBPF_MUST_LOOK nrbpf_status nrbpf_attach_lane(
+    nrbpf_store *store, uint32_t node, uint32_t slots, nrbpf_lane **out);
+
+// Gives a lane back. While the store is open, all calls then refuse its handle
+// (H2), as nrbpf_detach says. Refuses with H2, H3 and H7. [session]
+NRBPF_MUST_LOOK nrbpf_status nrbpf_detach_lane(nrbpf_lane *lane);
+
+// What became of one update of a list.
+typedef struct nrbpf_outcome {
+    // How many updates come before it. 0 with S4.
+    uint64_t point;
+    // What the program left in R0. 0 with S4.
+    uint64_t reply;
+    // NRBPF_OK, or S4: the history is full, and the update did nothing.
+    nrbpf_status status;
+} nrbpf_outcome;
+
+// Asks for a list of updates, at most one for each slot of the lane, and waits
+// for all answers as nrbpf_update does. outcomes[i] is that of calls[i]. Each
+// update is an operation of its own, within the call, as if a session of its
+// own had asked for it. The list is no transaction: other updates may come
+// between its updates. The updates are posted in their order; that their points
+// ascend is tested, not proved. Where many updates wait, a list costs less than
+// as many calls. An empty list does nothing.
+// Refuses with S1 to S3, H2, H3, H5 and H7. Then nothing is posted. With S1 to
+// S3 the slot of *why is the number of the first call that is refused, unless
+// `why` is null. Answers S4 if at least one update got S4. Then `outcomes` are
+// written too. [session]
+NRBPF_MUST_LOOK nrbpf_status nrbpf_update_each(
+    nrbpf_lane *lane, const nrbpf_question *calls, size_t count,
+    nrbpf_outcome *outcomes, nrbpf_error *why);
+
+// Does what nrbpf_update_each does, but waits for nobody, and may also answer
+// BUSY or POSTED. After POSTED each update of the list will happen exactly
+// once, unless its outcome is S4. Until nrbpf_poll_each has the outcomes, the
+// lane takes only that call (H3). Poll soon, as nrbpf_try_update says.
+// [session]
+NRBPF_MUST_LOOK nrbpf_status nrbpf_try_update_each(
+    nrbpf_lane *lane, const nrbpf_question *calls, size_t count,
+    nrbpf_outcome *outcomes, nrbpf_error *why);
+
+// Continues the list that is posted, and waits for nobody. Answers POSTED
+// again, or writes an outcome for each call of the list and answers OK or S4.
+// Also refuses with H2, H7 and H11. [session]
+NRBPF_MUST_LOOK nrbpf_status nrbpf_poll_each(
+    nrbpf_lane *lane, nrbpf_outcome *outcomes);
 
 // ---- What a store is: its maps, its programs, its sizes
 //

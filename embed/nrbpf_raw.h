@@ -33,7 +33,7 @@ enum {
     NRBPF_RAW_H2,           /* the handle is not open: the opening or the attach was refused, or the state's handle has no state */
     NRBPF_RAW_H3,           /* a read of any kind, a snapshot, or a detach, while an update is posted */
     NRBPF_RAW_H4,           /* a text is not UTF-8: the manifest, a file, its name, the name of a program, or the text of a state */
-    NRBPF_RAW_H5,           /* a word is no call's: `call` above 3, `mode` above 1, `length` above 192; read_each: more than 16 questions, or another
+    NRBPF_RAW_H5,           /* a word is no call's: `call` above 5, `mode` above 1, `length` above 192; read_each: more than 16 questions, or another
                              * number of replies */
     NRBPF_RAW_H6,           /* detach: the session's place is not empty here; close_into: a part of the store is elsewhere, and it is ended */
     NRBPF_RAW_H9 = 'H' << 8 | 9 /* snapshot: the state has other maps, or another number of places for programs, than the store */
@@ -78,7 +78,7 @@ struct nrbpf_raw_store {
 
 /* ---- a session's handle */
 
-enum { NRBPF_RAW_UPDATE = 0, NRBPF_RAW_READ = 1, NRBPF_RAW_INSTALL = 2, NRBPF_RAW_INSTALL_WITHIN = 3 };
+enum { NRBPF_RAW_UPDATE = 0, NRBPF_RAW_READ = 1, NRBPF_RAW_INSTALL = 2, NRBPF_RAW_INSTALL_WITHIN = 3, NRBPF_RAW_POST = 4, NRBPF_RAW_CHECK = 5 };
 
 #define NRBPF_RAW_END UINT64_MAX
 
@@ -86,7 +86,7 @@ struct nrbpf_raw_session {
     uint64_t own[2];
     /* asked, by nrbpf_raw_call alone; the other calls leave these words as they are */
     uint64_t call;          /* NRBPF_RAW_UPDATE, .. */
-    uint16_t program;       /* update, read: the program's number. install within: the maps that the new program may name, bit m for map m. If it names
+    uint16_t program;       /* update, read, post, check: the program's number. install within: the maps that the new program may name, bit m for map m. If it names
                              * another, S8 with V16 */
     uint64_t mode;          /* both installs: 0 for a program that updates, 1 for one that reads */
     uint64_t argument;      /* both installs: how many bytes the program's arguments have */
@@ -196,7 +196,8 @@ void nrbpf_raw_new_state(struct nrbpf_raw_store *at, struct nrbpf_raw_state *sta
 void nrbpf_raw_drop_state(struct nrbpf_raw_state *at);
 
 /* Makes the call that the session's words ask for. An update or an install posts if none is posted. Else it continues the posted one, whatever operation
- * its words name. Statuses: 0, BUSY, AGAIN, S1 to S4, S6 to S8, H2, H3, H5. */
+ * its words name. NRBPF_RAW_POST is an update that only posts: BUSY or AGAIN, and the session has taken no other update along. NRBPF_RAW_CHECK does nothing:
+ * its status is S1 to S3 if the update of these words would be refused so, else 0. Statuses: 0, BUSY, AGAIN, S1 to S4, S6 to S8, H2, H3, H5. */
 void nrbpf_raw_call(struct nrbpf_raw_session *session);
 
 /* The calls below read the maps of the session's node, after these have seen everything that was completed when the call began. They don't use the words

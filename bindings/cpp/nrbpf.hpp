@@ -54,7 +54,7 @@ public:
     nrbpf_status status() const noexcept { return said.status; } // NRBPF_FULL, ..
     nrbpf_status inner() const noexcept { return said.inner; }   // of a program: the letter D or V, or 0
     std::uint32_t line() const noexcept { return said.line; }    // of the manifest or the dump, from 1, or 0
-    std::uint32_t slot() const noexcept { return said.slot; }    // of the program; of read_each the question's number
+    std::uint32_t slot() const noexcept { return said.slot; }    // of the program; of read_each and update_each the call's number
 };
 
 namespace detail {
@@ -493,6 +493,84 @@ public:
     std::optional<std::uint64_t> try_snapshot(state &into) { return copy(nrbpf_try_snapshot, into); }
 };
 
+// ---- Lanes
+
+// What became of one update of a list: NRBPF_OK and its answer, or NRBPF_FULL.
+using outcome = nrbpf_outcome;
+
+// Some slots of one node, by which a list of updates is asked for in one call. A lane is given back when it ends. If a list is posted, the lane first waits
+// for its answers.
+class lane {
+    std::shared_ptr<detail::shared_store> of;
+    nrbpf_lane *at;
+    std::size_t posted = 0; // how many calls the list has that is posted
+
+    void give_back() noexcept {
+        if (!at) return;
+        std::array<outcome, NRBPF_MOST_SLOTS> out;
+        while (nrbpf_detach_lane(at) == NRBPF_UNANSWERED)
+            if (nrbpf_poll_each(at, out.data()) == NRBPF_POSTED) std::this_thread::yield();
+    }
+
+    template <class Call> nrbpf_status ask(Call call, const std::vector<question> &calls, std::vector<outcome> &out) {
+        std::vector<nrbpf_question> asked;
+        for (const auto &[program, argument] : calls) asked.push_back({argument.data(), argument.size(), program});
+        std::vector<outcome> told(calls.size());
+        nrbpf_error why{};
+        const nrbpf_status status = call(at, asked.data(), asked.size(), told.data(), &why);
+        if (status == NRBPF_BUSY) return status;
+        if (status == NRBPF_POSTED) return posted = calls.size(), status;
+        if (status != NRBPF_FULL) detail::check(status, why);
+        return out = std::move(told), NRBPF_OK;
+    }
+
+public:
+    lane(std::shared_ptr<detail::shared_store> store, nrbpf_lane *attached) noexcept : of(std::move(store)), at(attached) {}
+    lane(lane &&other) noexcept : of(std::move(other.of)), at(std::exchange(other.at, nullptr)), posted(other.posted) {}
+    lane &operator=(lane &&other) noexcept {
+        if (this != &other) {
+            give_back();
+            at = std::exchange(other.at, nullptr);
+            of = std::move(other.of);
+            posted = other.posted;
+        }
+        return *this;
+    }
+    ~lane() { give_back(); }
+
+    nrbpf_lane *native() const noexcept { return at; }
+
+    // Runs programs that may change the maps, at most one for each slot, and waits while other sessions are in the way. Gives an outcome for each call. Each
+    // update is an operation of its own: other updates may come between them. A list is refused as a whole: then the error's slot is the first call that is.
+    std::vector<outcome> update_each(const std::vector<question> &calls) {
+        std::vector<outcome> out;
+        ask(nrbpf_update_each, calls, out);
+        return out;
+    }
+
+    // Does the same, but waits for nobody. NRBPF_OK: `out` has the outcomes. NRBPF_BUSY: nothing has happened. NRBPF_POSTED: the store has each update, once,
+    // and `poll_each` or `wait_each` is the lane's next call.
+    nrbpf_status try_update_each(const std::vector<question> &calls, std::vector<outcome> &out) { return ask(nrbpf_try_update_each, calls, out); }
+
+    // Continues the list that is posted. Nothing if it is not answered yet.
+    std::optional<std::vector<outcome>> poll_each() {
+        std::vector<outcome> out(posted + 1);
+        const nrbpf_status status = nrbpf_poll_each(at, out.data());
+        if (status == NRBPF_POSTED) return {};
+        if (status != NRBPF_FULL) detail::check(status);
+        out.resize(posted);
+        return out;
+    }
+
+    // Polls until the list is answered.
+    std::vector<outcome> wait_each() {
+        for (;;) {
+            if (auto told = poll_each()) return *std::move(told);
+            std::this_thread::yield();
+        }
+    }
+};
+
 // ---- A store
 
 // A store may be moved. It is shared with its sessions, and ends when it and all of them are gone.
@@ -544,6 +622,13 @@ public:
         nrbpf_session *attached = nullptr;
         detail::check(nrbpf_attach(native(), node, &attached));
         return session(of, attached);
+    }
+
+    // Some free sessions of a node as one lane: 1 to 16.
+    lane attach_lane(std::uint32_t node, std::uint32_t slots) const {
+        nrbpf_lane *attached = nullptr;
+        detail::check(nrbpf_attach_lane(native(), node, slots, &attached));
+        return lane(of, attached);
     }
 
     // A state for snapshots of this store. It takes the memory of one node's maps.

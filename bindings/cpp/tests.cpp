@@ -476,6 +476,56 @@ static void a_store_tells_what_it_is() {
     REFUSED(session.program_info(2), NRBPF_UNKNOWN_PROGRAM);
 }
 
+// ---- Lanes
+
+static void lists() {
+    nrbpf::store store(example("counter"), config(1, 5).with_limit(8));
+    const auto bump = store.program("bump"), peek = store.program("peek");
+    auto session = store.attach();
+    auto lane = store.attach_lane(0, 4);
+    const nrbpf::question good{bump, bytes_of(third)}, other{peek, bytes_of(third)}, shorter{bump, std::string_view("123")};
+    const auto told = lane.update_each({good, good, good});
+    for (std::size_t k = 0; k < 3; k++) EXPECT(told[k].status == NRBPF_OK && told[k].point == k && told[k].reply == k + 1);
+    std::vector<nrbpf::outcome> out;
+    EXPECT(lane.try_update_each({good, good}, out) == NRBPF_OK && out.size() == 2 && out[1].point == 4); // nobody is in the way
+    EXPECT(lane.update_each({}).empty());
+    REFUSED(lane.update_each({good, good, good, good, good}), NRBPF_BAD_CALL);
+    REFUSED(lane.update_each({good, {9, {}}, shorter}), NRBPF_UNKNOWN_PROGRAM, 0, 0, 1);
+    REFUSED(lane.try_update_each({good, good, shorter}, out), NRBPF_ARGUMENT_LENGTH, 0, 0, 2);
+    REFUSED(lane.update_each({other, good}), NRBPF_OTHER_MODE);
+    REFUSED(lane.poll_each(), NRBPF_NOTHING_POSTED);
+    REFUSED(store.attach_lane(0, 1), NRBPF_NO_SESSION);
+    REFUSED(store.attach_lane(0, 17), NRBPF_BAD_CALL);
+    const auto last = lane.update_each({good, good, good, good}); // the history has room for three
+    EXPECT(last[2].point == 7 && last[3].status == NRBPF_FULL && last[3].reply == 0);
+    ANSWER(session.read(peek, bytes_of(third)), 8, 8);
+    auto moved = std::move(lane);
+    { const auto ended = std::move(moved); }
+    moved = store.attach_lane(0, 4); // the slots are free again
+}
+
+// Each thread has a lane, on one node or the other, and tries every other list.
+static void lists_of_threads() {
+    nrbpf::store store(example("counter"), config(2, 8));
+    std::vector<std::thread> threads;
+    std::atomic<int> wrong = 0;
+    for (std::uint32_t node : {0u, 1u, 0u, 1u})
+        threads.emplace_back([&store, &wrong, lane = store.attach_lane(node, 4)]() mutable {
+            const nrbpf::question one{store.program("bump"), bytes_of(third)};
+            for (int list = 0; list < 1000; list++) {
+                std::vector<nrbpf::outcome> out;
+                nrbpf_status status = NRBPF_BUSY;
+                if (list % 2) status = lane.try_update_each({one, one, one, one}, out);
+                if (status == NRBPF_POSTED) out = lane.wait_each();
+                if (status == NRBPF_BUSY) out = lane.update_each({one, one, one, one});
+                for (std::size_t k = 0; k < 4; k++) wrong += out.size() != 4 || out[k].status != NRBPF_OK || (k > 0 && out[k - 1].point >= out[k].point);
+            }
+        });
+    for (auto &thread : threads) thread.join();
+    EXPECT(wrong == 0);
+    ANSWER(store.attach().read(store.program("peek"), bytes_of(third)), 16000, 16000);
+}
+
 // ---- How things end
 
 static void ends() {
@@ -498,7 +548,7 @@ int main() {
         {"header", header}, {"scans", scans}, {"rows", rows}, {"installs", installs}, {"installs_within", installs_within}, {"tries", tries}, {"gets_and_scans", gets_and_scans}, {"reads_at_one_point", reads_at_one_point},
         {"four_threads", four_threads}, {"tries_beside_others", tries_beside_others}, {"snapshots", snapshots},
         {"snapshots_beside_threads", snapshots_beside_threads}, {"dumps", dumps}, {"stores_go_on", stores_go_on}, {"close_next_to_a_session", close_next_to_a_session},
-        {"refused_manifests", refused_manifests}, {"refused_dumps", refused_dumps}, {"refused_calls", refused_calls}, {"limits", limits}, {"a_store_tells_what_it_is", a_store_tells_what_it_is}, {"ends", ends},
+        {"refused_manifests", refused_manifests}, {"refused_dumps", refused_dumps}, {"refused_calls", refused_calls}, {"limits", limits}, {"a_store_tells_what_it_is", a_store_tells_what_it_is}, {"lists", lists}, {"lists_of_threads", lists_of_threads}, {"ends", ends},
     };
     for (const auto &[name, test] : tests) {
         try {

@@ -77,7 +77,7 @@ func (s *Session) scan(call func(*C.nrbpf_scanned) C.nrbpf_status) (Scanned, err
 	return Scanned{uint64(page.point), uint32(page.count), uint32(page.next)}, nil
 }
 
-// Question is one call of Read.
+// Question is one call of Read or Update.
 type Question struct {
 	Program  uint16
 	Argument []byte

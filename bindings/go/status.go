@@ -72,14 +72,14 @@ const (
 
 // A host's mistake.
 const (
-	ErrNoSession     Status = C.NRBPF_NO_SESSION     // H1: every session of the node is attached, or there is no such node
-	ErrDetached      Status = C.NRBPF_DETACHED       // H2: the session is not attached
-	ErrUnanswered    Status = C.NRBPF_UNANSWERED     // H3: an update is posted on this session and not answered: Poll comes first
+	ErrNoSession     Status = C.NRBPF_NO_SESSION     // H1: the node has too few free sessions, or there is no such node
+	ErrDetached      Status = C.NRBPF_DETACHED       // H2: the session or the lane is not attached
+	ErrUnanswered    Status = C.NRBPF_UNANSWERED     // H3: an update is posted on this session or lane and not answered: Poll or PollEach comes first
 	ErrNotUTF8       Status = C.NRBPF_NOT_UTF8       // H4: a text is not UTF-8
-	ErrBadCall       Status = C.NRBPF_BAD_CALL       // H5: the mode is neither of the two, or there are more than 16 questions
+	ErrBadCall       Status = C.NRBPF_BAD_CALL       // H5: no such mode, a list that is too long, or a lane of no or more than 16 slots
 	ErrOtherVersion  Status = C.NRBPF_OTHER_VERSION  // H8: this package was compiled with a header that the library does not know
 	ErrOtherSizes    Status = C.NRBPF_OTHER_SIZES    // H9: the state has other maps, or another number of places, than the store
-	ErrNothingPosted Status = C.NRBPF_NOTHING_POSTED // H11: no update is posted on this session
+	ErrNothingPosted Status = C.NRBPF_NOTHING_POSTED // H11: no update is posted on this session or lane
 )
 
 // ErrClosed is told of a store that was closed and of a state that was freed.
@@ -91,7 +91,7 @@ type Error struct {
 	Status Status
 	Inner  Status // of C3, C4, E8, S7 and S8: what is wrong with the program, with the letter D or V
 	Line   uint32 // of the manifest, or with the letter E of the dump, from 1
-	Slot   uint32 // of the program that Inner is of; of ReadEach the question's number; from 0
+	Slot   uint32 // of the program that Inner is of; of ReadEach and UpdateEach the call's number; from 0
 }
 
 // Error is a line such as "line 3: C4: the program is not accepted: slot 5: V14: ..".

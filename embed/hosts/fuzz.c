@@ -267,6 +267,80 @@ static void read_each(void) {
     for (size_t i = 0; i < count; i++) EXPECT(replies[i] == reply_of(&asked[i]));
 }
 
+// ---- Lists
+
+enum { LONGEST = 6 };
+
+typedef struct list {
+    nrbpf_lane *lane;
+    size_t count;
+    call asked[LONGEST + 2];
+    nrbpf_question calls[LONGEST + 2];
+    nrbpf_outcome outcomes[LONGEST + 2];
+} list;
+
+// Asks for updates, some of which may be wrong. What the list must be told, and which call is refused.
+static nrbpf_status any_list(list *it, uint32_t slots, uint32_t *which) {
+    nrbpf_status wanted_status = it->count > slots ? NRBPF_BAD_CALL : NRBPF_OK;
+    for (size_t i = 0; i < it->count; i++) {
+        call *of = &it->asked[i];
+        *of = any_call(NRBPF_MODE_UPDATE);
+        if (of->program < MODEL_PROGRAMS && mode_of[of->program] != NRBPF_MODE_UPDATE && !chance(8)) of->program = PUT;
+        if (of->program == PUT && of->words[0] >= KEYS) of->words[0] = 0;
+        if (of->program < MODEL_PROGRAMS && !chance(20)) of->len = argument_of[of->program];
+        of->mode = NRBPF_MODE_UPDATE;
+        it->calls[i] = (nrbpf_question){of->words, of->len, of->program};
+        if (wanted_status) continue;
+        wanted_status = refusal_of(of);
+        *which = wanted_status ? (uint32_t)i : 0;
+    }
+    return wanted_status;
+}
+
+// Each update is the next one, until the history ends.
+static void expect_outcomes(const list *it, nrbpf_status told) {
+    nrbpf_status wanted_status = NRBPF_OK;
+    for (size_t i = 0; i < it->count; i++) {
+        const nrbpf_outcome *of = &it->outcomes[i];
+        const nrbpf_status own = ended(NRBPF_MODE_UPDATE);
+        EXPECT_STATUS(of->status, own);
+        if (own) wanted_status = own;
+        else {
+            EXPECT(of->reply == reply_of(&it->asked[i]));
+            is_at(of->point, 1);
+        }
+    }
+    EXPECT_STATUS(told, wanted_status);
+}
+
+// A lane for one list: there may be no slots for it.
+static void update_each(void) {
+    const uint32_t node = below(config.nodes + 1), slots = below(LONGEST + 1);
+    list it = {.count = below(slots + 2), .outcomes = {{77, 77, 77}}};
+    nrbpf_error why = {0, 0, 0, 0};
+    uint32_t which = 0;
+    const int has_slots = node < config.nodes && count_attached(node) + slots <= config.slots;
+    calls++;
+    if (!ANSWERS(nrbpf_attach_lane(store, node, slots, &it.lane), slots == 0 ? NRBPF_H5 : has_slots ? NRBPF_OK : NRBPF_H1)) return;
+    const nrbpf_status wanted_status = any_list(&it, slots, &which);
+    const int waits = chance(2);
+    nrbpf_status told = NRBPF_BUSY;
+    while (told == NRBPF_BUSY) {
+        told = made((waits ? nrbpf_update_each : nrbpf_try_update_each)(it.lane, it.calls, it.count, it.outcomes, &why), waits);
+    }
+    posted += told == NRBPF_POSTED;
+    while (told == NRBPF_POSTED) {
+        if (chance(3)) EXPECT_STATUS(nrbpf_detach_lane(it.lane), NRBPF_H3);
+        told = nrbpf_poll_each(it.lane, it.outcomes);
+        if (told == NRBPF_POSTED) sched_yield();
+    }
+    if (wanted_status) {
+        ANSWERS(told, wanted_status);
+        EXPECT(why.status == wanted_status && why.slot == which && it.outcomes[0].status == 77);
+    } else expect_outcomes(&it, told);
+    EXPECT_STATUS(nrbpf_detach_lane(it.lane), NRBPF_OK);
+}
+
 // ---- States
 
 typedef struct text {
@@ -466,6 +540,7 @@ static void live(void) {
         else if (which < 46) load();
         else if (which < 48) names();
         else if (which < 50) texts();
+        else if (which < 60) update_each();
         else run_program();
     }
 }

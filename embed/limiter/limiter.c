@@ -15,9 +15,11 @@
 // It runs in the top folder of the repository until SIGINT or SIGTERM, and then prints what it did.
 #include "../../examples/c/rate_limiter/rate_limiter.h"
 #include "../nrbpf.h"
+#include "input.h"
 #include <errno.h>
 #include <inttypes.h>
 #include <pthread.h>
+#include <sched.h>
 #include <signal.h>
 #include <stdatomic.h>
 #include <stdio.h>
@@ -28,8 +30,8 @@
 #include <time.h>
 #include <unistd.h>
 
-enum { NODES = 2, SLOTS = 16, MOST_CLIENTS = NODES * SLOTS, KEEPER = NODES, MOST_LINE = 80, MOST_PATH = 400 };
-enum { PROGRAMS = 4, BUCKETS = 1, PAGE = 256, MOMENT = 100 };
+enum { NODES = 2, SLOTS = 16, MOST_CLIENTS = NODES * SLOTS, KEEPER = NODES, MOST_PATH = 400 };
+enum { PROGRAMS = 4, BUCKETS = 1, PAGE = 256, MOMENT = 100, LANE = 8 };
 
 // A value of the map BUCKETS, whose keys are users.
 struct bucket {
@@ -119,11 +121,12 @@ static void configure(void) {
     check(nrbpf_detach(session));
 }
 
-// ---- The keeper: a session of a node that has no client, so that nobody waits for its copies
+// ---- The keeper: a session and a lane of a node that has no client, so that nobody waits for its copies
 
 typedef struct keeper {
     pthread_t thread;
     nrbpf_session *session;
+    nrbpf_lane *lane;                           // for the buckets of a page that are taken away
     nrbpf_state *state;
     uint64_t written, swept;
 } keeper;
@@ -160,19 +163,32 @@ static int is_idle(const struct bucket *bucket, uint64_t at) {
 static uint64_t users[PAGE];
 static struct bucket buckets[PAGE];
 
+// Takes these away, at most LANE, by one list. How many are still idle there, and so are gone.
+static uint64_t take_away(keeper *of, const struct left *idle, uint32_t length) {
+    nrbpf_question calls[LANE] = {{NULL, 0, 0}};
+    nrbpf_outcome outcomes[LANE];
+    uint64_t gone = 0;
+    for (uint32_t i = 0; i < length; i++) calls[i] = (nrbpf_question){&idle[i], sizeof idle[i], sweep_number};
+    check(nrbpf_update_each(of->lane, calls, length, outcomes, NULL));
+    for (uint32_t i = 0; i < length; i++) gone += outcomes[i].reply == 1;
+    return gone;
+}
+
 // Takes those of a page away. How many.
 static uint64_t sweep_page(keeper *of, uint32_t from, nrbpf_scanned *page) {
     const uint64_t at = now();
+    struct left idle[LANE];
+    uint32_t length = 0;
     uint64_t gone = 0;
-    nrbpf_answer answer;
     check(nrbpf_scan(of->session, BUCKETS, from, users, sizeof users, buckets, sizeof buckets, page));
     for (uint32_t i = 0; i < page->count; i++) {
-        const struct left left = {users[i], at};
         if (!is_idle(&buckets[i], at)) continue;
-        check(nrbpf_update(of->session, sweep_number, &left, sizeof left, &answer));
-        gone += answer.reply == 1;
+        idle[length++] = (struct left){users[i], at};
+        if (length < LANE) continue;
+        gone += take_away(of, idle, length);
+        length = 0;
     }
-    return gone;
+    return gone + take_away(of, idle, length);
 }
 
 // Page by page, each again until it has none: what is taken away may bring another bucket to its place.
@@ -201,6 +217,7 @@ static void *keep_up(void *at) {
 
 static void begin_keeping(keeper *of) {
     check(nrbpf_attach(store, KEEPER, &of->session));
+    check(nrbpf_attach_lane(store, KEEPER, LANE, &of->lane));
     check(nrbpf_state_new(store, &of->state));
     if (pthread_create(&of->thread, NULL, keep_up, of)) fail("limiter");
 }
@@ -211,6 +228,7 @@ static void end_keeping(keeper *of) {
     pthread_join(of->thread, NULL);
     keep(of);
     check(nrbpf_detach(of->session));
+    check(nrbpf_detach_lane(of->lane));
     nrbpf_state_free(of->state);
 }
 
@@ -218,6 +236,7 @@ static void end_keeping(keeper *of) {
 
 typedef struct client {
     int socket;
+    uint32_t node;
     nrbpf_session *session;
     uint64_t lines, granted;
     struct client *next;
@@ -230,13 +249,17 @@ static struct { uint64_t clients, turned_away, lines, granted; } figures;
 static client *clients;
 static int count;                               // of them
 
+static int is_take(const char *line, struct take *take) {
+    char end;
+    return sscanf(line, "take %" SCNu64 " %" SCNu64 "%c", &take->user, &take->tokens, &end) == 3 && end == '\n';
+}
+
 // Makes the call that a line says: S1 where it says none.
 static nrbpf_status call(const client *of, const char *line, nrbpf_answer *answer) {
     struct take take = {.now = now()};
     struct left left = {.now = take.now};
     char end;
-    if (sscanf(line, "take %" SCNu64 " %" SCNu64 "%c", &take.user, &take.tokens, &end) == 3 && end == '\n')
-        return nrbpf_update(of->session, take_number, &take, sizeof take, answer);
+    if (is_take(line, &take)) return nrbpf_update(of->session, take_number, &take, sizeof take, answer);
     if (sscanf(line, "left %" SCNu64 "%c", &left.user, &end) == 2 && end == '\n')
         return nrbpf_read(of->session, left_number, &left, sizeof left, answer);
     return NRBPF_UNKNOWN_PROGRAM;
@@ -262,9 +285,9 @@ static void put_maps(FILE *out, nrbpf_session *session) {
 }
 
 // Reads the rest of the request, up to an empty line, and answers it.
-static void put_page(const client *of, FILE *in, FILE *out) {
+static void put_page(const client *of, input *in, FILE *out) {
     char line[MOST_LINE];
-    while (fgets(line, sizeof line, in) && strcmp(line, "\r\n") && strcmp(line, "\n")) {}
+    while (take_line(in, line, 1) && strcmp(line, "\r\n") && strcmp(line, "\n")) {}
     pthread_mutex_lock(&lock);
     const uint64_t here = (uint64_t)count, all = figures.clients, away = figures.turned_away;
     pthread_mutex_unlock(&lock);
@@ -276,34 +299,73 @@ static void put_page(const client *of, FILE *in, FILE *out) {
     fflush(out);
 }
 
+static void put_answer(client *of, uint64_t reply, int is_token, FILE *out) {
+    fprintf(out, "%" PRId64 "\n", (int64_t)reply);
+    of->lines++;
+    of->granted += is_token && reply == 1;
+}
+
+static void answer_line(client *of, const char *line, FILE *out) {
+    nrbpf_answer answer;
+    if (call(of, line, &answer) == NRBPF_OK) {
+        put_answer(of, answer.reply, line[0] == 't', out);
+        return;
+    }
+    fputs("bad\n", out);
+    of->lines++;
+}
+
+// Takes these by one list, if the client's node has as many free slots.
+static int take_each(client *of, const struct take *takes, uint32_t count, FILE *out) {
+    nrbpf_question calls[LANE];
+    nrbpf_outcome outcomes[LANE];
+    nrbpf_lane *lane;
+    if (nrbpf_attach_lane(store, of->node, count, &lane)) return 0;
+    for (uint32_t i = 0; i < count; i++) calls[i] = (nrbpf_question){&takes[i], sizeof takes[i], take_number};
+    check(nrbpf_update_each(lane, calls, count, outcomes, NULL));
+    check(nrbpf_detach_lane(lane));
+    for (uint32_t i = 0; i < count; i++) put_answer(of, outcomes[i].reply, 1, out);
+    return 1;
+}
+
+// Answers lines that are here together: takes that follow each other by a list.
+static void answer_each(client *of, char (*lines)[MOST_LINE], uint32_t count, FILE *out) {
+    struct take takes[LANE];
+    const uint64_t at = now();
+    for (uint32_t i = 0; i < count;) {
+        uint32_t n = 0;
+        while (i + n < count && is_take(lines[i + n], &takes[n])) takes[n++].now = at;
+        if (n > 1 && take_each(of, takes, n, out)) i += n;
+        else answer_line(of, lines[i++], out);
+    }
+}
+
 // Answers its lines until it goes away.
-static void serve(client *of, FILE *in, FILE *out) {
-    char line[MOST_LINE];
-    while (fgets(line, sizeof line, in)) {
-        nrbpf_answer answer;
-        if (strncmp(line, "GET /metrics ", 13) == 0) {
+static void serve(client *of, input *in, FILE *out) {
+    char lines[LANE][MOST_LINE];
+    while (take_line(in, lines[0], 1)) {
+        uint32_t count = 1;
+        if (strncmp(lines[0], "GET /metrics ", 13) == 0) {
             put_page(of, in, out);
             return;
         }
-        nrbpf_status status = call(of, line, &answer);
-        int written = status ? fputs("bad\n", out) : fprintf(out, "%" PRId64 "\n", (int64_t)answer.reply);
-        if (written < 0 || fflush(out)) return;
-        of->lines++;
-        of->granted += !status && line[0] == 't' && answer.reply == 1;
+        while (count < LANE && take_line(in, lines[count], 0)) count++;
+        answer_each(of, lines, count, out);
+        if (fflush(out)) return;
     }
 }
 
 static void *work(void *at) {
     client *of = at, **place = &clients;
-    FILE *in = fdopen(of->socket, "r"), *out = fdopen(dup(of->socket), "w");
-    if (!in || !out) fail("limiter");
-    serve(of, in, out);
+    input in = {.socket = of->socket};
+    FILE *out = fdopen(of->socket, "w");
+    if (!out) fail("limiter");
+    serve(of, &in, out);
     pthread_mutex_lock(&lock);
     check(nrbpf_detach(of->session));
     while (*place != of) place = &(*place)->next;
     *place = of->next;
-    fclose(in);                                 // under the lock, so that `stop` shuts no socket down that is another's by now
-    fclose(out);
+    fclose(out);                                // under the lock, so that `stop` shuts no socket down that is another's by now
     figures.lines += of->lines;
     figures.granted += of->granted;
     count--;
@@ -313,11 +375,14 @@ static void *work(void *at) {
     return NULL;
 }
 
-// Under the lock. Whether there is a session for it, of one node or the other.
+// Under the lock. Whether there is a session for it, of one node or the other. A list may have the free slots for a moment.
 static int joins(client *of, int socket) {
     if (count == MOST_CLIENTS) return 0;
-    const uint32_t first = (uint32_t)count % NODES;
-    if (nrbpf_attach(store, first, &of->session) && nrbpf_attach(store, 1 - first, &of->session)) return 0;
+    of->node = (uint32_t)count % NODES;
+    while (nrbpf_attach(store, of->node, &of->session)) {
+        sched_yield();
+        of->node = 1 - of->node;
+    }
     of->socket = socket;
     of->next = clients;
     clients = of;

@@ -1,9 +1,10 @@
 // load.c: clients of limiter.c, a thread each, which take a token as often as they can; and whether the limit was kept.
 //
-//     load SOCKET CLIENTS CALLS USERS BURST PERIOD
+//     load SOCKET CLIENTS CALLS USERS BURST PERIOD [AT_ONCE]
 //     load SOCKET LINE
 //
-// The first prints how many calls a second were answered, and how long they took; the second the answer to one line.
+// The first prints how many calls a second were answered, and how long they took; the second the answer to one line. AT_ONCE is how many lines a client sends
+// before it reads their answers, 1 if it isn't there.
 #include <pthread.h>
 #include <signal.h>
 #include <stdio.h>
@@ -14,7 +15,7 @@
 #include <time.h>
 #include <unistd.h>
 
-static struct { const char *socket; int clients, calls, users, burst, period; } load;
+static struct { const char *socket; int clients, calls, users, burst, period, at_once; } load;
 static pthread_barrier_t start;
 
 typedef struct client {
@@ -44,24 +45,32 @@ static int connected(void) {
     return socket_;
 }
 
+// Reads the answer of a call. Whether a token was granted.
+static int is_granted(FILE *in) {
+    char line[80];
+    if (!fgets(line, sizeof line, in)) fail("load: the limiter is gone");
+    if (strcmp(line, "1\n") && strcmp(line, "0\n")) {
+        fprintf(stderr, "load: the limiter answers %s", line);
+        exit(1);
+    }
+    return line[0] == '1';
+}
+
 static void *work(void *of) {
     client *mine = of;
     int socket_ = connected();
     FILE *in = fdopen(socket_, "r"), *out = fdopen(dup(socket_), "w");
-    char line[80];
     if (!in || !out) fail("load");
     pthread_barrier_wait(&start);
     mine->from = now();
-    for (int i = 0; i < load.calls; i++) {
+    for (int i = 0, end = 0; i < load.calls;) {
         double began = now();
-        fprintf(out, "take %d 1\n", i % load.users);
-        if (fflush(out) || !fgets(line, sizeof line, in)) fail("load: the limiter is gone");
-        mine->took[i] = now() - began;
-        if (strcmp(line, "1\n") && strcmp(line, "0\n")) {
-            fprintf(stderr, "load: the limiter answers %s", line);
-            exit(1);
+        for (; end < load.calls && end < i + load.at_once; end++) fprintf(out, "take %d 1\n", end % load.users);
+        if (fflush(out)) fail("load: the limiter is gone");
+        for (; i < end; i++) {
+            mine->granted[i % load.users] += is_granted(in);
+            mine->took[i] = now() - began;
         }
-        mine->granted[i % load.users] += line[0] == '1';
     }
     mine->to = now();
     fclose(in);
@@ -99,15 +108,16 @@ static int ask(const char *said) {
 }
 
 int main(int words, char **word) {
-    if (words != 7 && words != 3) {
-        fprintf(stderr, "load SOCKET CLIENTS CALLS USERS BURST PERIOD\nload SOCKET LINE\n");
+    if (words != 7 && words != 8 && words != 3) {
+        fprintf(stderr, "load SOCKET CLIENTS CALLS USERS BURST PERIOD [AT_ONCE]\nload SOCKET LINE\n");
         return 2;
     }
     load.socket = word[1];
     if (words == 3) return ask(word[2]);
     load.clients = atoi(word[2]), load.calls = atoi(word[3]);
     load.users = atoi(word[4]), load.burst = atoi(word[5]), load.period = atoi(word[6]);
-    if (load.clients < 1 || load.calls < 1 || load.users < 1 || load.period < 1) return 2;
+    load.at_once = words == 8 ? atoi(word[7]) : 1;
+    if (load.clients < 1 || load.calls < 1 || load.users < 1 || load.period < 1 || load.at_once < 1) return 2;
     signal(SIGPIPE, SIG_IGN);
     size_t all_calls = (size_t)load.clients * (size_t)load.calls;
     client *all = calloc((size_t)load.clients, sizeof *all);

@@ -18,6 +18,10 @@ import (
 	"syscall"
 	"testing"
 	"time"
+
+	"github.com/hashicorp/raft"
+
+	"nrbpf"
 )
 
 // A run has an end: so many steps of so many clients, and so much time in all. A process ends itself later than that.
@@ -439,4 +443,49 @@ func (l *load) value(dump string) uint32 {
 	bytes, err := hex.DecodeString(dump[at+len(before) : at+len(before)+8])
 	l.check(err)
 	return binary.LittleEndian.Uint32(bytes)
+}
+
+// Entries that are applied as a batch are answered as one by one: updates of every kind, an install between them, and lines that are refused.
+func TestBatch(t *testing.T) {
+	manifest, err := nrbpf.ReadManifest("examples/raft/manifest")
+	if err != nil {
+		t.Fatal(err)
+	}
+	lines := []string{"update put " + hexOf(1, 10), "update put " + hexOf(2, 20), "update cas " + hexOf(1, 10, 11), "update cas " + hexOf(1, 10, 12),
+		"install read 0 b700000005000000" + "9500000000000000", "update del " + hexOf(2), "update put " + hexOf(3), "update none -", "", "update put " + hexOf(3, 30)}
+	for k := uint32(0); k < 20; k++ {
+		lines = append(lines, "update put "+hexOf(k, 2*k))
+	}
+	var entries []*raft.Log
+	for k, line := range lines {
+		entries = append(entries, &raft.Log{Index: uint64(k + 1), Type: raft.LogCommand, Data: []byte(line)})
+	}
+	entries = append(entries, &raft.Log{Index: uint64(len(entries) + 1), Type: raft.LogConfiguration})
+	var dumps, answers [2]string
+	for way := range dumps {
+		store, err := newReplica(manifest)
+		if err != nil {
+			t.Fatal(err)
+		}
+		var told []interface{}
+		for _, entry := range entries {
+			if way == 0 && entry.Type == raft.LogCommand {
+				told = append(told, store.Apply(entry))
+			}
+		}
+		if way == 1 {
+			told = store.ApplyBatch(entries)[:len(lines)]
+		}
+		_, text, err := store.dump()
+		if err == nil {
+			err = store.close()
+		}
+		if err != nil {
+			t.Fatal(err)
+		}
+		dumps[way], answers[way] = string(text), fmt.Sprint(told)
+	}
+	if dumps[0] != dumps[1] || answers[0] != answers[1] {
+		t.Fatalf("one by one %s\n%s\nas a batch %s\n%s", answers[0], dumps[0], answers[1], dumps[1])
+	}
 }

@@ -18,10 +18,11 @@ import (
 // readers is how many clients may read at once.
 const readers = 8
 
-// opened is a store with its sessions: one on a node of its own, which makes the updates, and those that read.
+// opened is a store with its sessions: one and a lane on a node of their own, which make the updates, and those that read.
 type opened struct {
 	store   *nrbpf.Store
 	updates *nrbpf.Session
+	lists   *nrbpf.Lane
 	reads   chan *nrbpf.Session
 }
 
@@ -51,7 +52,11 @@ func attach(store *nrbpf.Store) (*opened, error) {
 	if err != nil {
 		return nil, err
 	}
-	in := &opened{store, updates, make(chan *nrbpf.Session, readers)}
+	lists, err := store.AttachLane(0, readers-1)
+	if err != nil {
+		return nil, err
+	}
+	in := &opened{store, updates, lists, make(chan *nrbpf.Session, readers)}
 	for range [readers]int{} {
 		session, err := store.Attach(1)
 		if err != nil {
@@ -67,6 +72,9 @@ func (in *opened) close() error {
 		if err := (<-in.reads).Detach(); err != nil {
 			return err
 		}
+	}
+	if err := in.lists.Detach(); err != nil {
+		return err
 	}
 	if err := in.updates.Detach(); err != nil {
 		return err
@@ -105,6 +113,64 @@ func (r *replica) Apply(entry *raft.Log) interface{} {
 		return err
 	}
 	return answer
+}
+
+// ApplyBatch is Apply of several entries, one behind another. Updates that stand side by side go to the store as a list.
+func (r *replica) ApplyBatch(entries []*raft.Log) []interface{} {
+	told := make([]interface{}, 0, len(entries))
+	for len(told) < len(entries) {
+		rest := entries[len(told):]
+		if list := r.in.updateEach(rest); len(list) > 0 {
+			told = append(told, list...)
+			atomic.StoreUint64(&r.index, rest[len(list)-1].Index)
+		} else if rest[0].Type == raft.LogCommand {
+			told = append(told, r.Apply(rest[0]))
+		} else {
+			told = append(told, nil)
+		}
+	}
+	return told
+}
+
+// updateEach makes the updates that these entries begin with by one call, and tells their answers: none where fewer than two are there, or one of
+// them is refused.
+func (in *opened) updateEach(entries []*raft.Log) []interface{} {
+	calls := in.calls(entries)
+	if len(calls) < 2 {
+		return nil
+	}
+	outcomes, err := in.lists.UpdateEach(calls)
+	if err != nil {
+		return nil
+	}
+	told := make([]interface{}, len(outcomes))
+	for k, it := range outcomes {
+		// The stores are equal only if each has the log's order. A lane that alone updates a node keeps it.
+		if k > 0 && it.Err == nil && it.Point <= outcomes[k-1].Point {
+			panic("raft: the store has another order of updates than the log")
+		}
+		if told[k] = it.Answer; it.Err != nil {
+			told[k] = it.Err
+		}
+	}
+	return told
+}
+
+// calls are the updates that these entries begin with, no more than a list may have.
+func (in *opened) calls(entries []*raft.Log) []nrbpf.Question {
+	var calls []nrbpf.Question
+	for _, entry := range entries {
+		words := strings.Fields(string(entry.Data))
+		if entry.Type != raft.LogCommand || len(calls) == in.lists.Slots() || len(words) == 0 || words[0] != "update" {
+			break
+		}
+		number, argument, err := in.call(words[1:])
+		if err != nil {
+			break
+		}
+		calls = append(calls, nrbpf.Question{Program: number, Argument: argument})
+	}
+	return calls
 }
 
 func (in *opened) update(words []string) (nrbpf.Answer, error) {

@@ -15,19 +15,20 @@ REFUSED = {"S5", "H1", "H2", "H3", "H11"}
 
 
 class Shared:
-    """A store, a session and a state, which any thread uses, ends and makes anew."""
+    """A store, a session, a lane and a state, which any thread uses, ends and makes anew."""
 
     def __init__(self):
         self.manifest = example("counter")
         self.store = self.open()
         self.session, self.state = self.store.attach(), self.store.new_state()
+        self.lane = self.store.attach_lane(0, 2)
         self.odd = set()
 
     def open(self):
-        return nrbpf.open(self.manifest, nodes=2, slots=2, spare=1)
+        return nrbpf.open(self.manifest, nodes=2, slots=4, spare=1)
 
     def calls(self):
-        key, store, session, state = u32(3), self.store, self.session, self.state
+        key, store, session, lane, state = u32(3), self.store, self.session, self.lane, self.state
         return [
             store.close,
             session.detach,
@@ -36,10 +37,15 @@ class Shared:
             session.poll,
             lambda: setattr(self, "store", self.open()),
             lambda: setattr(self, "session", store.attach(1)),
+            lambda: setattr(self, "lane", store.attach_lane(0, 2)),
             lambda: setattr(self, "state", store.new_state()),
             lambda: setattr(self, "state", store.close_into()),
             lambda: session.update(0, key),
             lambda: session.try_update(0, key),
+            lane.detach,
+            lane.poll_each,
+            lambda: lane.update_each([(0, key)] * 2),
+            lambda: lane.try_update_each([(0, key)] * 2),
             lambda: session.read_each([(1, key)] * 16),
             lambda: session.get(0, key),
             lambda: list(session.scan(0)),

@@ -127,17 +127,17 @@ errors! {
         UnknownPlace = 'S' 10: "S10: the map has no such place",
         KeyLength = 'S' 11: "S11: the map's keys have another length",
         ValueLength = 'S' 12: "S12: the map's values have another length",
-        NoSession = 'H' 1: "H1: every session of the node is attached, or there is no such node",
-        Detached = 'H' 2: "H2: the session is not attached",
-        Unanswered = 'H' 3: "H3: an update is posted on this session and not answered: `poll` or `wait` comes first",
+        NoSession = 'H' 1: "H1: the node has too few free sessions, or there is no such node",
+        Detached = 'H' 2: "H2: the session or the lane is not attached",
+        Unanswered = 'H' 3: "H3: an update is posted on this session or lane and not answered: `poll` or `wait` comes first",
         NotUtf8 = 'H' 4: "H4: a text is not UTF-8",
-        BadCall = 'H' 5: "H5: more than 16 questions",
+        BadCall = 'H' 5: "H5: more than 16 questions, more calls than a lane has slots, or a lane of no or more than 16 slots",
         OtherStore = 'H' 6: "H6: the session is of another store",
         NullPointer = 'H' 7: "H7: a null pointer",
         OtherVersion = 'H' 8: "H8: this crate was made for a header that the library does not know",
         OtherSizes = 'H' 9: "H9: the state has other maps, or another number of places, than the store",
         Stopped = 'H' 10: "H10: a dump's writer had enough",
-        NothingPosted = 'H' 11: "H11: no update is posted on this session",
+        NothingPosted = 'H' 11: "H11: no update is posted on this session or lane",
     }
     line {
         BadLine = 'C' 1: "C1: no line of a manifest, or its program file is not among those given",
@@ -183,10 +183,10 @@ impl From<Error> for io::Error {
     }
 }
 
-/// Why [`Session::read_each`](crate::Session::read_each) answered nothing.
+/// Why [`Session::read_each`](crate::Session::read_each) or [`Lane::update_each`](crate::Lane::update_each) answered nothing.
 #[derive(Clone, Copy, Debug, PartialEq, Eq, Hash)]
 pub struct QuestionRefused {
-    /// The first question that is refused, with S1 to S3; of other refusals none.
+    /// The first question or call that is refused, with S1 to S3; of other refusals none.
     pub question: Option<usize>,
     /// Why.
     pub why: Error,

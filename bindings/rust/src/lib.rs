@@ -2,6 +2,7 @@
 
 mod error;
 mod facts;
+mod lane;
 mod manifest;
 mod session;
 mod state;
@@ -12,6 +13,7 @@ pub mod sys;
 pub use error::NAMES;
 pub use error::{Error, QuestionRefused, Refusal};
 pub use facts::{MapInfo, MapShape, ProgramFacts, ProgramInfo, StoreInfo};
+pub use lane::{Lane, TriedEach, MOST_SLOTS};
 pub use manifest::Manifest;
 pub use session::{Answer, Found, Mode, Page, Question, Scan, Session, Tried, REPLY_INVALID, REPLY_NO_ROOM};
 pub use state::State;

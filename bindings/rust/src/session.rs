@@ -92,7 +92,7 @@ impl Page {
     }
 }
 
-/// A read of [`Session::read_each`].
+/// A call of [`Session::read_each`] or [`Lane::update_each`](crate::Lane::update_each).
 #[derive(Clone, Copy)]
 #[repr(transparent)]
 pub struct Question<'a> {

@@ -1,7 +1,7 @@
 //! Stores, which all threads share, and their sizes.
 
 use crate::error::{check, check_with};
-use crate::{sys, Error, Manifest, MapShape, Session, State};
+use crate::{sys, Error, Lane, Manifest, MapShape, Session, State};
 use std::fmt;
 use std::mem::ManuallyDrop;
 use std::ptr::{null_mut, NonNull};
@@ -202,6 +202,31 @@ impl Store {
         // SAFETY: the store is open as long as this value.
         check(unsafe { sys::nrbpf_attach(self.at.as_ptr(), node, &mut out) })?;
         Ok(NonNull::new(out).expect("an attached session is somewhere"))
+    }
+
+    /// Some free sessions of a node as one lane, at most [`MOST_SLOTS`](crate::MOST_SLOTS). It borrows the store.
+    ///
+    /// # Errors
+    ///
+    /// H1: fewer sessions of the node are free, or there is no such node. H5: no slots, or too many.
+    pub fn attach_lane(&self, node: u32, slots: u32) -> Result<Lane<'_>, Error> {
+        Ok(Lane::borrowing(self, self.attached_lane(node, slots)?, slots))
+    }
+
+    /// The same of a store that several own: the lane is one of them, and lives as long as it likes.
+    ///
+    /// # Errors
+    ///
+    /// Those of [`attach_lane`](Store::attach_lane).
+    pub fn attach_lane_shared(self: &Arc<Store>, node: u32, slots: u32) -> Result<Lane<'static>, Error> {
+        Ok(Lane::sharing(Arc::clone(self), self.attached_lane(node, slots)?, slots))
+    }
+
+    fn attached_lane(&self, node: u32, slots: u32) -> Result<NonNull<sys::nrbpf_lane>, Error> {
+        let mut out = null_mut();
+        // SAFETY: the store is open as long as this value.
+        check(unsafe { sys::nrbpf_attach_lane(self.at.as_ptr(), node, slots, &mut out) })?;
+        Ok(NonNull::new(out).expect("an attached lane is somewhere"))
     }
 
     /// A state for snapshots of this store. It takes the memory of one node's maps.

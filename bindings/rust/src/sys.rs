@@ -1,10 +1,10 @@
-//! The functions and structs of `nrbpf.h`, version 2.2, as they stand there.
+//! The functions and structs of `nrbpf.h`, version 2.3, as they stand there.
 
 #![allow(missing_docs, non_camel_case_types)]
 
 use std::ffi::{c_char, c_int, c_void};
 
-pub const NRBPF_VERSION: u32 = 2_002;
+pub const NRBPF_VERSION: u32 = 2_003;
 pub const NRBPF_OK: u32 = 0;
 pub const NRBPF_BUSY: u32 = 1;
 pub const NRBPF_POSTED: u32 = 2;
@@ -19,6 +19,11 @@ pub struct nrbpf_store {
 
 #[repr(C)]
 pub struct nrbpf_session {
+    _own: [u8; 0],
+}
+
+#[repr(C)]
+pub struct nrbpf_lane {
     _own: [u8; 0],
 }
 
@@ -104,6 +109,14 @@ pub struct nrbpf_question {
     pub argument: *const c_void,
     pub len: usize,
     pub program: u16,
+}
+
+#[repr(C)]
+#[derive(Clone, Copy, Debug, Default)]
+pub struct nrbpf_outcome {
+    pub point: u64,
+    pub reply: u64,
+    pub status: u32,
 }
 
 #[repr(C)]
@@ -268,6 +281,23 @@ extern "C" {
         point: *mut u64,
         why: *mut nrbpf_error,
     ) -> u32;
+    pub fn nrbpf_attach_lane(store: *mut nrbpf_store, node: u32, slots: u32, out: *mut *mut nrbpf_lane) -> u32;
+    pub fn nrbpf_detach_lane(lane: *mut nrbpf_lane) -> u32;
+    pub fn nrbpf_update_each(
+        lane: *mut nrbpf_lane,
+        calls: *const nrbpf_question,
+        count: usize,
+        outcomes: *mut nrbpf_outcome,
+        why: *mut nrbpf_error,
+    ) -> u32;
+    pub fn nrbpf_try_update_each(
+        lane: *mut nrbpf_lane,
+        calls: *const nrbpf_question,
+        count: usize,
+        outcomes: *mut nrbpf_outcome,
+        why: *mut nrbpf_error,
+    ) -> u32;
+    pub fn nrbpf_poll_each(lane: *mut nrbpf_lane, outcomes: *mut nrbpf_outcome) -> u32;
     pub fn nrbpf_map_info(session: *mut nrbpf_session, map: u32, out: *mut nrbpf_map_facts, size: usize) -> u32;
     pub fn nrbpf_try_map_info(session: *mut nrbpf_session, map: u32, out: *mut nrbpf_map_facts, size: usize) -> u32;
     pub fn nrbpf_program_info(session: *mut nrbpf_session, program: u16, out: *mut nrbpf_program_facts, size: usize) -> u32;

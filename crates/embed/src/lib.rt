@@ -20,17 +20,17 @@ ghost use Rattle.host_calls.specs.contracts.handles.StateHandle.{the_row as the_
 ghost use Rattle.host_calls.specs.contracts.handles.StoreHandle.{the_row as the_store};
 ghost use Rattle.host_calls.specs.contracts.handles.TextHandle.{the_row as the_text};
 
-use host_calls::calls::called;
-use host_calls::closing::{closed_into, dropped};
+use host_calls::calls::call;
+use host_calls::closing::{close_into, drop_state};
 use host_calls::describing::{
-    MapWords, ProgramWords, StoreWords, map_described, program_described, store_described,
+    MapWords, ProgramWords, StoreWords, describe_map, describe_program, describe_store,
 };
 use host_calls::handles::{Asking, Opening, SessionHandle, StateHandle, StoreHandle, TextHandle};
-use host_calls::loading::loaded_text;
-use host_calls::looks::{answered_each, got, scanned, snapped};
-use host_calls::opening::{opened, opened_on};
-use host_calls::states::{dropped_text, dumped, made, part};
-use host_calls::stores::{attached, closed, detached, numbered};
+use host_calls::loading::load_text;
+use host_calls::looks::{get, read_each, scan, snapshot};
+use host_calls::opening::{open, open_on};
+use host_calls::states::{drop_text, dump_state, make_state, part};
+use host_calls::stores::{attach, close, detach, find_number};
 use std::alloc::Global;
 
 // The interface that a host is compiled for: 1000 times the major number, and the minor one.
@@ -82,7 +82,7 @@ pub unsafe extern "C" fn nrbpf_raw_open(alloc: Global, opening: &Opening, at: *m
     requires* { sem 𝓛 (room_at the_store at) }
     ensures* { ∃ₛ (λ after. sem 𝓛 (holds_store at after) ∗ ⌜ IsOpened opening.now None after ⌝) }
 {
-    std::ptr::write(at as *mut StoreHandle, opened(alloc, opening));
+    std::ptr::write(at as *mut StoreHandle, open(alloc, opening));
 }
 
 /// `nrbpf_raw_open`, but on the state of a handle, or on a new one if the handle has none.
@@ -99,7 +99,7 @@ pub unsafe extern "C" fn nrbpf_raw_open_on(
 {
     std::ptr::write(
         at as *mut StoreHandle,
-        opened_on(alloc, opening, &mut *(state as *mut StateHandle)),
+        open_on(alloc, opening, &mut *(state as *mut StateHandle)),
     );
 }
 
@@ -110,7 +110,7 @@ pub unsafe extern "C" fn nrbpf_raw_number(at: *mut u8)
     requires* { sem 𝓛 (holds_store at value) }
     ensures* { ∃ₛ (λ after. sem 𝓛 (holds_store at after) ∗ ⌜ Finds value after ⌝) }
 {
-    numbered(&mut *(at as *mut StoreHandle));
+    find_number(&mut *(at as *mut StoreHandle));
 }
 
 /// Gives a session of the node in the store's words, and writes its handle. It is closed where there is none.
@@ -122,7 +122,7 @@ pub unsafe extern "C" fn nrbpf_raw_attach(at: *mut u8, room: *mut u8)
 {
     std::ptr::write(
         room as *mut SessionHandle,
-        attached(&mut *(at as *mut StoreHandle)),
+        attach(&mut *(at as *mut StoreHandle)),
     );
 }
 
@@ -133,7 +133,7 @@ pub unsafe extern "C" fn nrbpf_raw_detach(at: *mut u8, session: *mut u8)
     requires* { sem 𝓛 (holds_store at values.0) ∗ sem 𝓛 (holds_session session values.1) ∗ ⌜ IsItsOwn values.0 values.1 ⌝ }
     ensures* { ∃ₛ (λ after. ∃ₛ (λ left. sem 𝓛 (holds_store at after) ∗ sem 𝓛 (holds_session session left) ∗ ⌜ Takes values.0 values.1 after left ⌝)) }
 {
-    detached(
+    detach(
         &mut *(at as *mut StoreHandle),
         &mut *(session as *mut SessionHandle),
     );
@@ -146,7 +146,7 @@ pub unsafe extern "C" fn nrbpf_raw_close(at: *mut u8)
     requires* { sem 𝓛 (holds_store at value) }
     ensures* { ∃ₛ (λ left. sem 𝓛 (holds_store at left) ∗ ⌜ Closes value left ⌝) }
 {
-    closed(&mut *(at as *mut StoreHandle));
+    close(&mut *(at as *mut StoreHandle));
 }
 
 /// Ends a store whose sessions are all back, and writes the handle of the state that it ends in. That has none where there is none.
@@ -158,7 +158,7 @@ pub unsafe extern "C" fn nrbpf_raw_close_into(alloc: Global, at: *mut u8, room: 
 {
     std::ptr::write(
         room as *mut StateHandle,
-        closed_into(alloc, &mut *(at as *mut StoreHandle)),
+        close_into(alloc, &mut *(at as *mut StoreHandle)),
     );
 }
 
@@ -169,7 +169,7 @@ pub unsafe extern "C" fn nrbpf_raw_drop_state(at: *mut u8)
     requires* { sem 𝓛 (holds_state at value) }
     ensures* { sem 𝓛 (room_at the_state at) }
 {
-    dropped(&mut *(at as *mut StateHandle));
+    drop_state(&mut *(at as *mut StateHandle));
 }
 
 /// Makes the call that the session's words ask for.
@@ -179,7 +179,7 @@ pub unsafe extern "C" fn nrbpf_raw_call(at: *mut u8)
     requires* { sem 𝓛 (holds_session at value) }
     ensures* { ∃ₛ (λ after. sem 𝓛 (holds_session at after) ∗ ⌜ Goes value after ⌝) }
 {
-    called(&mut *(at as *mut SessionHandle));
+    call(&mut *(at as *mut SessionHandle));
 }
 
 /// Makes a new state of the store's sizes, and writes its handle. That has none where there is none.
@@ -191,7 +191,7 @@ pub unsafe extern "C" fn nrbpf_raw_new_state(alloc: Global, at: *mut u8, room: *
 {
     std::ptr::write(
         room as *mut StateHandle,
-        made(alloc, &mut *(at as *mut StoreHandle)),
+        make_state(alloc, &mut *(at as *mut StoreHandle)),
     );
 }
 
@@ -202,7 +202,7 @@ pub unsafe extern "C" fn nrbpf_raw_get(at: *mut u8, map: u32, key: &[u8], value:
     requires* { sem 𝓛 (holds_session at before) }
     ensures* { ∃ₛ (λ after. sem 𝓛 (holds_session at after) ∗ ⌜ Gets map key.now value.old value.new before after ⌝) }
 {
-    got(&mut *(at as *mut SessionHandle), map, key, value);
+    get(&mut *(at as *mut SessionHandle), map, key, value);
 }
 
 /// Gives entries of a map from a place on, their keys one after another in `keys` and their values in `values`.
@@ -218,7 +218,7 @@ pub unsafe extern "C" fn nrbpf_raw_scan(
     requires* { sem 𝓛 (holds_session at before) }
     ensures* { ∃ₛ (λ after. sem 𝓛 (holds_session at after) ∗ ⌜ Scans map from keys.old keys.new values.old values.new before after ⌝) }
 {
-    scanned(&mut *(at as *mut SessionHandle), map, from, keys, values);
+    scan(&mut *(at as *mut SessionHandle), map, from, keys, values);
 }
 
 /// Answers several questions at one point, each in `replies` at its number. With none it brings the session's node up to that point.
@@ -228,7 +228,7 @@ pub unsafe extern "C" fn nrbpf_raw_read_each(at: *mut u8, questions: &[Asking], 
     requires* { sem 𝓛 (holds_session at before) }
     ensures* { ∃ₛ (λ after. sem 𝓛 (holds_session at after) ∗ ⌜ Answers questions.now replies.old replies.new before after ⌝) }
 {
-    answered_each(&mut *(at as *mut SessionHandle), questions, replies);
+    read_each(&mut *(at as *mut SessionHandle), questions, replies);
 }
 
 /// Makes a state that of the store at one point of the history.
@@ -238,7 +238,7 @@ pub unsafe extern "C" fn nrbpf_raw_snapshot(at: *mut u8, state: *mut u8)
     requires* { sem 𝓛 (holds_session at values.0) ∗ sem 𝓛 (holds_state state values.1) }
     ensures* { ∃ₛ (λ after. ∃ₛ (λ left. sem 𝓛 (holds_session at after) ∗ sem 𝓛 (holds_state state left) ∗ ⌜ Snaps values.0 after values.1 left ⌝)) }
 {
-    snapped(
+    snapshot(
         &mut *(at as *mut SessionHandle),
         &mut *(state as *mut StateHandle),
     );
@@ -253,7 +253,7 @@ pub unsafe extern "C" fn nrbpf_raw_dump(alloc: Global, state: *mut u8, room: *mu
 {
     std::ptr::write(
         room as *mut TextHandle,
-        dumped(alloc, &mut *(state as *mut StateHandle)),
+        dump_state(alloc, &mut *(state as *mut StateHandle)),
     );
 }
 
@@ -274,7 +274,7 @@ pub unsafe extern "C" fn nrbpf_raw_drop_text(at: *mut u8)
     requires* { sem 𝓛 (holds_text at value) }
     ensures* { sem 𝓛 (room_at the_text at) }
 {
-    dropped_text(&mut *(at as *mut TextHandle));
+    drop_text(&mut *(at as *mut TextHandle));
 }
 
 /// Loads a text as a state, and writes its handle. That has none where the text or the manifest is refused.
@@ -288,7 +288,7 @@ pub unsafe extern "C" fn nrbpf_raw_load(
     requires* { sem 𝓛 (room_at the_state room) }
     ensures* { ∃ₛ (λ given. sem 𝓛 (holds_state room given) ∗ ⌜ IsLoaded opening.now text.now given ⌝) }
 {
-    std::ptr::write(room as *mut StateHandle, loaded_text(alloc, opening, text));
+    std::ptr::write(room as *mut StateHandle, load_text(alloc, opening, text));
 }
 
 /// Writes what the map is whose number is in the words.
@@ -298,7 +298,7 @@ pub unsafe extern "C" fn nrbpf_raw_map_info(at: *mut u8, words: *mut u8)
     requires* { sem 𝓛 (holds_session at values.0) ∗ sem 𝓛 (holds_map words values.1) }
     ensures* { ∃ₛ (λ after. ∃ₛ (λ left. sem 𝓛 (holds_session at after) ∗ sem 𝓛 (holds_map words left) ∗ ⌜ DescribesMap values.0 after values.1 left ⌝)) }
 {
-    map_described(
+    describe_map(
         &mut *(at as *mut SessionHandle),
         &mut *(words as *mut MapWords),
     );
@@ -311,7 +311,7 @@ pub unsafe extern "C" fn nrbpf_raw_program_info(at: *mut u8, words: *mut u8)
     requires* { sem 𝓛 (holds_session at values.0) ∗ sem 𝓛 (holds_program words values.1) }
     ensures* { ∃ₛ (λ after. ∃ₛ (λ left. sem 𝓛 (holds_session at after) ∗ sem 𝓛 (holds_program words left) ∗ ⌜ DescribesProgram values.0 after values.1 left ⌝)) }
 {
-    program_described(
+    describe_program(
         &mut *(at as *mut SessionHandle),
         &mut *(words as *mut ProgramWords),
     );
@@ -324,7 +324,7 @@ pub unsafe extern "C" fn nrbpf_raw_store_info(at: *mut u8, words: *mut u8)
     requires* { sem 𝓛 (holds_store at values.0) ∗ sem 𝓛 (holds_facts words values.1) }
     ensures* { ∃ₛ (λ after. ∃ₛ (λ left. sem 𝓛 (holds_store at after) ∗ sem 𝓛 (holds_facts words left) ∗ ⌜ DescribesStore values.0 after values.1 left ⌝)) }
 {
-    store_described(
+    describe_store(
         &mut *(at as *mut StoreHandle),
         &mut *(words as *mut StoreWords),
     );

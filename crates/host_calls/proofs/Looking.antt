@@ -6,7 +6,7 @@ use Rattle.store.specs.Looks.{TellsTried, TriedGoes, IfUnanswered}
 use Rattle.host_calls.specs.declared.attached.Looked.{Looked}
 use Rattle.host_calls.specs.declared.attached.Looked.TheVariants.{IsOut}
 use Rattle.host_calls.specs.Looks.{TellsLook, TellsNo, TellsSight, look_of}
-use Rattle.host_calls.specs.Told.{HasGrown}
+use Rattle.host_calls.specs.CallResults.{HasGrown}
 
 -- what a try tells of its answer, and how it went
 pub both : {A E : Type 0} (P Q : A → Type 0) (result : Result (Option A) E) → TellsTried result P → TriedGoes result Q → TellsTried result (λ a. P a × Q a)

@@ -13,16 +13,16 @@ use Rattle.store_steps.specs.Polling.{HasAskedFor}
 use Rattle.store_steps.specs.Views.{SessionView}
 use Rattle.store.specs.Polled.{HasPostedFor}
 use Rattle.store_steps.proofs.Export.{store_laws}
-use Rattle.host_calls.specs.declared.attached.Told.{Told}
-use Rattle.host_calls.specs.declared.attached.Told.TheVariants.{Busy, Again, Answered, Refused, NotOpen, IsOut, NoWord}
-use Rattle.host_calls.specs.Told.{HasGrown, TellsOut, TellsPosting, TellsRefused, TellsUpdate}
+use Rattle.host_calls.specs.declared.attached.CallResult.{CallResult}
+use Rattle.host_calls.specs.declared.attached.CallResult.TheVariants.{Busy, Again, Answered, Refused, NotOpen, IsOut, NoWord, Allowed}
+use Rattle.host_calls.specs.CallResults.{HasGrown, TellsOut, TellsPosting, TellsRefused, TellsUpdate}
 
 pub none_of : {A : Type 0} (x : Option A) → ((a : A) → x ≡ Some a → ⊥) → x ≡ None
 none_of None never = refl
 none_of (Some a) never = absurd (never a refl)
 
 -- what is told of a request that was posted within the call
-out_from : (old mid new : SessionView) (o : Pending) (told : Told) → mid.session ≡ old.session → record mid.note { batch = [] } ≡ record old.note { pending = Some o; batch = [] } → TellsOut mid new o told → TellsOut old new o told
+out_from : (old mid new : SessionView) (o : Pending) (told : CallResult) → mid.session ≡ old.session → record mid.note { batch = [] } ≡ record old.note { pending = Some o; batch = [] } → TellsOut mid new o told → TellsOut old new o told
 out_from old mid new o Again same note t = (t.0, t.1 ∙ ap (λ (n : SessionNote). n.answered) note)
 out_from old mid new o (Answered place reply) same note t =
     let at = subst (λ n. Tells store_meaning new.progress mid.session (length n.answered) o (Placed place reply) × (new.note ≡ answered_with (record n { batch = [] }) o.op (Placed place reply))) note t in
@@ -34,8 +34,9 @@ out_from old mid new o Busy same note t = t
 out_from old mid new o NotOpen same note t = t
 out_from old mid new o IsOut same note t = t
 out_from old mid new o NoWord same note t = t
+out_from old mid new o Allowed same note t = t
 
-posting : (op : Operation) (old new : SessionView) (o : Pending) (told : Told) → o.op ≡ op → length old.progress.history ≤ o.seen → TellsOut old new o told → TellsPosting op old new told
+posting : (op : Operation) (old new : SessionView) (o : Pending) (told : CallResult) → o.op ≡ op → length old.progress.history ≤ o.seen → TellsOut old new o told → TellsPosting op old new told
 posting op old new o Busy is seen t = absurd t
 posting op old new o Again is seen t = (o, is, seen, t)
 posting op old new o (Answered place reply) is seen t = (o, is, seen, t)
@@ -43,12 +44,13 @@ posting op old new o (Refused why) is seen t = (o, is, seen, t)
 posting op old new o NotOpen is seen t = absurd t
 posting op old new o IsOut is seen t = absurd t
 posting op old new o NoWord is seen t = absurd t
+posting op old new o Allowed is seen t = absurd t
 
 -- who has posted has asked
 pub asked_for : (old mid : SessionView) (op : Operation) → HasPostedFor old mid op → HasAskedFor old mid op
 asked_for old mid op (o, is, seen, note) = (o, is, seen, ap (λ (n : SessionNote). record n { batch = [] }) note)
 
-pub posted_then : (op : Operation) (refused : Option StoreRefused) (old mid new : SessionView) (told : Told) → old.note.pending ≡ None → refused ≡ None → HasAskedFor old mid op → mid.session ≡ old.session
+pub posted_then : (op : Operation) (refused : Option StoreRefused) (old mid new : SessionView) (told : CallResult) → old.note.pending ≡ None → refused ≡ None → HasAskedFor old mid op → mid.session ≡ old.session
     → Extends old.progress mid.progress → HasGrown mid new → ((o : Pending) → mid.note.pending ≡ Some o → TellsOut mid new o told) → TellsUpdate op refused old new told
 posted_then op refused old mid new told idle none (o, is, seen, note) same grew grown tells =
     let at = posting op old new o told is seen (out_from old mid new o told same note (tells o (ap (λ (n : SessionNote). n.pending) note))) in (

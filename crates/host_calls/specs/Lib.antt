@@ -2,7 +2,7 @@
 pub mod Statuses
 pub mod Views
 pub mod Codes
-pub mod Told
+pub mod CallResults
 pub mod Calls
 pub mod Looks
 pub mod Describing

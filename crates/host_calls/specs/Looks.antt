@@ -28,7 +28,7 @@ use Rattle.host_calls.specs.declared.handles.SessionHandle.{SessionHandle}
 use Rattle.host_calls.specs.declared.handles.StateHandle.{StateHandle}
 use Rattle.host_calls.specs.declared.handles.TheConstants.{MOST_ASKED, AT_END}
 use Rattle.host_calls.specs.Statuses.{busy, done, is_out, letter_S, no_word, not_open, other_sizes, refusal}
-use Rattle.host_calls.specs.Told.{HasGrown}
+use Rattle.host_calls.specs.CallResults.{HasGrown}
 use Rattle.host_calls.specs.Views.{AttachedView, IsSame}
 
 -- ---- what is told

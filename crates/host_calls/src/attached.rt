@@ -4,13 +4,16 @@ ghost use Rattle.std.specs.Prelude.{◌≡◌, ◌≤◌, None, Some, true, fals
 ghost use Rattle.std.specs.Arc.{arc_value};
 ghost use Rattle.accounts.specs.declared.sessions.Pending.{Pending};
 ghost use Rattle.store.specs.Sessions.{IsOf};
-ghost use Rattle.host_calls.specs.Calls.{TellsCall, asks_install, asks_read, asks_update, asks_within};
+ghost use Rattle.replica.specs.Refusals.{early_refusal};
+ghost use Rattle.verifier.specs.declared.refusal.Mode.TheVariants.{Update};
+ghost use Rattle.host_calls.specs.Calls.{TellsCall, asks_install, asks_post, asks_read, asks_update, asks_within, check_result};
 ghost use Rattle.host_calls.specs.Looks.{TellsAnswers, TellsGot, TellsMany, TellsScanned, TellsSnapped, look_each, next_word, questions_of};
-ghost use Rattle.host_calls.specs.Told.{HasGrown, TellsOut};
+ghost use Rattle.host_calls.specs.CallResults.{HasGrown, TellsOut};
 ghost use Rattle.host_calls.specs.Views.{IsSame};
 
 use crate::handles::{AT_END, Asking, MOST_ASKED};
 use crate::statuses::{OTHER_SIZES, refusal};
+use replica::check_call;
 use std::alloc::Global;
 use std::marker::Model;
 use std::sync::Arc;
@@ -45,12 +48,12 @@ impl Model for Attached {
 
 /// What a call on a session answers.
 #[derive(Clone, Copy, Debug, PartialEq, Eq)]
-pub enum Told {
+pub enum CallResult {
     /// Another session held a place, and nothing has changed.
     Busy,
     /// An update is posted, and not answered.
     Again,
-    //// A point, and the reply there.
+    /// A point, and the reply there.
     Answered { point: u64, reply: u64 },
     /// The store refuses the call.
     Refused(StoreRefused),
@@ -60,6 +63,8 @@ pub enum Told {
     IsOut,
     /// H5: a word is none of a call.
     NoWord,
+    /// The store would not refuse the update. Nothing is done.
+    Allowed,
 }
 
 /// What a look at the maps of a session's node answers.
@@ -180,7 +185,7 @@ impl Attached {
     }
 
     // Goes on with the update that is out.
-    fn go_on(&mut self) -> Told
+    fn go_on(&mut self) -> CallResult
         requires out { (o : Pending) × (self.old.session.note.pending ≡ Some o) }
         ensures same { IsSame self.old self.new }
         ensures grown { HasGrown self.old.session self.new.session }
@@ -188,9 +193,9 @@ impl Attached {
     {
         let Attached { store, session, .. } = self;
         match session.try_complete(store) {
-            None => Told::Again,
-            Some(Err(why)) => Told::Refused(why),
-            Some(Ok(answer)) => Told::Answered {
+            None => CallResult::Again,
+            Some(Err(why)) => CallResult::Refused(why),
+            Some(Ok(answer)) => CallResult::Answered {
                 point: answer.index,
                 reply: answer.reply,
             },
@@ -198,7 +203,7 @@ impl Attached {
     }
 
     /// Posts an update, or goes on with the one that is out.
-    pub fn update(&mut self, program: u16, argument: &[u8]) -> Told
+    pub fn update(&mut self, program: u16, argument: &[u8]) -> CallResult
         ensures same { IsSame self.old self.new }
         ensures tells { TellsCall (asks_update self.old.store program argument.now) self.old.session self.new.session result }
     {
@@ -207,14 +212,40 @@ impl Attached {
         }
         let Attached { store, session, .. } = &mut *self;
         match session.try_update(store, program, argument) {
-            Err(why) => Told::Refused(why),
-            Ok(None) => Told::Busy,
+            Err(why) => CallResult::Refused(why),
+            Ok(None) => CallResult::Busy,
             Ok(Some(())) => self.go_on(),
         }
     }
 
+    /// Posts an update and nothing more, or goes on with the one that is out.
+    pub fn post(&mut self, program: u16, argument: &[u8]) -> CallResult
+        ensures same { IsSame self.old self.new }
+        ensures tells { TellsCall (asks_post self.old.store program argument.now) self.old.session self.new.session result }
+    {
+        if self.is_waiting() {
+            return self.go_on();
+        }
+        let Attached { store, session, .. } = &mut *self;
+        match session.try_post(store, program, argument) {
+            Err(why) => CallResult::Refused(why),
+            Ok(None) => CallResult::Busy,
+            Ok(Some(())) => CallResult::Again,
+        }
+    }
+
+    /// Whether the store refuses this update. Nothing is done.
+    pub fn check(&self, program: u16, argument: &[u8]) -> CallResult
+        ensures checks { result ≡ check_result (early_refusal self.now.store.catalogue Update program argument.now) }
+    {
+        match check_call(self.store.catalogue(), Mode::Update, program, argument) {
+            Err(why) => CallResult::Refused(why),
+            Ok(()) => CallResult::Allowed,
+        }
+    }
+
     /// Posts an install, or goes on with the update that is out.
-    pub fn install(&mut self, mode: Mode, argument: u64, bytes: &[u8]) -> Told
+    pub fn install(&mut self, mode: Mode, argument: u64, bytes: &[u8]) -> CallResult
         ensures same { IsSame self.old self.new }
         ensures tells { TellsCall (asks_install self.old.store mode argument bytes.now) self.old.session self.new.session result }
     {
@@ -223,14 +254,20 @@ impl Attached {
         }
         let Attached { store, session, .. } = &mut *self;
         match session.try_install(store, mode, argument as usize, bytes) {
-            Err(why) => Told::Refused(why),
-            Ok(None) => Told::Busy,
+            Err(why) => CallResult::Refused(why),
+            Ok(None) => CallResult::Busy,
             Ok(Some(())) => self.go_on(),
         }
     }
 
     /// Posts an install of a program that may name these maps alone, or goes on with the update that is out.
-    pub fn install_within(&mut self, maps: u16, mode: Mode, argument: u64, bytes: &[u8]) -> Told
+    pub fn install_within(
+        &mut self,
+        maps: u16,
+        mode: Mode,
+        argument: u64,
+        bytes: &[u8],
+    ) -> CallResult
         ensures same { IsSame self.old self.new }
         ensures tells { TellsCall (asks_within self.old.store maps mode argument bytes.now) self.old.session self.new.session result }
     {
@@ -245,25 +282,25 @@ impl Attached {
         };
         let Attached { store, session, .. } = &mut *self;
         match session.try_install_within(store, program) {
-            Err(why) => Told::Refused(why),
-            Ok(None) => Told::Busy,
+            Err(why) => CallResult::Refused(why),
+            Ok(None) => CallResult::Busy,
             Ok(Some(())) => self.go_on(),
         }
     }
 
     /// Reads, where no update is out.
-    pub fn read(&mut self, program: u16, argument: &[u8]) -> Told
+    pub fn read(&mut self, program: u16, argument: &[u8]) -> CallResult
         ensures same { IsSame self.old self.new }
         ensures tells { TellsCall (asks_read self.old.store program argument.now) self.old.session self.new.session result }
     {
         let Attached { store, session, .. } = self;
         if session.is_waiting() {
-            return Told::IsOut;
+            return CallResult::IsOut;
         }
         match session.try_read(store, program, argument) {
-            Err(why) => Told::Refused(why),
-            Ok(None) => Told::Busy,
-            Ok(Some(answer)) => Told::Answered {
+            Err(why) => CallResult::Refused(why),
+            Ok(None) => CallResult::Busy,
+            Ok(Some(answer)) => CallResult::Answered {
                 point: answer.point,
                 reply: answer.reply,
             },

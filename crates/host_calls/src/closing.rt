@@ -66,7 +66,7 @@ fn end_store(pool: Pool, room: Vec<Session>) -> Option<StoreState>
 }
 
 /// Ends the store, where no session is attached, and gives the state that it ends in.
-pub fn closed_into(alloc: Global, handle: &mut StoreHandle) -> StateHandle
+pub fn close_into(alloc: Global, handle: &mut StoreHandle) -> StateHandle
     ensures leaves { Leaves handle.old handle.new result }
 {
     let Some(pool) = handle.own.take() else {
@@ -93,7 +93,7 @@ pub fn closed_into(alloc: Global, handle: &mut StoreHandle) -> StateHandle
 }
 
 /// Gives a state up.
-pub fn dropped(handle: &mut StateHandle)
+pub fn drop_state(handle: &mut StateHandle)
     ensures { handle.new.own ≡ None }
 {
     handle.own = None;

@@ -239,7 +239,7 @@ impl Attached {
 }
 
 /// Says what a map is: its kind, its sizes, and how many keys it has.
-pub fn map_described(handle: &mut SessionHandle, words: &mut MapWords)
+pub fn describe_map(handle: &mut SessionHandle, words: &mut MapWords)
     ensures describes { DescribesMap handle.old handle.new words.old words.new }
 {
     let SessionHandle { own, answered, .. } = handle;
@@ -251,7 +251,7 @@ pub fn map_described(handle: &mut SessionHandle, words: &mut MapWords)
 }
 
 /// Says what the program of a number is.
-pub fn program_described(handle: &mut SessionHandle, words: &mut ProgramWords)
+pub fn describe_program(handle: &mut SessionHandle, words: &mut ProgramWords)
     ensures describes { DescribesProgram handle.old handle.new words.old words.new }
 {
     let SessionHandle { own, answered, .. } = handle;
@@ -263,7 +263,7 @@ pub fn program_described(handle: &mut SessionHandle, words: &mut ProgramWords)
 }
 
 /// Says what a store is from its opening on.
-pub fn store_described(handle: &mut StoreHandle, words: &mut StoreWords)
+pub fn describe_store(handle: &mut StoreHandle, words: &mut StoreWords)
     ensures describes { DescribesStore handle.old handle.new words.old words.new }
 {
     let Some(pool) = &handle.own else {

@@ -91,9 +91,10 @@ pub struct StoreHandle {
 #[repr(C)]
 #[derive(Clone, Copy)]
 pub struct Asked {
-    /// 0 an update, 1 a read, 2 an install, 3 an install of a program that may name some maps alone.
+    /// 0 an update, 1 a read, 2 an install, 3 an install of a program that may name some maps alone, 4 an update that is posted and nothing more,
+    /// 5 whether the store refuses an update.
     pub call: u64,
-    /// An update or a read: the program's number. 3: the maps, bit m for map m.
+    /// 3: the maps, bit m for map m. Any but an install: the program's number.
     pub program: u16,
     /// An install: 0 for a program that updates, 1 for one that reads.
     pub mode: u64,

@@ -105,7 +105,7 @@ fn answer_for(why: NotLoaded) -> StateAnswered
 }
 
 /// The handle of the state that a text says. It has none where the text or the manifest is refused.
-pub fn loaded_text(alloc: Global, opening: &Opening, text: &[u8]) -> StateHandle
+pub fn load_text(alloc: Global, opening: &Opening, text: &[u8]) -> StateHandle
     ensures loaded { IsLoaded opening.now text.now result }
 {
     match state_of(alloc, opening, text) {

@@ -47,7 +47,7 @@ pub(crate) fn note(answered: &mut Answered, told: Looked)
 }
 
 /// Puts the value under a key of a map into `value`, if the key stands there.
-pub fn got(handle: &mut SessionHandle, map: u32, key: &[u8], value: &mut [u8])
+pub fn get(handle: &mut SessionHandle, map: u32, key: &[u8], value: &mut [u8])
     ensures gets { Gets map key.now value.old value.new handle.old handle.new }
 {
     let map = map as usize;
@@ -60,7 +60,7 @@ pub fn got(handle: &mut SessionHandle, map: u32, key: &[u8], value: &mut [u8])
 }
 
 /// Gives entries of a map from a place on.
-pub fn scanned(handle: &mut SessionHandle, map: u32, from: u32, keys: &mut [u8], values: &mut [u8])
+pub fn scan(handle: &mut SessionHandle, map: u32, from: u32, keys: &mut [u8], values: &mut [u8])
     ensures scans { Scans map from keys.old keys.new values.old values.new handle.old handle.new }
 {
     let map = map as usize;
@@ -73,7 +73,7 @@ pub fn scanned(handle: &mut SessionHandle, map: u32, from: u32, keys: &mut [u8],
 }
 
 /// Answers several questions at one point, each in `replies` at its number.
-pub fn answered_each(handle: &mut SessionHandle, asked: &[Asking<'_>], replies: &mut [u64])
+pub fn read_each(handle: &mut SessionHandle, asked: &[Asking<'_>], replies: &mut [u64])
     ensures answers { Answers asked.now replies.old replies.new handle.old handle.new }
 {
     let SessionHandle { own, answered, .. } = handle;
@@ -85,7 +85,7 @@ pub fn answered_each(handle: &mut SessionHandle, asked: &[Asking<'_>], replies: 
 }
 
 /// Makes a state that of the store at one point of the history.
-pub fn snapped(handle: &mut SessionHandle, state: &mut StateHandle)
+pub fn snapshot(handle: &mut SessionHandle, state: &mut StateHandle)
     ensures snaps { Snaps handle.old handle.new state.old state.new }
 {
     let SessionHandle { own, answered, .. } = handle;

@@ -261,14 +261,14 @@ pub(crate) fn inner_of(error: LoadError) -> (u64, u64)
 }
 
 /// The handle of the store of these texts. It is closed where the store is refused.
-pub fn opened(alloc: Global, opening: &Opening) -> StoreHandle
+pub fn open(alloc: Global, opening: &Opening) -> StoreHandle
     ensures opened { IsOpened opening.now None result }
 {
     open_with(alloc, opening, None)
 }
 
-/// `opened`, but on the state of a handle, or on a new one if the handle has none.
-pub fn opened_on(alloc: Global, opening: &Opening, state: &mut StateHandle) -> StoreHandle
+/// `open`, but on the state of a handle, or on a new one if the handle has none.
+pub fn open_on(alloc: Global, opening: &Opening, state: &mut StateHandle) -> StoreHandle
     ensures opened { (state.new ≡ state.old) × IsOpened opening.now state.old.own result }
 {
     open_with(alloc, opening, state.own.as_ref())

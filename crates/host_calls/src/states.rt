@@ -9,7 +9,7 @@ use dumps::dump;
 use std::alloc::Global;
 
 /// A new state of the store's sizes.
-pub fn made(alloc: Global, handle: &mut StoreHandle) -> StateHandle
+pub fn make_state(alloc: Global, handle: &mut StoreHandle) -> StateHandle
     ensures makes { Makes handle.old handle.new result }
 {
     let Some(pool) = &handle.own else {
@@ -29,7 +29,7 @@ pub fn made(alloc: Global, handle: &mut StoreHandle) -> StateHandle
 }
 
 /// A state as text.
-pub fn dumped(alloc: Global, state: &mut StateHandle) -> TextHandle
+pub fn dump_state(alloc: Global, state: &mut StateHandle) -> TextHandle
     ensures dumped { (state.new ≡ state.old) × IsDumped state.old.own result }
 {
     let Some(state) = &state.own else {
@@ -61,7 +61,7 @@ pub fn part(text: &mut TextHandle, from: u64, out: &mut [u8]) -> usize
 }
 
 /// Gives a text up.
-pub fn dropped_text(handle: &mut TextHandle)
+pub fn drop_text(handle: &mut TextHandle)
     ensures { handle.new.own ≡ None }
 {
     handle.own = None;

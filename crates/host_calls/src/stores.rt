@@ -29,7 +29,7 @@ fn number_in(handle: &StoreHandle) -> Result<u16, u64>
 }
 
 /// Answers the number of the program that has the name in the words.
-pub fn numbered(handle: &mut StoreHandle)
+pub fn find_number(handle: &mut StoreHandle)
     ensures finds { Finds handle.old handle.new }
 {
     match number_in(handle) {
@@ -42,7 +42,7 @@ pub fn numbered(handle: &mut StoreHandle)
 }
 
 /// The handle of a session of the node in the words.
-pub fn attached(handle: &mut StoreHandle) -> SessionHandle
+pub fn attach(handle: &mut StoreHandle) -> SessionHandle
     ensures gives { Gives handle.old handle.new result }
 {
     let StoreHandle {
@@ -63,7 +63,7 @@ pub fn attached(handle: &mut StoreHandle) -> SessionHandle
 }
 
 /// Takes the session back, which is one of this store.
-pub fn detached(handle: &mut StoreHandle, session: &mut SessionHandle)
+pub fn detach(handle: &mut StoreHandle, session: &mut SessionHandle)
     requires own { IsItsOwn handle.old session.old }
     ensures takes { Takes handle.old session.old handle.new session.new }
 {
@@ -91,7 +91,7 @@ pub fn detached(handle: &mut StoreHandle, session: &mut SessionHandle)
 }
 
 /// Ends the store, where no session is attached.
-pub fn closed(handle: &mut StoreHandle)
+pub fn close(handle: &mut StoreHandle)
     ensures closes { Closes handle.old handle.new }
 {
     let Some(pool) = &handle.own else {

@@ -12,6 +12,7 @@ so threads wait for each other in the store alone. Make no call in a forked chil
 
 from ._errors import CallError, DumpError, Error, HostError, ManifestError, OpeningError, Pending, Status
 from ._facts import MapInfo, MapShape, Mode, ProgramFacts, ProgramInfo, StoreInfo
+from ._lane import MOST_SLOTS, Lane
 from ._manifest import LARGE, STANDARD, Limits, Manifest, Sizes
 from ._native import VERSION
 from ._session import Answer, Found, Page, Replies, Session
@@ -30,6 +31,7 @@ __all__ = [
     "BUSY",
     "ENDLESS",
     "LARGE",
+    "MOST_SLOTS",
     "POSTED",
     "REPLY_INVALID",
     "REPLY_NO_ROOM",
@@ -41,6 +43,7 @@ __all__ = [
     "Error",
     "Found",
     "HostError",
+    "Lane",
     "Limits",
     "Manifest",
     "ManifestError",

@@ -84,7 +84,7 @@ class Error(Exception):
     code: the same as letter and number, "C4"
     inner: what is wrong with a program, "V18", or ""
     line: of the manifest or the dump, from 1, or 0
-    slot: of the program that `inner` is of; of `read_each` the question's number
+    slot: of the program that `inner` is of; of `read_each` and `update_each` the call's number
     """
 
     def __init__(self, status: int, inner: int = 0, line: int = 0, slot: int = 0) -> None:

@@ -1,4 +1,4 @@
-"""The functions and structs of nrbpf.h, version 2.2, by ctypes, which lets the interpreter's lock go while a call is
+"""The functions and structs of nrbpf.h, version 2.3, by ctypes, which lets the interpreter's lock go while a call is
 made."""
 
 from __future__ import annotations
@@ -8,7 +8,7 @@ import os
 import platform
 import sys
 
-VERSION = 2002
+VERSION = 2003
 
 
 class File(c.Structure):
@@ -44,6 +44,10 @@ class Scanned(c.Structure):
 
 class Asked(c.Structure):
     _fields_ = (("argument", c.c_char_p), ("len", c.c_size_t), ("program", c.c_uint16))
+
+
+class Outcome(c.Structure):
+    _fields_ = (("point", c.c_uint64), ("reply", c.c_uint64), ("status", c.c_uint32))
 
 
 class Confined(c.Structure):
@@ -89,6 +93,7 @@ _WITHIN = [_AT, c.POINTER(Confined), _ANSWER, _WHY]
 _GET = [_AT, c.c_uint32, _TEXT, _SIZE, c.c_void_p, _SIZE, c.POINTER(FoundThere)]
 _SCAN = [_AT, c.c_uint32, c.c_uint32, c.c_void_p, _SIZE, c.c_void_p, _SIZE, c.POINTER(Scanned)]
 _EACH = [_AT, c.POINTER(Asked), _SIZE, _POINT, _POINT, _WHY]
+_LIST = [_AT, c.POINTER(Asked), _SIZE, c.POINTER(Outcome), _WHY]
 
 # What each function takes. Those with a twin that waits for nobody stand in the second table.
 _TAKES = {
@@ -104,6 +109,9 @@ _TAKES = {
     "attach": [_AT, c.c_uint32, _OUT],
     "detach": [_AT],
     "poll": [_AT, _ANSWER],
+    "attach_lane": [_AT, c.c_uint32, c.c_uint32, _OUT],
+    "detach_lane": [_AT],
+    "poll_each": [_AT, c.POINTER(Outcome)],
     "store_info": [_AT, c.POINTER(StoreFacts), _SIZE],
     "state_new": [_AT, _OUT],
     "state_dump": [_AT, Writer, _AT],
@@ -118,6 +126,7 @@ _TWINS = {
     "get": _GET,
     "scan": _SCAN,
     "read_each": _EACH,
+    "update_each": _LIST,
     "map_info": [_AT, c.c_uint32, c.POINTER(MapFacts), _SIZE],
     "program_info": [_AT, c.c_uint16, c.POINTER(ProgramFacts), _SIZE],
     "snapshot": [_AT, _AT, _POINT],

@@ -3,15 +3,14 @@
 from __future__ import annotations
 
 import ctypes
-import threading
 import time
 from collections.abc import Callable, Iterable, Iterator, Sequence
-from types import TracebackType
 from typing import TYPE_CHECKING, Any, NamedTuple
 
 from . import _native
-from ._errors import Error, Pending, Status, check, error_of, pending, within
+from ._errors import Pending, Status, check, error_of, pending, within
 from ._facts import MapInfo, Mode, ProgramInfo
+from ._handle import Handle
 from ._manifest import Buffer, as_bytes
 from ._state import State
 
@@ -57,7 +56,7 @@ class Replies(NamedTuple):
     replies: list[int]
 
 
-class Session:
+class Session(Handle):
     """A session of a store, of `Store.attach`. It is given back by `detach` or a `with`.
 
     A session is one thread's at a time: a second call meanwhile waits for the first, and one with `try_` in its name
@@ -65,14 +64,8 @@ class Session:
     """
 
     def __init__(self, store: Store, node: int) -> None:
-        self._at: int | None = None
-        self._store = store
-        self._lock = threading.Lock()
+        super().__init__(store)
         self._at = store._attached(node)
-
-    @property
-    def store(self) -> Store:
-        return self._store
 
     # ---- Calls
 
@@ -224,62 +217,13 @@ class Session:
         status = self._try(lambda at: into.use(lambda state: _library.nrbpf_try_snapshot(at, state, point)))
         return pending(status) or point.value
 
-    # ---- Its end
-
-    def detach(self) -> None:
-        """Gives the session back. Refused with H3 while an update is posted and not answered; once it is given back
-        this does nothing."""
-        with self._lock:
-            if self._at is None:
-                return
-            check(self._store._given_back(self._at))
-            self._at = None
-
-    def _end(self) -> None:
-        """Gives the session back, once the update is answered that is posted, if there is one."""
-        while True:
-            try:
-                self.detach()
-                return
-            except Error as why:
-                if why.status != Status.UNANSWERED:
-                    raise
-            self._use(lambda at: _library.nrbpf_poll(at, _native.Answered()))
-            time.sleep(0)
-
-    def __enter__(self) -> Session:
-        return self
-
-    def __exit__(
-        self, kind: type[BaseException] | None, why: BaseException | None, trace: TracebackType | None
-    ) -> None:
-        self._end()
-
-    def __del__(self) -> None:
-        if getattr(self, "_at", None) is not None:
-            self._end()
-
     # ---- How calls are made
 
-    def _use(self, call: Callable[[int], Any]) -> int:
-        """Makes a call of the library on this session, one at a time."""
-        with self._lock:
-            return self._call(call)
+    def _give_back(self, at: int) -> int:
+        return self._store._given_back(at)
 
-    def _try(self, call: Callable[[int], Any]) -> int:
-        """The same, and waits for nobody."""
-        if not self._lock.acquire(blocking=False):
-            return Pending.BUSY.value
-        try:
-            return self._call(call)
-        finally:
-            self._lock.release()
-
-    def _call(self, call: Callable[[int], Any]) -> int:
-        if self._at is None:
-            raise error_of(Status.DETACHED)
-        status: int = call(self._at)
-        return status
+    def _go_on(self, at: int) -> None:
+        _library.nrbpf_poll(at, _native.Answered())
 
     def _answer(self, call: Callable[..., Any], program: int, argument: bytes) -> Answer:
         answer, program = _native.Answered(), within(program, 16, Status.UNKNOWN_PROGRAM)

@@ -5,11 +5,13 @@ from __future__ import annotations
 import ctypes
 import threading
 import warnings
+from collections.abc import Callable
 from types import TracebackType
 
 from . import _native
 from ._errors import Status, check, error_of, within
 from ._facts import MapShape, StoreInfo
+from ._lane import MOST_SLOTS, Lane
 from ._manifest import ONE_SESSION, STANDARD, Limits, Manifest, Sizes
 from ._session import Session
 from ._state import State
@@ -24,7 +26,7 @@ class Store:
     def __init__(self, manifest: Manifest, sizes: Sizes = ONE_SESSION, state: State | None = None) -> None:
         self._at: int | None = None
         self._lock = threading.RLock()  # a session may be given back by the collector, in the middle of a call here
-        self._sessions = 0
+        self._sessions = 0  # and lanes that are attached
         self._is_left = False
         out, fault = ctypes.c_void_p(), _native.Fault()
         given = (sizes.native(), *manifest.native())
@@ -65,6 +67,10 @@ class Store:
     def attach(self, node: int = 0) -> Session:
         """A free session of a node, counted from 0."""
         return Session(self, node)
+
+    def attach_lane(self, node: int = 0, slots: int = MOST_SLOTS) -> Lane:
+        """Some free sessions of a node as one lane: 1 to 16."""
+        return Lane(self, node, slots)
 
     def new_state(self) -> State:
         """A state for snapshots of this store, any number of them. It takes the memory of one node's maps."""
@@ -127,9 +133,23 @@ class Store:
             self._sessions += 1
         return out.value
 
-    def _given_back(self, session: int) -> int:
+    def _attached_lane(self, node: int, slots: int) -> int | None:
+        out = ctypes.c_void_p()
         with self._lock:
-            status: int = _library.nrbpf_detach(session)
+            given = within(node, 32, Status.NO_SESSION), within(slots, 32, Status.BAD_CALL)
+            check(_library.nrbpf_attach_lane(self._open(), *given, out))
+            self._sessions += 1
+        return out.value
+
+    def _given_back(self, session: int) -> int:
+        return self._told_back(_library.nrbpf_detach, session)
+
+    def _lane_given_back(self, lane: int) -> int:
+        return self._told_back(_library.nrbpf_detach_lane, lane)
+
+    def _told_back(self, detach: Callable[[int], int], handle: int) -> int:
+        with self._lock:
+            status = detach(handle)
             if not status:
                 self._sessions -= 1
                 self._close_left()

@@ -1,8 +1,8 @@
--- `nrbpf_raw_close` lends the store to `closed`.
+-- `nrbpf_raw_close` lends the store to `close`.
 use Rattle.host_calls.specs.Stores.{Closes}
 use Rattle.host_calls.specs.contracts.handles.StoreHandle.{the_row as R}
-use Rattle.host_calls.specs.contracts.stores.closed as g
-use Rattle.host_calls.proofs.stores.closed.Met.{met}
+use Rattle.host_calls.specs.contracts.stores.close as g
+use Rattle.host_calls.proofs.stores.close.Met.{met}
 use Rattle.embed.specs.contracts.nrbpf_raw_close as f
 use Rattle.embed.proofs.nrbpf_raw_close.Statement.{statement}
 use Rattle.embed.proofs.nrbpf_raw_close.Code as code
@@ -10,4 +10,4 @@ use Rattle.embed.proofs.Lending.{goes_on}
 
 pub nrbpf_raw_close_spec : {M : Type 1} → statement M
 nrbpf_raw_close_spec 𝓤 𝓛 𝓜 𝓡 wired =
-    goes_on 𝓛 R 𝓜 𝓡 Closes f.Key.name g.Key.name (code.unfolded 𝓤 𝓛.H 𝓜 𝓡 wired) (met 𝓤 𝓛 𝓜 𝓡 (code.calls-host_calls::stores::closed 𝓡.env wired))
+    goes_on 𝓛 R 𝓜 𝓡 Closes f.Key.name g.Key.name (code.unfolded 𝓤 𝓛.H 𝓜 𝓡 wired) (met 𝓤 𝓛 𝓜 𝓡 (code.calls-host_calls::stores::close 𝓡.env wired))

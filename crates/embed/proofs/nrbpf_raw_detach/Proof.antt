@@ -1,4 +1,4 @@
--- `nrbpf_raw_detach` lends both handles to `detached`.
+-- `nrbpf_raw_detach` lends both handles to `detach`.
 use Rattle.embed.proofs.Steps.{[], ◌∷◌, ◌++◌, refl, ap, proved, full_share, id⊢, ex, ex_i, sep, emp, fact, fact_i, ftrue, flft, vunit, tables, WpFn, ‵, raw, ◌⊛◌, some, later, prop, ◌$◌, ◌∵◌, !, qed, done, move, keep, drop, use0, use1, use2, use3, split, join, fsplit, feq_i, feq_l, pick, await, regoal, suffices, group, sem, enter, of_opd, unit_lit, addr, stop, no_more, and_then, returns, alloc_all, pass_all, free_all, look_at, get, through, sets, lands_as, lft_end, unit, yes, ref_back, mem, Ptr, RawPtr, block_ptr, lies_at, in_a_block, rawptr_vals, rawptr_Tells, mut_vals, plain, nothing, heard, only, calls_at, lasts, on_entry, triple_of, Stays, walk_of, stay_dropped, Goes-dropped, ends_at, framed}
 use Rattle.embed.proofs.Lending.{lend, loan}
 use Rattle.host_calls.specs.Stores.{IsItsOwn, Takes}
@@ -7,8 +7,8 @@ use Rattle.host_calls.specs.contracts.handles.StoreHandle.{the_row as S}
 use Rattle.embed.specs.contracts.nrbpf_raw_detach as f
 use Rattle.embed.proofs.nrbpf_raw_detach.Statement.{statement}
 use Rattle.embed.proofs.nrbpf_raw_detach.Code as code
-use Rattle.host_calls.specs.contracts.stores.detached as g
-use Rattle.host_calls.proofs.stores.detached.Met.{met}
+use Rattle.host_calls.specs.contracts.stores.detach as g
+use Rattle.host_calls.proofs.stores.detach.Met.{met}
 
 abbrev stayed : Stays f.ended.signature.params f.ended.kept
 stayed = (stay_dropped _ yes, (stay_dropped _ yes, tt))
@@ -45,7 +45,7 @@ nrbpf_raw_detach_spec 𝓤 𝓛 𝓜 𝓡 wired =
     -- [both loans; the lender's part of the session; the token of β; the lender's part of the store; the token of α; the locals]
     nothing ! $ move ! (3 ∷ 0 ∷ []) $ join ! $ move ! (4 ∷ 0 ∷ []) $ join ! $ move ! (0 ∷ 1 ∷ []) $ join ! $
     use0 𝓛 (raw (fact 𝓤 (IsItsOwn values.0 values.1))) (fact_i 𝓤 (IsItsOwn values.0 values.1) (emp 𝓤) own) $ move ! (1 ∷ 0 ∷ []) $ use2 𝓛 (raw (G.pre z)) (id⊢ 𝓤 _) $
-    calls_at ! (framed 𝓤 𝓛.H 𝓜 (tables 𝓤 𝓛.H 𝓜 𝓡 𝓡.env)) G (met 𝓤 𝓛 𝓜 𝓡 (code.calls-host_calls::stores::detached 𝓡.env wired)) z
+    calls_at ! (framed 𝓤 𝓛.H 𝓜 (tables 𝓤 𝓛.H 𝓜 𝓡 𝓡.env)) G (met 𝓤 𝓛 𝓜 𝓡 (code.calls-host_calls::stores::detach 𝓡.env wired)) z
     (and_then ! (get ! refl) (and_then ! (get ! refl) (no_more !))) (λ v.
     use1 𝓛 (later (some (λ (u : Unit {0}). ((‵ (flft (α ∷ []) full_share) ⊛ ‵ (flft (β ∷ []) full_share) ⊛ ‵ ftrue) ⊛ ‵ (unit.own_val u (v ∷ []))) ⊛
     some (λ (ws : S.Denot × (R.Denot × Unit {0})). ‵ (lasts g.ended z.0.0 z.0.3 ws) ⊛ raw (fact 𝓤 (Takes values.0 values.1 ws.0 ws.1.0)))))) (id⊢ 𝓤 _) $

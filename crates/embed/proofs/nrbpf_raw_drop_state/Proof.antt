@@ -1,8 +1,8 @@
--- `nrbpf_raw_drop_state` lends the state to `dropped`.
+-- `nrbpf_raw_drop_state` lends the state to `drop_state`.
 use Rattle.std.proofs.Common.{◌≡◌, None, refl}
 use Rattle.host_calls.specs.contracts.handles.StateHandle.{the_row as R}
-use Rattle.host_calls.specs.contracts.closing.dropped as g
-use Rattle.host_calls.proofs.closing.dropped.Met.{met}
+use Rattle.host_calls.specs.contracts.closing.drop_state as g
+use Rattle.host_calls.proofs.closing.drop_state.Met.{met}
 use Rattle.embed.specs.contracts.nrbpf_raw_drop_state as f
 use Rattle.embed.proofs.nrbpf_raw_drop_state.Statement.{statement}
 use Rattle.embed.proofs.nrbpf_raw_drop_state.Code as code
@@ -13,4 +13,4 @@ use Rattle.embed.proofs.Steps.{sem, room_at}
 pub nrbpf_raw_drop_state_spec : {M : Type 1} → statement M
 nrbpf_raw_drop_state_spec 𝓤 𝓛 𝓜 𝓡 wired =
     lends 𝓛 R 𝓜 𝓡 (λ value last. last.own ≡ None) f.Key.name g.Key.name (λ at value. sem 𝓛 (room_at R at)) (code.unfolded 𝓤 𝓛.H 𝓜 𝓡 wired)
-    (met 𝓤 𝓛 𝓜 𝓡 (code.calls-host_calls::closing::dropped 𝓡.env wired)) (λ b o value last gone. is_room 𝓛 R refl b o last)
+    (met 𝓤 𝓛 𝓜 𝓡 (code.calls-host_calls::closing::drop_state 𝓡.env wired)) (λ b o value last gone. is_room 𝓛 R refl b o last)

@@ -1,8 +1,8 @@
--- `nrbpf_raw_drop_text` lends the text to `dropped_text`.
+-- `nrbpf_raw_drop_text` lends the text to `drop_text`.
 use Rattle.std.proofs.Common.{◌≡◌, None, refl}
 use Rattle.host_calls.specs.contracts.handles.TextHandle.{the_row as R}
-use Rattle.host_calls.specs.contracts.states.dropped_text as g
-use Rattle.host_calls.proofs.states.dropped_text.Met.{met}
+use Rattle.host_calls.specs.contracts.states.drop_text as g
+use Rattle.host_calls.proofs.states.drop_text.Met.{met}
 use Rattle.embed.specs.contracts.nrbpf_raw_drop_text as f
 use Rattle.embed.proofs.nrbpf_raw_drop_text.Statement.{statement}
 use Rattle.embed.proofs.nrbpf_raw_drop_text.Code as code
@@ -13,4 +13,4 @@ use Rattle.embed.proofs.Steps.{sem, room_at}
 pub nrbpf_raw_drop_text_spec : {M : Type 1} → statement M
 nrbpf_raw_drop_text_spec 𝓤 𝓛 𝓜 𝓡 wired =
     lends 𝓛 R 𝓜 𝓡 (λ value last. last.own ≡ None) f.Key.name g.Key.name (λ at value. sem 𝓛 (room_at R at)) (code.unfolded 𝓤 𝓛.H 𝓜 𝓡 wired)
-    (met 𝓤 𝓛 𝓜 𝓡 (code.calls-host_calls::states::dropped_text 𝓡.env wired)) (λ b o value last gone. is_room 𝓛 R refl b o last)
+    (met 𝓤 𝓛 𝓜 𝓡 (code.calls-host_calls::states::drop_text 𝓡.env wired)) (λ b o value last gone. is_room 𝓛 R refl b o last)

@@ -1,4 +1,4 @@
--- `nrbpf_raw_get` lends the session to `got`, and passes the key and the room for its value on.
+-- `nrbpf_raw_get` lends the session to `get`, and passes the key and the room for its value on.
 use Rattle.embed.proofs.Steps.{[], ◌∷◌, ◌++◌, ℕ, List, refl, ap, proved, full_share, id⊢, ex, ex_i, sep, emp, fact, fact_i, ftrue, flft, named, vunit, tables, WpFn, ‵, raw, ◌⊛◌, some, later, prop, ◌$◌, ◌∵◌, !, qed, done, move, keep, drop, use0, use1, use2, use3, split, join, fsplit, feq_i, feq_l, pick, await, regoal, suffices, group, sem, enter, of_opd, unit_lit, addr, stop, no_more, and_then, returns, alloc_all, pass_all, free_all, look_at, get, get_in, look_in_at, through, sets, lands_as, lft_end, unit, yes, ref_back, mem, Ptr, RawPtr, block_ptr, lies_at, in_a_block, rawptr_vals, rawptr_Tells, mut_vals, plain, nothing, heard, only, calls_at, lasts, alive, triple_of, Stays, walk_of, stay_dropped, Goes-dropped, gave_slice, Goes-gave_slice, ends_at, framed, whole, sub, agg, from, fld, hop, w32, u8, u32, uint_vals, uint_Tells, SliceRefOf, MutSlice, ShrSlice, mut_slice_vals, mut_slice_Tells, shr_slice_vals, shr_slice_Tells}
 use Rattle.embed.proofs.Lending.{lend, loan}
 use Rattle.host_calls.specs.Looks.{Gets}
@@ -6,8 +6,8 @@ use Rattle.host_calls.specs.contracts.handles.SessionHandle.{the_row as R}
 use Rattle.embed.specs.contracts.nrbpf_raw_get as f
 use Rattle.embed.proofs.nrbpf_raw_get.Statement.{statement}
 use Rattle.embed.proofs.nrbpf_raw_get.Code as code
-use Rattle.host_calls.specs.contracts.looks.got as g
-use Rattle.host_calls.proofs.looks.got.Met.{met}
+use Rattle.host_calls.specs.contracts.looks.get as g
+use Rattle.host_calls.proofs.looks.get.Met.{met}
 
 abbrev stayed : Stays f.ended.signature.params f.ended.kept
 stayed = (stay_dropped _ yes, (stay_dropped _ yes, (stay_dropped _ yes, (gave_slice (1 ∷ []) tt (plain (λ _. u8)), tt))))
@@ -44,7 +44,7 @@ nrbpf_raw_get_spec 𝓤 𝓛 𝓜 𝓡 wired =
     -- [what is passed; the lender's part; the token of α; the tokens; the locals]
     move ! (3 ∷ []) $ use1 𝓛 (‵ (flft κs.0 qs.0) ⊛ (‵ (flft κs.1.0 qs.1.0) ⊛ ‵ ftrue)) (id⊢ 𝓤 _) $ move ! (3 ∷ 0 ∷ []) $ join ! $ join ! $
     nothing ! $ move ! (1 ∷ 0 ∷ []) $ use2 𝓛 (raw (G.pre z)) (id⊢ 𝓤 _) $
-    calls_at ! (framed 𝓤 𝓛.H 𝓜 (tables 𝓤 𝓛.H 𝓜 𝓡 𝓡.env)) G (met 𝓤 𝓛 𝓜 𝓡 (code.calls-host_calls::looks::got 𝓡.env wired)) z
+    calls_at ! (framed 𝓤 𝓛.H 𝓜 (tables 𝓤 𝓛.H 𝓜 𝓡 𝓡.env)) G (met 𝓤 𝓛 𝓜 𝓡 (code.calls-host_calls::looks::get 𝓡.env wired)) z
     (and_then ! (get ! refl) (and_then ! (get ! refl) (and_then ! (get ! refl) (and_then ! (get ! refl) (no_more !))))) (λ v.
     use1 𝓛 (later (some (λ (u : Unit {0}). ((‵ (flft (α ∷ []) full_share) ⊛ (‵ (flft κs.0 qs.0) ⊛ (‵ (flft κs.1.0 qs.1.0) ⊛ ‵ ftrue))) ⊛ ‵ (unit.own_val u (v ∷ []))) ⊛
     some (λ (ws : R.Denot × (Unit {0} × (Unit {0} × (List ℕ × Unit {0})))). ‵ (lasts g.ended z.0.0 z.0.3 ws) ⊛ raw (fact 𝓤 (Gets map key.now out.now ws.1.1.1.0 value ws.0)))))) (id⊢ 𝓤 _) $

@@ -1,4 +1,4 @@
--- `nrbpf_raw_load` writes the handle that `loaded_text` gives into the room.
+-- `nrbpf_raw_load` writes the handle that `load_text` gives into the room.
 use Rattle.embed.proofs.Steps.{[], ◌∷◌, ◌++◌, u8, SliceRefOf, ShrSlice, shr_slice_vals, shr_slice_Tells, refl, proved, full_share, id⊢, ex, ex_i, ex_e, snd∗, sep, emp, fact, fact_i, ftrue, named, vunit, tables, WpFn, ‵, raw, ◌⊛◌, some, later, prop, ◌$◌, ◌∵◌, !, qed, done, move, drop, use0, use1, use2, split, join, feq_i, pick, await, regoal, suffices, group, sem, enter, of_opd, unit_lit, init, stop, no_more, and_then, assigns, returns, alloc_all, pass_all, free_all, look_at, get, through, sets, lands_as, part_in, RefOf, yes, Ptr, RawPtr, block_ptr, lies_at, room_at, in_a_block, rawptr_vals, rawptr_Tells, ShrRef, shr_vals, shr_Tells, named_lft, plain, nothing, heard, val, tells, calls_at, ensured, lasts, alive, triple_of, Stays, walk_of, stay_dropped, Goes-dropped, ends_at, framed}
 use Rattle.embed.proofs.Lending.{is_typed}
 use Rattle.host_calls.specs.Loadings.{IsLoaded}
@@ -10,8 +10,8 @@ use Rattle.std.proofs.alloc.Global.TheLaws as global_laws
 use Rattle.embed.specs.contracts.nrbpf_raw_load as f
 use Rattle.embed.proofs.nrbpf_raw_load.Statement.{statement}
 use Rattle.embed.proofs.nrbpf_raw_load.Code as code
-use Rattle.host_calls.specs.contracts.loading.loaded_text as g
-use Rattle.host_calls.proofs.loading.loaded_text.Met.{met}
+use Rattle.host_calls.specs.contracts.loading.load_text as g
+use Rattle.host_calls.proofs.loading.load_text.Met.{met}
 
 abbrev stayed : Stays f.ended.signature.params f.ended.kept
 stayed = (stay_dropped _ yes, (stay_dropped _ yes, (stay_dropped _ yes, (stay_dropped _ yes, tt))))
@@ -39,7 +39,7 @@ nrbpf_raw_load_spec 𝓤 𝓛 𝓜 𝓡 wired =
     sets ! (of_opd ! (get ! refl)) refl (tt, tt) $
     nothing ! $ move ! (1 ∷ 0 ∷ []) $ join ! $ move ! (1 ∷ 0 ∷ []) $ join ! $ move ! (1 ∷ 0 ∷ []) $ join ! $ move ! (1 ∷ 0 ∷ []) $ join ! $
     nothing ! $ move ! (1 ∷ 0 ∷ []) $ use2 𝓛 (raw (G.pre z)) (id⊢ 𝓤 _) $
-    calls_at ! (framed 𝓤 𝓛.H 𝓜 (tables 𝓤 𝓛.H 𝓜 𝓡 𝓡.env)) G (met 𝓤 𝓛 𝓜 𝓡 (code.calls-host_calls::loading::loaded_text 𝓡.env wired)) z
+    calls_at ! (framed 𝓤 𝓛.H 𝓜 (tables 𝓤 𝓛.H 𝓜 𝓡 𝓡.env)) G (met 𝓤 𝓛 𝓜 𝓡 (code.calls-host_calls::loading::load_text 𝓡.env wired)) z
     (and_then ! (get ! refl) (and_then ! (get ! refl) (and_then ! (get ! refl) (no_more !)))) (λ v.
     use1 𝓛 (later (some (λ (given : R.Denot). (raw (alive 𝓛 g.signature κs qs) ⊛ ‵ (R.own_val given (v ∷ []))) ⊛ raw (ensured 𝓛 g.ended (g.clauses 𝓛 𝓜.mem 𝓡.returns) κs z.0.3 tt given)))) (id⊢ 𝓤 _) $
     await ! tt $ pick ! (λ given. split ! $ move ! (1 ∷ []) $

@@ -1,4 +1,4 @@
--- `nrbpf_raw_new_state` lends the store to `made`, and writes the handle that this gives into the room.
+-- `nrbpf_raw_new_state` lends the store to `make_state`, and writes the handle that this gives into the room.
 use Rattle.embed.proofs.Steps.{[], ◌∷◌, ◌++◌, refl, proved, full_share, id⊢, ex, ex_i, sep, emp, fact, fact_i, ftrue, flft, vunit, tables, WpFn, ‵, raw, ◌⊛◌, some, later, prop, ◌$◌, ◌∵◌, !, qed, done, move, keep, drop, use0, use1, use2, use3, split, join, fsplit, feq_i, pick, await, regoal, suffices, group, sem, enter, of_opd, unit_lit, addr, init, stop, no_more, and_then, assigns, returns, alloc_all, pass_all, free_all, look_at, get, through, sets, lands_as, lft_end, part_in, yes, ref_back, mem, Ptr, RawPtr, block_ptr, lies_at, room_at, in_a_block, rawptr_vals, rawptr_Tells, mut_vals, plain, nothing, heard, calls_at, lasts, triple_of, Stays, walk_of, stay_dropped, Goes-dropped, ends_at, framed}
 use Rattle.embed.proofs.Lending.{lend, loan, is_typed}
 use Rattle.embed.proofs.Steps.{alive, ftrue, val, tells}
@@ -11,8 +11,8 @@ use Rattle.host_calls.proofs.handles.StateHandle.TheLaws as laws
 use Rattle.embed.specs.contracts.nrbpf_raw_new_state as f
 use Rattle.embed.proofs.nrbpf_raw_new_state.Statement.{statement}
 use Rattle.embed.proofs.nrbpf_raw_new_state.Code as code
-use Rattle.host_calls.specs.contracts.states.made as g
-use Rattle.host_calls.proofs.states.made.Met.{met}
+use Rattle.host_calls.specs.contracts.states.make_state as g
+use Rattle.host_calls.proofs.states.make_state.Met.{met}
 
 abbrev stayed : Stays f.ended.signature.params f.ended.kept
 stayed = (stay_dropped _ yes, (stay_dropped _ yes, (stay_dropped _ yes, tt)))
@@ -46,7 +46,7 @@ nrbpf_raw_new_state_spec 𝓤 𝓛 𝓜 𝓡 wired =
     let z : G.Ghost = (((α ∷ [], tt), (full_share, tt), tt, (a.0, (r, tt)), (vals a.0, (mut_vals r, tt))), tt) in
     nothing ! $ move ! (1 ∷ 0 ∷ []) $ join ! $ move ! (4 ∷ 0 ∷ []) $ join ! $ nothing ! $ move ! (3 ∷ 0 ∷ []) $ join ! $ join ! $
     nothing ! $ move ! (1 ∷ 0 ∷ []) $ use2 𝓛 (raw (G.pre z)) (id⊢ 𝓤 _) $
-    calls_at ! (framed 𝓤 𝓛.H 𝓜 (tables 𝓤 𝓛.H 𝓜 𝓡 𝓡.env)) G (met 𝓤 𝓛 𝓜 𝓡 (code.calls-host_calls::states::made 𝓡.env wired)) z
+    calls_at ! (framed 𝓤 𝓛.H 𝓜 (tables 𝓤 𝓛.H 𝓜 𝓡 𝓡.env)) G (met 𝓤 𝓛 𝓜 𝓡 (code.calls-host_calls::states::make_state 𝓡.env wired)) z
     (and_then ! (get ! refl) (and_then ! (get ! refl) (no_more !))) (λ v.
     use1 𝓛 (later (some (λ (given : R.Denot). ((‵ (flft (α ∷ []) full_share) ⊛ ‵ ftrue) ⊛ ‵ (R.own_val given (v ∷ []))) ⊛
     some (λ (last : Unit {0} × (S.Denot × Unit {0})). ‵ (lasts g.ended z.0.0 z.0.3 last) ⊛ raw (fact 𝓤 (Makes store last.1.0 given)))))) (id⊢ 𝓤 _) $

@@ -1,4 +1,4 @@
--- `nrbpf_raw_open_on` lends the state to `opened_on`, and writes the handle that this gives into the room.
+-- `nrbpf_raw_open_on` lends the state to `open_on`, and writes the handle that this gives into the room.
 use Rattle.embed.proofs.Steps.{ent, [], ◌∷◌, ◌++◌, refl, proved, full_share, id⊢, ex, ex_i, sep, emp, fact, fact_i, ftrue, flft, named, vunit, tables, WpFn, ‵, raw, ◌⊛◌, some, later, prop, ◌$◌, ◌∵◌, !, qed, done, move, keep, drop, use0, use1, use2, use3, split, join, fsplit, feq_i, pick, await, regoal, suffices, group, sem, enter, of_opd, unit_lit, addr, init, stop, no_more, and_then, assigns, returns, alloc_all, pass_all, free_all, look_at, get, through, sets, lands_as, lft_end, part_in, RefOf, yes, ref_back, mem, Ptr, RawPtr, block_ptr, lies_at, room_at, in_a_block, rawptr_vals, rawptr_Tells, mut_vals, ShrRef, shr_vals, shr_Tells, named_lft, plain, nothing, heard, val, tells, calls_at, lasts, alive, triple_of, Stays, walk_of, stay_dropped, Goes-dropped, ends_at, framed}
 use Rattle.embed.proofs.Lending.{lend, loan, is_typed}
 use Rattle.std.proofs.Common.{◌≡◌, subst}
@@ -13,8 +13,8 @@ use Rattle.std.proofs.alloc.Global.TheLaws as global_laws
 use Rattle.embed.specs.contracts.nrbpf_raw_open_on as f
 use Rattle.embed.proofs.nrbpf_raw_open_on.Statement.{statement}
 use Rattle.embed.proofs.nrbpf_raw_open_on.Code as code
-use Rattle.host_calls.specs.contracts.opening.opened_on as g
-use Rattle.host_calls.proofs.opening.opened_on.Met.{met}
+use Rattle.host_calls.specs.contracts.opening.open_on as g
+use Rattle.host_calls.proofs.opening.open_on.Met.{met}
 
 abbrev stayed : Stays f.ended.signature.params f.ended.kept
 stayed = (stay_dropped _ yes, (stay_dropped _ yes, (stay_dropped _ yes, (stay_dropped _ yes, tt))))
@@ -54,7 +54,7 @@ nrbpf_raw_open_on_spec 𝓤 𝓛 𝓜 𝓡 wired =
     -- [nothing; a token; a token; what is passed; the lender's part; the token of α; the room; the locals]
     move ! (5 ∷ 0 ∷ []) $ join ! $ move ! (1 ∷ 0 ∷ []) $ join ! $ move ! (1 ∷ 0 ∷ []) $ join ! $ join ! $
     nothing ! $ move ! (1 ∷ 0 ∷ []) $ use2 𝓛 (raw (G.pre z)) (id⊢ 𝓤 _) $
-    calls_at ! (framed 𝓤 𝓛.H 𝓜 (tables 𝓤 𝓛.H 𝓜 𝓡 𝓡.env)) G (met 𝓤 𝓛 𝓜 𝓡 (code.calls-host_calls::opening::opened_on 𝓡.env wired)) z
+    calls_at ! (framed 𝓤 𝓛.H 𝓜 (tables 𝓤 𝓛.H 𝓜 𝓡 𝓡.env)) G (met 𝓤 𝓛 𝓜 𝓡 (code.calls-host_calls::opening::open_on 𝓡.env wired)) z
     (and_then ! (get ! refl) (and_then ! (get ! refl) (and_then ! (get ! refl) (no_more !)))) (λ v.
     use1 𝓛 (later (some (λ (h : R.Denot). ((‵ (flft κs.0 qs.0) ⊛ ‵ (flft κs.1.0 qs.1.0) ⊛ ‵ (flft (α ∷ []) full_share) ⊛ ‵ ftrue) ⊛ ‵ (R.own_val h (v ∷ []))) ⊛
     some (λ (ws : Unit {0} × (Unit {0} × (S.Denot × Unit {0}))). ‵ (lasts g.ended z.0.0 z.0.3 ws) ⊛ raw (fact 𝓤 ((ws.1.1.0 ≡ value) × IsOpened a.1.0.now value.own h)))))) (id⊢ 𝓤 _) $

@@ -2,7 +2,7 @@ use Rattle.std.proofs.Common.{rules, ◌≡◌, None, Ok, Option, sym, subst}
 use Rattle.store_steps.specs.Views.{SessionView}
 use Rattle.store.specs.Sessions.{StoreView, install_of, install_refused}
 use Rattle.store.specs.Polled.{TellsPost}
-use Rattle.host_calls.specs.Told.{TellsUpdate}
+use Rattle.host_calls.specs.CallResults.{TellsUpdate}
 use Rattle.host_calls.proofs.Posted.{asked_for, none_of, posted_then}
 use Rattle.host_calls.proofs.attached.Attached.install.Goals as goal
 

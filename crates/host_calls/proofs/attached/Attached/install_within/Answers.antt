@@ -4,7 +4,7 @@ use Rattle.store_steps.specs.Views.{SessionView}
 use Rattle.store.specs.Sessions.{StoreView, install_of, new_program}
 use Rattle.store.specs.Polled.{TellsPost}
 use Rattle.store.specs.Within.{within_refusal}
-use Rattle.host_calls.specs.Told.{TellsUpdate}
+use Rattle.host_calls.specs.CallResults.{TellsUpdate}
 use Rattle.host_calls.proofs.Posted.{asked_for, none_of, posted_then}
 use Rattle.host_calls.proofs.attached.Attached.install_within.Goals as goal
 

@@ -4,7 +4,7 @@ use Rattle.replica.specs.Refusals.{early_refusal}
 use Rattle.store_steps.specs.Views.{SessionView, op_of}
 use Rattle.store.specs.Sessions.{StoreView}
 use Rattle.store.specs.Polled.{TellsAsked}
-use Rattle.host_calls.specs.Told.{TellsUpdate}
+use Rattle.host_calls.specs.CallResults.{TellsUpdate}
 use Rattle.host_calls.proofs.Posted.{none_of, posted_then}
 use Rattle.host_calls.proofs.attached.Attached.update.Goals as goal
 

@@ -10,9 +10,10 @@ use Rattle.accounts.specs.declared.sessions.Pending.{Pending}
 use Rattle.accounts.specs.Accounts.{Extends, IsWellFormed}
 use Rattle.store_steps.specs.Views.{SessionView}
 use Rattle.store.specs.Looks.{IsSight, HasReply}
+use Rattle.store.specs.Polled.{HasPostedFor}
 use Rattle.store_steps.specs.Stages.{TellsDone}
-use Rattle.host_calls.specs.declared.attached.Told.{Told}
-use Rattle.host_calls.specs.declared.attached.Told.TheVariants.{Busy, Again, Answered, Refused, NotOpen, IsOut, NoWord}
+use Rattle.host_calls.specs.declared.attached.CallResult.{CallResult}
+use Rattle.host_calls.specs.declared.attached.CallResult.TheVariants.{Busy, Again, Answered, Refused, NotOpen, IsOut, NoWord, Allowed}
 
 -- the session knows a history that has grown, and that its store may have
 pub record HasGrown (old new : SessionView) : Type 0 where
@@ -21,7 +22,7 @@ pub record HasGrown (old new : SessionView) : Type 0 where
 
 -- the request is out: it is posted, once, and not answered; or it is answered, with its place in the history that the session knows now and
 -- the reply there; or that history has its last record, and none of the request
-abbrev pub TellsOut : (old new : SessionView) → Pending → Told → Type 0
+abbrev pub TellsOut : (old new : SessionView) → Pending → CallResult → Type 0
 TellsOut old new o Again = (new.note.pending ≡ Some o) × (new.note.answered ≡ old.note.answered)
 TellsOut old new o (Answered point reply) = TellsDone old new o (Placed point reply)
 TellsOut old new o (Refused why) = (why ≡ TheEnd) × TellsDone old new o Ended
@@ -29,32 +30,43 @@ TellsOut old new o Busy = ⊥
 TellsOut old new o NotOpen = ⊥
 TellsOut old new o IsOut = ⊥
 TellsOut old new o NoWord = ⊥
+TellsOut old new o Allowed = ⊥
 
 -- a request of this operation is posted now, when the history is no shorter than the session knew
-abbrev pub TellsNew : Operation → (old new : SessionView) → Told → Type 0
+abbrev pub TellsNew : Operation → (old new : SessionView) → CallResult → Type 0
 TellsNew op old new told = (o : Pending) × (o.op ≡ op) × (length old.progress.history ≤ o.seen) × TellsOut old new o told
 
 -- none is out, and none is refused: nothing has changed, or one is posted
-abbrev pub TellsPosting : Operation → (old new : SessionView) → Told → Type 0
+abbrev pub TellsPosting : Operation → (old new : SessionView) → CallResult → Type 0
 TellsPosting op old new Busy = new ≡ old
 TellsPosting op old new told = TellsNew op old new told
 
 -- what is refused changes nothing
-abbrev pub TellsRefused : (old new : SessionView) → Told → StoreRefused → Type 0
+abbrev pub TellsRefused : (old new : SessionView) → CallResult → StoreRefused → Type 0
 TellsRefused old new told why = (told ≡ Refused why) × (new ≡ old)
 
 -- an update of this operation, which the store refuses for a reason or doesn't: it goes on with the one that is out, if one is
-abbrev pub TellsUpdate : Operation → Option StoreRefused → (old new : SessionView) → Told → Type 0
+abbrev pub TellsUpdate : Operation → Option StoreRefused → (old new : SessionView) → CallResult → Type 0
 TellsUpdate op refused old new told =
     HasGrown old new × MatchOption old.note.pending (MatchOption refused (TellsPosting op old new told) (λ why. TellsRefused old new told why)) (λ o. TellsOut old new o told)
 
+-- an update alike that is posted and nothing more: the session takes along no other
+abbrev pub TellsPostedAlone : Operation → (old new : SessionView) → CallResult → Type 0
+TellsPostedAlone op old new Busy = new ≡ old
+TellsPostedAlone op old new Again = HasPostedFor old new op
+TellsPostedAlone op old new told = ⊥
+
+abbrev pub TellsPost : Operation → Option StoreRefused → (old new : SessionView) → CallResult → Type 0
+TellsPost op refused old new told =
+    HasGrown old new × MatchOption old.note.pending (MatchOption refused (TellsPostedAlone op old new told) (λ why. TellsRefused old new told why)) (λ o. TellsOut old new o told)
+
 -- a read that isn't refused: a place was held, or it has seen all that was completed when it began, and has the reply there
-abbrev pub TellsSeen : Operation → (old new : SessionView) → Told → Type 0
+abbrev pub TellsSeen : Operation → (old new : SessionView) → CallResult → Type 0
 TellsSeen op old new Busy = Unit {0}
 TellsSeen op old new (Answered point reply) = IsSight (HasReply op) (λ (a : ReadAnswer). a.point) old new (record { point = point; reply = reply })
 TellsSeen op old new told = ⊥
 
 -- a read alike: it is refused while an update is out, and what the session waits for stays what it was
-abbrev pub TellsReading : Operation → Option StoreRefused → (old new : SessionView) → Told → Type 0
+abbrev pub TellsReading : Operation → Option StoreRefused → (old new : SessionView) → CallResult → Type 0
 TellsReading op refused old new told =
     MatchOption old.note.pending (HasGrown old new × (new.note ≡ old.note) × MatchOption refused (TellsSeen op old new told) (λ why. TellsRefused old new told why)) (λ o. (told ≡ IsOut) × (new ≡ old))

@@ -1,0 +1,100 @@
+"""What sessions and lanes share: one call at a time, and their end."""
+
+from __future__ import annotations
+
+import threading
+import time
+from collections.abc import Callable
+from types import TracebackType
+from typing import TYPE_CHECKING, Any, TypeVar
+
+from ._errors import Error, Pending, Status, check, error_of
+
+if TYPE_CHECKING:
+    from ._store import Store
+
+Own = TypeVar("Own", bound="Handle")
+
+
+class Handle:
+    """Some slots of a store. It is given back by `detach` or a `with`.
+
+    It is one thread's at a time: a second call meanwhile waits for the first, and one with `try_` in its name answers
+    BUSY.
+    """
+
+    def __init__(self, store: Store) -> None:
+        self._at: int | None = None
+        self._store = store
+        self._lock = threading.Lock()
+
+    @property
+    def store(self) -> Store:
+        return self._store
+
+    def _give_back(self, at: int) -> int:
+        """Gives it back to the library."""
+        raise NotImplementedError
+
+    def _go_on(self, at: int) -> None:
+        """Goes on with what is posted."""
+        raise NotImplementedError
+
+    # ---- Its end
+
+    def detach(self) -> None:
+        """Gives the slots back. Refused with H3 while an update is posted and not answered; once they are given back
+        this does nothing."""
+        with self._lock:
+            if self._at is None:
+                return
+            check(self._give_back(self._at))
+            self._at = None
+
+    def _end(self) -> None:
+        """Gives the slots back, once what is posted is answered, if there is something."""
+        while True:
+            try:
+                self.detach()
+                return
+            except Error as why:
+                if why.status != Status.UNANSWERED:
+                    raise
+            with self._lock:
+                if self._at is not None:
+                    self._go_on(self._at)
+            time.sleep(0)
+
+    def __enter__(self: Own) -> Own:
+        return self
+
+    def __exit__(
+        self, kind: type[BaseException] | None, why: BaseException | None, trace: TracebackType | None
+    ) -> None:
+        self._end()
+
+    def __del__(self) -> None:
+        if getattr(self, "_at", None) is not None:
+            self._end()
+
+    # ---- How calls are made
+
+    def _use(self, call: Callable[[int], Any]) -> int:
+        """Makes a call of the library, one at a time."""
+        with self._lock:
+            return self._call(call)
+
+    def _try(self, call: Callable[[int], Any]) -> int:
+        """The same, and waits for nobody."""
+        if not self._lock.acquire(blocking=False):
+            return Pending.BUSY.value
+        try:
+            return self._call(call)
+        finally:
+            self._lock.release()
+
+    def _call(self, call: Callable[[int], Any]) -> int:
+        if self._at is None:
+            raise error_of(Status.DETACHED)
+        status: int = call(self._at)
+        return status

@@ -1,0 +1,143 @@
+"""Lanes: several slots of one node, by which a thread asks for several updates at once."""
+
+from __future__ import annotations
+
+import ctypes
+import struct
+import time
+from collections.abc import Callable, Sequence
+from typing import TYPE_CHECKING, Any
+
+from . import _native
+from ._errors import Pending, Status, error_of, pending
+from ._handle import Handle
+from ._manifest import Buffer, as_bytes
+from ._session import Answer
+
+if TYPE_CHECKING:
+    from ._store import Store
+
+_library = _native.library
+MOST_SLOTS = 16
+# An outcome, and tables of so many calls, as the library has them.
+_OUTCOME = struct.Struct("=QQI4x")
+_CALLS = [struct.Struct("=" + "QQH6x" * count) for count in range(MOST_SLOTS + 1)]
+
+
+class Lane(Handle):
+    """Some slots of one node, of `Store.attach_lane`. A list of updates is asked for by one call, which costs less than
+    as many calls. It is given back by `detach` or a `with`, and is one thread's at a time, as a session."""
+
+    def __init__(self, store: Store, node: int, slots: int) -> None:
+        super().__init__(store)
+        self._slots, self._posted = slots, 0
+        self._arguments = _Arguments(64 * MOST_SLOTS)
+        self._calls = (_native.Asked * MOST_SLOTS)()
+        self._outcomes = (_native.Outcome * MOST_SLOTS)()
+        self._told = memoryview(self._outcomes).cast("B")
+        self._fault = _native.Fault()
+        self._at = store._attached_lane(node, slots)
+
+    @property
+    def slots(self) -> int:
+        """How many updates a list has at most."""
+        return self._slots
+
+    def update_each(self, calls: Sequence[tuple[int, Buffer]]) -> list[Answer | None]:
+        """Runs programs that may change the maps, each with its argument, and waits for other sessions where they are
+        in the way. Answers each in its place: None where the history is full (S4). A list is refused as a whole, with
+        the first call that is refused as the error's slot. Each update is an operation of its own: those of others may
+        stand between two of them."""
+        with self._lock:
+            told = self._ask(_library.nrbpf_update_each, calls)
+        assert not isinstance(told, Pending)
+        return told
+
+    def try_update_each(self, calls: Sequence[tuple[int, Buffer]]) -> list[Answer | None] | Pending:
+        """As `update_each`, and waits for nobody. Of POSTED the store has each update, once: `poll_each` or `wait_each`
+        is the lane's next call then."""
+        if not self._lock.acquire(blocking=False):
+            return Pending.BUSY
+        try:
+            return self._ask(_library.nrbpf_try_update_each, calls)
+        finally:
+            self._lock.release()
+
+    def poll_each(self) -> list[Answer | None] | Pending:
+        """Goes on with the list that is posted, and waits for nobody."""
+        if not self._lock.acquire(blocking=False):
+            return Pending.BUSY
+        try:
+            self._fault.status = 0
+            return self._answers(self._call(lambda at: _library.nrbpf_poll_each(at, self._outcomes)), self._posted)
+        finally:
+            self._lock.release()
+
+    def wait_each(self) -> list[Answer | None]:
+        """Goes on with the list that is posted until it is answered."""
+        tries = 0
+        while True:
+            told = self.poll_each()
+            if not isinstance(told, Pending):
+                return told
+            tries += 1
+            time.sleep(0 if tries < 100 else 0.0001)
+
+    # ---- How calls are made, under the lock
+
+    def _give_back(self, at: int) -> int:
+        return self._store._lane_given_back(at)
+
+    def _go_on(self, at: int) -> None:
+        _library.nrbpf_poll_each(at, self._outcomes)
+
+    def _ask(self, call: Callable[..., Any], calls: Sequence[tuple[int, Buffer]]) -> list[Answer | None] | Pending:
+        if self._at is None:
+            raise error_of(Status.DETACHED)
+        count = len(calls)
+        if count <= MOST_SLOTS:
+            self._put(calls)
+        status = call(self._at, self._calls, count, self._outcomes, self._fault)
+        if status == Pending.POSTED.value:
+            self._posted = count
+        return self._answers(status, count)
+
+    def _put(self, calls: Sequence[tuple[int, Buffer]]) -> None:
+        """Writes the calls as the library takes them: their arguments one behind another, and a table."""
+        given = [argument if type(argument) is bytes else as_bytes(argument) for _, argument in calls]
+        at = self._arguments.put(b"".join(given))
+        table: list[int] = []
+        for (program, _), argument in zip(calls, given):
+            if program >> 16:
+                raise error_of(Status.UNKNOWN_PROGRAM)
+            length = len(argument)
+            table += (at, length, program)
+            at += length
+        _CALLS[len(given)].pack_into(self._calls, 0, *table)
+
+    def _answers(self, status: int, count: int) -> list[Answer | None] | Pending:
+        """What a list is told. S4 of the whole list says only that some update got it."""
+        if status and status != Status.FULL:
+            waits = pending(status, self._fault)
+            if waits:
+                return waits
+        new, unpack = tuple.__new__, _OUTCOME.iter_unpack
+        return [None if code else new(Answer, (point, reply)) for point, reply, code in unpack(self._told[: 24 * count])]
+
+
+class _Arguments:
+    """Room for the arguments of a list."""
+
+    def __init__(self, size: int) -> None:
+        self._make(size)
+
+    def _make(self, size: int) -> None:
+        room = ctypes.create_string_buffer(size)
+        self._at, self._view = ctypes.addressof(room), memoryview(room).cast("B")  # (the view keeps the room)
+
+    def put(self, given: bytes) -> int:
+        """Writes these there, and answers where they begin."""
+        if len(given) > len(self._view):
+            self._make(len(given))
+        self._view[: len(given)] = given
+        return self._at
