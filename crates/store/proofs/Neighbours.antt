@@ -197,10 +197,6 @@ all_joined store all ms rooms rest g none own near few =
     let long : length ms ≡ length all = sym (length-map ms (λ (z : Member). session_view z.seat)) ∙ ap length is in
     (are_joined store ms rooms g.members (subst (AreOf store) (sym is) own) (subst (AreNeighbours store.config) (sym is) near) (omega (arith, few, long)), is)
 
--- the union of 16 slots of a node
-pub few_slots : (config : Sizes) (sessions : List SessionView) → config.slots ≤ 16 → AreNeighbours config sessions → length sessions ≤ 16
-few_slots config sessions most near = let fits = near.within in omega (arith, fits, most)
-
 -- ---- out of the pipeline
 
 -- some sessions have left the pipeline, and the others are members still
