@@ -18,6 +18,9 @@ struct place {
     alignas(TURNS) nrbpf_session *handle;       // of the session that is attached, or null
     int is_posted;                              // whether nrbpf_poll has an update or an install to continue
     uint32_t turn;                              // of the session that is attached, or else of the next one
+    uint32_t node;                              // of the session that is attached, and what it was asked for since it was:
+    uint64_t updates;                           // updates and installs
+    uint64_t waits;                             // calls that waited for another session
     nrbpf_store *of;
     struct nrbpf_raw_session raw;
 };
