@@ -4,6 +4,12 @@
 
 enum { LONGEST_KEY = 64 };
 
+// Lets another session go on, after so many tries of a call. The first time counts the call as one that waits.
+static void wait_behind(struct place *place, unsigned tries) {
+    if (tries == 0) place->waits = place->waits + 1;
+    pause_behind(tries);
+}
+
 // Whether the session of this handle takes a call: H2, H3.
 static nrbpf_status usable(const struct place *place, const nrbpf_session *session) {
     if (place->handle != session) {
@@ -33,12 +39,13 @@ static nrbpf_status told(const struct nrbpf_raw_session *raw, nrbpf_error *why) 
 static nrbpf_status go_on(struct place *place, nrbpf_answer *out, nrbpf_error *why) {
     struct nrbpf_raw_session *const raw = &place->raw;
     nrbpf_raw_call(raw);
-    place->is_posted = raw->status == NRBPF_POSTED;
     if (raw->status == NRBPF_OK) {
+        place->is_posted = 0;
         out->point = raw->point;
         out->reply = raw->reply;
         return NRBPF_OK;
     }
+    place->is_posted = raw->status == NRBPF_POSTED;
     return told(raw, why);
 }
 
@@ -47,7 +54,7 @@ static nrbpf_status wait_for(struct place *place, nrbpf_answer *out, nrbpf_error
     nrbpf_status status;
     unsigned tries = 0;
     do {
-        pause_behind(tries);
+        wait_behind(place, tries);
         tries = one_more(tries);
         status = go_on(place, out, why);
     } while (status == NRBPF_BUSY || status == NRBPF_POSTED);
@@ -63,6 +70,9 @@ static inline nrbpf_status run(nrbpf_session *session, uint64_t call, uint16_t p
     const nrbpf_status status = usable(place, session);
     if (status != NRBPF_OK) {
         return status;
+    }
+    if (call == NRBPF_RAW_UPDATE) {
+        place->updates = place->updates + 1;
     }
     place->raw.call = call;
     place->raw.program = program;
@@ -107,6 +117,7 @@ static nrbpf_status install(nrbpf_session *session, uint64_t call, const nrbpf_c
     if (program->len > sizeof place->raw.bytes) {
         return refused(why, program->mode > NRBPF_MODE_READ ? NRBPF_H5 : NRBPF_S6);
     }
+    place->updates = place->updates + 1;
     place->raw.call = call;
     place->raw.program = program->maps;
     place->raw.mode = program->mode;
@@ -188,7 +199,7 @@ nrbpf_status nrbpf_get(nrbpf_session *session, uint32_t map, const void *key, si
     nrbpf_status status = nrbpf_try_get(session, map, key, key_len, value, value_len, out);
     unsigned tries = 0;
     while (status == NRBPF_BUSY) {
-        pause_behind(tries);
+        wait_behind(place_of(session), tries);
         tries = one_more(tries);
         status = nrbpf_try_get(session, map, key, key_len, value, value_len, out);
     }
@@ -224,7 +235,7 @@ nrbpf_status nrbpf_scan(nrbpf_session *session, uint32_t map, uint32_t from, voi
     nrbpf_status status = nrbpf_try_scan(session, map, from, keys, keys_room, values, values_room, out);
     unsigned tries = 0;
     while (status == NRBPF_BUSY) {
-        pause_behind(tries);
+        wait_behind(place_of(session), tries);
         tries = one_more(tries);
         status = nrbpf_try_scan(session, map, from, keys, keys_room, values, values_room, out);
     }
@@ -280,7 +291,7 @@ nrbpf_status nrbpf_read_each(nrbpf_session *session, const nrbpf_question *quest
     nrbpf_status status = nrbpf_try_read_each(session, questions, count, replies, point, why);
     unsigned tries = 0;
     while (status == NRBPF_BUSY) {
-        pause_behind(tries);
+        wait_behind(place_of(session), tries);
         tries = one_more(tries);
         status = nrbpf_try_read_each(session, questions, count, replies, point, why);
     }
@@ -308,7 +319,7 @@ nrbpf_status nrbpf_snapshot(nrbpf_session *session, nrbpf_state *into, uint64_t 
     nrbpf_status status = nrbpf_try_snapshot(session, into, point);
     unsigned tries = 0;
     while (status == NRBPF_BUSY) {
-        pause_behind(tries);
+        wait_behind(place_of(session), tries);
         tries = one_more(tries);
         status = nrbpf_try_snapshot(session, into, point);
     }
@@ -346,7 +357,7 @@ nrbpf_status nrbpf_map_info(nrbpf_session *session, uint32_t map, nrbpf_map_fact
     nrbpf_status status = nrbpf_try_map_info(session, map, out, size);
     unsigned tries = 0;
     while (status == NRBPF_BUSY) {
-        pause_behind(tries);
+        wait_behind(place_of(session), tries);
         tries = one_more(tries);
         status = nrbpf_try_map_info(session, map, out, size);
     }
@@ -393,9 +404,53 @@ nrbpf_status nrbpf_program_info(nrbpf_session *session, uint16_t program, nrbpf_
     nrbpf_status status = nrbpf_try_program_info(session, program, out, size);
     unsigned tries = 0;
     while (status == NRBPF_BUSY) {
-        pause_behind(tries);
+        wait_behind(place_of(session), tries);
         tries = one_more(tries);
         status = nrbpf_try_program_info(session, program, out, size);
+    }
+    return status;
+}
+
+// ---- What a store does
+
+nrbpf_status nrbpf_try_stats(nrbpf_session *session, nrbpf_counts *out, size_t size) {
+    struct nrbpf_raw_counts raw = {0, 0, 0, 0, 0, 0, 0, 0};
+    if (!session || !out) {
+        return NRBPF_H7;
+    }
+    struct place *const place = place_of(session);
+    nrbpf_status status = usable(place, session);
+    if (status != NRBPF_OK) {
+        return status;
+    }
+    nrbpf_raw_stats(&place->raw, &raw);
+    status = told(&place->raw, NULL);
+    if (status == NRBPF_OK) {
+        nrbpf_counts counts;
+        memset(&counts, 0, sizeof counts);
+        counts.completed = raw.completed;
+        counts.appended = raw.appended;
+        counts.kept = raw.kept;
+        counts.tail = raw.tail;
+        counts.lag = raw.lag;
+        counts.updates = place->updates;
+        counts.waits = place->waits;
+        counts.batches = raw.batches;
+        counts.batched = raw.batched;
+        counts.largest = raw.largest;
+        counts.node = place->node;
+        put_facts(out, size, &counts, sizeof counts);
+    }
+    return status;
+}
+
+nrbpf_status nrbpf_stats(nrbpf_session *session, nrbpf_counts *out, size_t size) {
+    nrbpf_status status = nrbpf_try_stats(session, out, size);
+    unsigned tries = 0;
+    while (status == NRBPF_BUSY) {
+        wait_behind(place_of(session), tries);
+        tries = one_more(tries);
+        status = nrbpf_try_stats(session, out, size);
     }
     return status;
 }

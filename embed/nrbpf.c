@@ -329,6 +329,9 @@ nrbpf_status nrbpf_attach(nrbpf_store *store, uint32_t node, nrbpf_session **out
     if (status == NRBPF_OK) {
         place->handle = next_handle(place);
         place->is_posted = 0;
+        place->node = node;
+        place->updates = 0;
+        place->waits = 0;
         *out = place->handle;
     }
     pthread_mutex_unlock(&store->mutex);

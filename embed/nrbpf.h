@@ -609,6 +609,49 @@ typedef struct nrbpf_store_facts {
 NRBPF_MUST_LOOK nrbpf_status nrbpf_store_info(
     nrbpf_store *store, nrbpf_store_facts *out, size_t size);
 
+// ---- What a store does: counts for its operators
+
+typedef struct nrbpf_counts {
+    // How many updates of the history are completed. Each answered update is
+    // one of them.
+    uint64_t completed;
+    // How many updates the history has.
+    uint64_t appended;
+    // How many of these the log keeps. It keeps no more than its window.
+    uint64_t kept;
+    // How many updates the maps of the session's node have seen.
+    uint64_t tail;
+    // How many completed updates these maps have still to see.
+    uint64_t lag;
+    // How many updates and installs this session was asked for since it was
+    // attached, refused ones too. Reads are not counted.
+    uint64_t updates;
+    // How many calls of this session waited for another session since it was
+    // attached. The calls that wait for nobody are not counted.
+    uint64_t waits;
+    // How many batches of several updates this session combined since it was
+    // attached: an update of its own, and others of its node that it took
+    // along. A batch of one update is not counted.
+    uint64_t batches;
+    // How many updates these batches had.
+    uint64_t batched;
+    // How many updates the largest of them had.
+    uint64_t largest;
+    // The session's node.
+    uint32_t node;
+} nrbpf_counts;
+
+// Says what the store has done, and how far the session's node has come. The
+// first five counts are of one moment of the call. A session says nothing of
+// other nodes: ask a session of each. While the call reads, it keeps the node's
+// maps and the log from other sessions. So ask once a second, not at each call.
+// `size` is the size of the host's struct, as above. nrbpf_try_stats waits for
+// nobody, and may answer BUSY. Refuse with H2, H3 and H7. [session]
+NRBPF_MUST_LOOK nrbpf_status nrbpf_stats(
+    nrbpf_session *session, nrbpf_counts *out, size_t size);
+NRBPF_MUST_LOOK nrbpf_status nrbpf_try_stats(
+    nrbpf_session *session, nrbpf_counts *out, size_t size);
+
 // ---- States: from a running store, as text, and from a text
 
 // Makes a state for any number of snapshots of this store. Before the first

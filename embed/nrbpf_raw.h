@@ -153,6 +153,18 @@ struct nrbpf_raw_facts {
     uint64_t maps, programs;                    /* how many it has; programs of the manifest alone */
 };
 
+/* What a store had done at one moment: memory of the host's, all of which is written before it is passed in. */
+struct nrbpf_raw_counts {
+    uint64_t completed;     /* how many operations of the history were completed */
+    uint64_t appended;      /* how many the history had */
+    uint64_t kept;          /* how many of these the log kept */
+    uint64_t tail;          /* how many the replica of the session's node had applied */
+    uint64_t lag;           /* how many completed operations it had still to apply */
+    uint64_t batches;       /* how many batches of several updates the session has combined since it was attached; nothing is proved of these three */
+    uint64_t batched;       /* how many updates these had, all together */
+    uint64_t largest;       /* how many the largest had */
+};
+
 /* ---- the functions */
 
 uint32_t nrbpf_raw_version(void);           /* of this interface: 1000 times the major number, and the minor one: 2000 */
@@ -245,6 +257,10 @@ void nrbpf_raw_program_info(struct nrbpf_raw_session *session, struct nrbpf_raw_
 
 /* Writes what the store is from its opening on. The status stands in the store's handle: 0, H2; with H2 the words are as they were. */
 void nrbpf_raw_store_info(struct nrbpf_raw_store *at, struct nrbpf_raw_facts *words);
+
+/* Writes what the store had done at one moment, and how far the session's node had come then. It takes the node's replica and the log, and changes neither.
+ * The session's handle gets the status: 0, BUSY, H2, H3. With any but 0 the words are as they were. */
+void nrbpf_raw_stats(struct nrbpf_raw_session *session, struct nrbpf_raw_counts *words);
 
 #ifdef __cplusplus
 }

@@ -304,6 +304,7 @@ struct program_facts {
 };
 
 using store_facts = nrbpf_store_facts;
+using counts = nrbpf_counts;
 
 namespace detail {
 
@@ -363,6 +364,11 @@ class session {
         nrbpf_program_facts told{};
         if (!detail::is_answered(call(at, program, &told, sizeof told))) return {};
         return program_facts{told.point, told.is_place != 0, told.is_there != 0, static_cast<mode>(told.mode), told.argument_len, told.slots, told.maps, told.name};
+    }
+    template <class Call> std::optional<counts> count(Call call) {
+        counts told{};
+        if (!detail::is_answered(call(at, &told, sizeof told))) return {};
+        return told;
     }
     template <class Call> std::optional<replies> ask(Call call, const std::vector<question> &questions) {
         std::vector<nrbpf_question> asked;
@@ -487,6 +493,9 @@ public:
     std::optional<map_facts> try_map_info(std::uint32_t map) { return tell_map(nrbpf_try_map_info, map); }
     program_facts program_info(std::uint16_t program) { return *tell_program(nrbpf_program_info, program); }
     std::optional<program_facts> try_program_info(std::uint16_t program) { return tell_program(nrbpf_try_program_info, program); }
+    // What the store has done, and how far the session's node has come. For the other nodes ask a session of each.
+    counts stats() { return *count(nrbpf_stats); }
+    std::optional<counts> try_stats() { return count(nrbpf_try_stats); }
 
     // Copies the store's state at one point of the history, and answers the point. Other nodes go on. Sessions of this node wait meanwhile.
     std::uint64_t snapshot(state &into) { return *copy(nrbpf_snapshot, into); }

@@ -526,6 +526,18 @@ static void lists_of_threads() {
     ANSWER(store.attach().read(store.program("peek"), bytes_of(third)), 16000, 16000);
 }
 
+static void a_store_tells_what_it_has_done() {
+    nrbpf::store store(example("counter"), config(2, 1));
+    const auto bump = store.program("bump");
+    auto session = store.attach(0), other = store.attach(1);
+    for (int i = 0; i < 3; i++) session.update(bump, bytes_of(third));
+    const auto own = session.stats();
+    EXPECT(own.completed == 3 && own.appended == 3 && own.kept == 3 && own.tail == 3 && own.lag == 0);
+    EXPECT(own.updates == 3 && own.waits == 0 && own.batches == 0 && own.largest == 0 && own.node == 0);
+    const auto behind = answered([&] { return other.try_stats(); });
+    EXPECT(behind.completed == 3 && behind.tail == 0 && behind.lag == 3 && behind.updates == 0 && behind.node == 1);
+}
+
 // ---- How things end
 
 static void ends() {
@@ -548,7 +560,7 @@ int main() {
         {"header", header}, {"scans", scans}, {"rows", rows}, {"installs", installs}, {"installs_within", installs_within}, {"tries", tries}, {"gets_and_scans", gets_and_scans}, {"reads_at_one_point", reads_at_one_point},
         {"four_threads", four_threads}, {"tries_beside_others", tries_beside_others}, {"snapshots", snapshots},
         {"snapshots_beside_threads", snapshots_beside_threads}, {"dumps", dumps}, {"stores_go_on", stores_go_on}, {"close_next_to_a_session", close_next_to_a_session},
-        {"refused_manifests", refused_manifests}, {"refused_dumps", refused_dumps}, {"refused_calls", refused_calls}, {"limits", limits}, {"a_store_tells_what_it_is", a_store_tells_what_it_is}, {"lists", lists}, {"lists_of_threads", lists_of_threads}, {"ends", ends},
+        {"refused_manifests", refused_manifests}, {"refused_dumps", refused_dumps}, {"refused_calls", refused_calls}, {"limits", limits}, {"a_store_tells_what_it_is", a_store_tells_what_it_is}, {"a_store_tells_what_it_has_done", a_store_tells_what_it_has_done}, {"lists", lists}, {"lists_of_threads", lists_of_threads}, {"ends", ends},
     };
     for (const auto &[name, test] : tests) {
         try {

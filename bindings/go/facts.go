@@ -45,6 +45,21 @@ type StoreInfo struct {
 	Programs                           uint32 // how many programs its manifest has: the numbers of the spare places come after theirs
 }
 
+// Counts is what a store has done, how far the session's node has come, and what the session was asked for.
+type Counts struct {
+	Completed uint64 // how many updates of the history are completed: each answered update is one of them
+	Appended  uint64 // how many updates the history has
+	Kept      uint64 // how many of these the log keeps: no more than its window
+	Tail      uint64 // how many updates the maps of the session's node have seen
+	Lag       uint64 // how many completed updates these maps have still to see
+	Updates   uint64 // how many updates and installs the session was asked for: reads are not counted
+	Waits     uint64 // how many calls of the session waited for another session
+	Batches   uint64 // how many batches of several updates it combined: one of its own, and others of its node that it took along
+	Batched   uint64 // how many updates these batches had
+	Largest   uint64 // how many updates the largest of them had
+	Node      uint32 // the session's node
+}
+
 // Info is what a store is from its opening on.
 func (s *Store) Info() (StoreInfo, error) {
 	s.lock.RLock()
@@ -119,6 +134,37 @@ func (s *Session) programInfo(call func(*C.nrbpf_program_facts) C.nrbpf_status) 
 		info.Facts = &ProgramFacts{Mode: Mode(it.mode), ArgumentLen: uint32(it.argument_len), Slots: uint32(it.slots), Maps: numbers(it.maps)}
 	}
 	return info, nil
+}
+
+// Stats is what the store has done, and how far the session's node has come: its first five counts are of one moment of the call. For the other nodes
+// ask a session of each. H2, H3.
+func (s *Session) Stats() (Counts, error) {
+	return s.counts(func(it *C.nrbpf_counts) C.nrbpf_status {
+		return C.nrbpf_stats(s.at, it, C.sizeof_nrbpf_counts)
+	})
+}
+
+// TryStats is a Stats that waits for nobody: ErrBusy besides.
+func (s *Session) TryStats() (Counts, error) {
+	return s.counts(func(it *C.nrbpf_counts) C.nrbpf_status {
+		return C.nrbpf_try_stats(s.at, it, C.sizeof_nrbpf_counts)
+	})
+}
+
+func (s *Session) counts(call func(*C.nrbpf_counts) C.nrbpf_status) (Counts, error) {
+	defer s.lock.Unlock()
+	if err := s.enter(); err != nil {
+		return Counts{}, err
+	}
+	var it C.nrbpf_counts
+	if err := told(call(&it)); err != nil {
+		return Counts{}, err
+	}
+	return Counts{
+		Completed: uint64(it.completed), Appended: uint64(it.appended), Kept: uint64(it.kept), Tail: uint64(it.tail), Lag: uint64(it.lag),
+		Updates: uint64(it.updates), Waits: uint64(it.waits),
+		Batches: uint64(it.batches), Batched: uint64(it.batched), Largest: uint64(it.largest), Node: uint32(it.node),
+	}, nil
 }
 
 // numbers has the number of each map whose bit is set.

@@ -39,3 +39,17 @@ func TestInfo(t *testing.T) {
 	same(t, "an installed program", told(must(session.ProgramInfo(1))), `2 true "" {1 5 2 []}`)
 	refused(t, last(session.ProgramInfo(2)), nrbpf.ErrUnknownProgram)
 }
+
+func TestStats(t *testing.T) {
+	store := must(nrbpf.Open(nrbpf.NewConfig(2, 2), nrbpf.Manifest{Text: "map array 8 4\nprogram five update 0 five.hex\n", Files: map[string]string{"five.hex": "b7000000050000009500000000000000"}}))
+	t.Cleanup(func() {
+		if err := store.Close(); err != nil {
+			t.Error(err)
+		}
+	})
+	own, other := attached(t, store, 0), attached(t, store, 1)
+	must(own.Update(0, nil))
+	must(own.Update(0, nil))
+	same(t, "its own node", must(own.Stats()), nrbpf.Counts{Completed: 2, Appended: 2, Kept: 2, Tail: 2, Updates: 2})
+	same(t, "the other node", must(other.TryStats()), nrbpf.Counts{Completed: 2, Appended: 2, Kept: 2, Lag: 2, Node: 1})
+}

@@ -48,6 +48,7 @@ static void refuse_others(nrbpf_session *session) {
     nrbpf_scanned scanned;
     nrbpf_map_facts map;
     nrbpf_program_facts program;
+    nrbpf_counts counts;
     nrbpf_error why;
     nrbpf_state *state;
     EXPECT_STATUS(nrbpf_state_new(store, &state), NRBPF_OK);
@@ -61,6 +62,7 @@ static void refuse_others(nrbpf_session *session) {
     EXPECT_STATUS(nrbpf_scan(session, 0, 0, NULL, 0, NULL, 0, &scanned), NRBPF_H3);
     EXPECT_STATUS(nrbpf_map_info(session, 0, &map, sizeof map), NRBPF_H3);
     EXPECT_STATUS(nrbpf_program_info(session, bump, &program, sizeof program), NRBPF_H3);
+    EXPECT_STATUS(nrbpf_stats(session, &counts, sizeof counts), NRBPF_H3);
     EXPECT_STATUS(nrbpf_read_each(session, NULL, 0, &reply, &point, &why), NRBPF_H3);
     EXPECT_STATUS(nrbpf_try_snapshot(session, state, &point), NRBPF_H3);
     EXPECT_STATUS(nrbpf_detach(session), NRBPF_H3);

@@ -245,7 +245,7 @@ typedef struct client {
 // The lock is of all that is static below it.
 static pthread_mutex_t lock = PTHREAD_MUTEX_INITIALIZER;
 static pthread_cond_t left_one = PTHREAD_COND_INITIALIZER;
-static struct { uint64_t clients, turned_away, lines, granted; } figures;
+static struct { uint64_t clients, turned_away, lines, granted, waits; } figures;
 static client *clients;
 static int count;                               // of them
 
@@ -284,17 +284,45 @@ static void put_maps(FILE *out, nrbpf_session *session) {
     for (uint32_t m = 0; m < facts.maps; m++) fprintf(out, "limiter_map_entries{map=\"%" PRIu32 "\"} %" PRIu64 "\n", m, map[m].entries);
 }
 
+// What the store says of what it has done. A session tells of its own node alone, so a session of each is asked: a node whose sessions are all attached has no
+// line. Under the lock, so that no client is turned away meanwhile.
+static void put_stats(FILE *out) {
+    nrbpf_store_facts facts;
+    nrbpf_counts of[NODES + 1] = {0}, any = {0};
+    int is_told[NODES + 1] = {0};
+    check(nrbpf_store_info(store, &facts, sizeof facts));
+    for (uint32_t node = 0; node <= NODES; node++) {
+        nrbpf_session *session;
+        if (nrbpf_attach(store, node, &session)) continue;
+        check(nrbpf_stats(session, &of[node], sizeof of[node]));
+        check(nrbpf_detach(session));
+        is_told[node] = 1;
+        any = of[node];
+    }
+    put_figure(out, "limiter_completed_total", "counter", "Updates that are completed.", any.completed);
+    put_figure(out, "limiter_log_kept", "gauge", "Updates that the log keeps.", any.kept);
+    put_figure(out, "limiter_log_window", "gauge", "Updates that the log keeps at most.", facts.window);
+    fputs("# HELP limiter_node_tail Updates that a node has applied.\n# TYPE limiter_node_tail counter\n", out);
+    for (int n = 0; n <= NODES; n++)
+        if (is_told[n]) fprintf(out, "limiter_node_tail{node=\"%d\"} %" PRIu64 "\n", n, of[n].tail);
+    fputs("# HELP limiter_node_lag Completed updates that a node has still to apply.\n# TYPE limiter_node_lag gauge\n", out);
+    for (int n = 0; n <= NODES; n++)
+        if (is_told[n]) fprintf(out, "limiter_node_lag{node=\"%d\"} %" PRIu64 "\n", n, of[n].lag);
+}
+
 // Reads the rest of the request, up to an empty line, and answers it.
 static void put_page(const client *of, input *in, FILE *out) {
     char line[MOST_LINE];
     while (take_line(in, line, 1) && strcmp(line, "\r\n") && strcmp(line, "\n")) {}
     pthread_mutex_lock(&lock);
-    const uint64_t here = (uint64_t)count, all = figures.clients, away = figures.turned_away;
-    pthread_mutex_unlock(&lock);
+    const uint64_t here = (uint64_t)count, all = figures.clients, away = figures.turned_away, waits = figures.waits;
     fputs("HTTP/1.0 200 OK\r\nContent-Type: text/plain; version=0.0.4\r\n\r\n", out);
+    put_stats(out);
+    pthread_mutex_unlock(&lock);
     put_figure(out, "limiter_clients", "gauge", "Clients that are connected.", here);
     put_figure(out, "limiter_clients_total", "counter", "Clients that got a session.", all);
     put_figure(out, "limiter_turned_away_total", "counter", "Clients that got none.", away);
+    put_figure(out, "limiter_waits_total", "counter", "Calls of clients that have left which waited for another client.", waits);
     put_maps(out, of->session);
     fflush(out);
 }
@@ -357,17 +385,20 @@ static void serve(client *of, input *in, FILE *out) {
 
 static void *work(void *at) {
     client *of = at, **place = &clients;
+    nrbpf_counts counts;
     input in = {.socket = of->socket};
     FILE *out = fdopen(of->socket, "w");
     if (!out) fail("limiter");
     serve(of, &in, out);
     pthread_mutex_lock(&lock);
+    check(nrbpf_stats(of->session, &counts, sizeof counts));
     check(nrbpf_detach(of->session));
     while (*place != of) place = &(*place)->next;
     *place = of->next;
     fclose(out);                                // under the lock, so that `stop` shuts no socket down that is another's by now
     figures.lines += of->lines;
     figures.granted += of->granted;
+    figures.waits += counts.waits;
     count--;
     pthread_cond_signal(&left_one);
     pthread_mutex_unlock(&lock);

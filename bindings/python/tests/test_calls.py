@@ -144,6 +144,16 @@ class Facts(unittest.TestCase):
                         call(number)
                     self.assertEqual(refused.exception.status, status)
 
+    def test_what_it_has_done(self):
+        with counter(nodes=2, slots=1) as (store, session, bump, _):
+            for _ in range(3):
+                session.update(bump, u32(3))
+            with store.attach(1) as other:
+                told = nrbpf.Counts(3, 3, 3, 3, 0, updates=3, waits=0, batches=0, batched=0, largest=0, node=0)
+                self.assertEqual(session.stats(), told)
+                behind = tried(other, other.try_stats)
+                self.assertEqual((behind.completed, behind.tail, behind.lag, behind.node), (3, 0, 3, 1))
+
 
 class Tries(unittest.TestCase):
     def test_updates_and_reads(self):

@@ -1,4 +1,4 @@
-//! What a store says of itself: of its maps, its programs and its sizes.
+//! What a store says of itself: of its maps, its programs, its sizes, and what it has done.
 
 use crate::error::check;
 use crate::session::{unless_busy, Session};
@@ -110,6 +110,41 @@ pub struct StoreInfo {
     pub programs: u32,
 }
 
+/// What a store has done, how far the session's node has come, and what the session was asked for.
+#[derive(Clone, Copy, Debug, PartialEq, Eq, Hash)]
+#[non_exhaustive]
+pub struct Counts {
+    /// How many updates of the history are completed. Each answered update is one of them.
+    pub completed: u64,
+    /// How many updates the history has.
+    pub appended: u64,
+    /// How many of these the log keeps. It keeps no more than its window.
+    pub kept: u64,
+    /// How many updates the maps of the session's node have seen.
+    pub tail: u64,
+    /// How many completed updates these maps have still to see.
+    pub lag: u64,
+    /// How many updates and installs this session was asked for. Reads are not counted.
+    pub updates: u64,
+    /// How many calls of this session waited for another session.
+    pub waits: u64,
+    /// How many batches of several updates this session combined: an update of its own, and others of its node that it took along.
+    pub batches: u64,
+    /// How many updates these batches had.
+    pub batched: u64,
+    /// How many updates the largest of them had.
+    pub largest: u64,
+    /// The session's node.
+    pub node: u32,
+}
+
+impl Counts {
+    fn of(told: sys::nrbpf_counts) -> Counts {
+        let sys::nrbpf_counts { completed, appended, kept, tail, lag, updates, waits, batches, batched, largest, node } = told;
+        Counts { completed, appended, kept, tail, lag, updates, waits, batches, batched, largest, node }
+    }
+}
+
 impl Store {
     /// What it is from its opening on.
     pub fn info(&self) -> StoreInfo {
@@ -171,5 +206,30 @@ impl Session<'_> {
         // SAFETY: as above.
         let status = unsafe { sys::nrbpf_try_program_info(self.as_ptr(), program, &mut out, size_of::<sys::nrbpf_program_facts>()) };
         Ok(unless_busy(status, sys::nrbpf_error::default())?.then(|| ProgramInfo::of(out)))
+    }
+
+    /// What the store has done, and how far the session's node has come: the first five counts are of one moment of the call. For the other nodes ask
+    /// a session of each.
+    ///
+    /// # Errors
+    ///
+    /// H3 while an update is posted.
+    pub fn stats(&mut self) -> Result<Counts, Error> {
+        let mut out = sys::nrbpf_counts::default();
+        // SAFETY: as above.
+        check(unsafe { sys::nrbpf_stats(self.as_ptr(), &mut out, size_of::<sys::nrbpf_counts>()) })?;
+        Ok(Counts::of(out))
+    }
+
+    /// As [`stats`](Session::stats), and waits for nobody: none if another session was in the way.
+    ///
+    /// # Errors
+    ///
+    /// The same.
+    pub fn try_stats(&mut self) -> Result<Option<Counts>, Error> {
+        let mut out = sys::nrbpf_counts::default();
+        // SAFETY: as above.
+        let status = unsafe { sys::nrbpf_try_stats(self.as_ptr(), &mut out, size_of::<sys::nrbpf_counts>()) };
+        Ok(unless_busy(status, sys::nrbpf_error::default())?.then(|| Counts::of(out)))
     }
 }

@@ -12,7 +12,7 @@ pub mod sys;
 #[doc(hidden)]
 pub use error::NAMES;
 pub use error::{Error, QuestionRefused, Refusal};
-pub use facts::{MapInfo, MapShape, ProgramFacts, ProgramInfo, StoreInfo};
+pub use facts::{Counts, MapInfo, MapShape, ProgramFacts, ProgramInfo, StoreInfo};
 pub use lane::{Lane, TriedEach, MOST_SLOTS};
 pub use manifest::Manifest;
 pub use session::{Answer, Found, Mode, Page, Question, Scan, Session, Tried, REPLY_INVALID, REPLY_NO_ROOM};

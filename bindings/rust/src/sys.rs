@@ -161,6 +161,22 @@ pub struct nrbpf_store_facts {
     pub programs: u32,
 }
 
+#[repr(C)]
+#[derive(Clone, Copy, Debug, Default)]
+pub struct nrbpf_counts {
+    pub completed: u64,
+    pub appended: u64,
+    pub kept: u64,
+    pub tail: u64,
+    pub lag: u64,
+    pub updates: u64,
+    pub waits: u64,
+    pub batches: u64,
+    pub batched: u64,
+    pub largest: u64,
+    pub node: u32,
+}
+
 pub type nrbpf_writer = extern "C" fn(to: *mut c_void, bytes: *const c_char, len: usize) -> c_int;
 
 extern "C" {
@@ -303,6 +319,8 @@ extern "C" {
     pub fn nrbpf_program_info(session: *mut nrbpf_session, program: u16, out: *mut nrbpf_program_facts, size: usize) -> u32;
     pub fn nrbpf_try_program_info(session: *mut nrbpf_session, program: u16, out: *mut nrbpf_program_facts, size: usize) -> u32;
     pub fn nrbpf_store_info(store: *mut nrbpf_store, out: *mut nrbpf_store_facts, size: usize) -> u32;
+    pub fn nrbpf_stats(session: *mut nrbpf_session, out: *mut nrbpf_counts, size: usize) -> u32;
+    pub fn nrbpf_try_stats(session: *mut nrbpf_session, out: *mut nrbpf_counts, size: usize) -> u32;
     pub fn nrbpf_state_new(store: *mut nrbpf_store, out: *mut *mut nrbpf_state) -> u32;
     pub fn nrbpf_snapshot(session: *mut nrbpf_session, into: *mut nrbpf_state, point: *mut u64) -> u32;
     pub fn nrbpf_try_snapshot(session: *mut nrbpf_session, into: *mut nrbpf_state, point: *mut u64) -> u32;

@@ -290,3 +290,18 @@ fn a_store_tells_what_it_is() -> Result<(), Error> {
     assert_eq!(session.program_info(2), Err(Error::UnknownProgram));
     Ok(())
 }
+
+#[test]
+fn a_store_tells_what_it_has_done() -> Result<(), Error> {
+    let store = counter(Config::new(2, 1));
+    let (mut session, mut other) = (store.attach(0)?, store.attach(1)?);
+    for _ in 0..3 {
+        session.update(BUMP, &key(3))?;
+    }
+    let own = session.stats()?;
+    assert_eq!((own.completed, own.appended, own.kept, own.tail, own.lag), (3, 3, 3, 3, 0));
+    assert_eq!((own.updates, own.waits, own.batches, own.node), (3, 0, 0, 0));
+    let behind = answered(|| other.try_stats())?;
+    assert_eq!((behind.completed, behind.tail, behind.lag, behind.updates, behind.node), (3, 0, 3, 0, 1));
+    Ok(())
+}

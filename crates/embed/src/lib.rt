@@ -13,8 +13,9 @@ ghost use Rattle.host_calls.specs.Openings.{IsOpened};
 ghost use Rattle.host_calls.specs.Loadings.{IsLoaded};
 ghost use Rattle.host_calls.specs.Looks.{Answers, Gets, Scans, Snaps};
 ghost use Rattle.host_calls.specs.Describing.{DescribesMap, DescribesProgram, DescribesStore};
+ghost use Rattle.host_calls.specs.Measuring.{Measures};
 ghost use Rattle.host_calls.specs.States.{IsDumped, IsPart, Makes, bytes_in};
-ghost use Rattle.host_calls.specs.Rooms.{holds_facts, holds_map, holds_program, holds_session, holds_state, holds_store, holds_text};
+ghost use Rattle.host_calls.specs.Rooms.{holds_facts, holds_map, holds_program, holds_session, holds_state, holds_stats, holds_store, holds_text};
 ghost use Rattle.host_calls.specs.contracts.handles.SessionHandle.{the_row as the_session};
 ghost use Rattle.host_calls.specs.contracts.handles.StateHandle.{the_row as the_state};
 ghost use Rattle.host_calls.specs.contracts.handles.StoreHandle.{the_row as the_store};
@@ -28,6 +29,7 @@ use host_calls::describing::{
 use host_calls::handles::{Asking, Opening, SessionHandle, StateHandle, StoreHandle, TextHandle};
 use host_calls::loading::load_text;
 use host_calls::looks::{get, read_each, scan, snapshot};
+use host_calls::measuring::{StatWords, measure};
 use host_calls::opening::{open, open_on};
 use host_calls::states::{drop_text, dump_state, make_state, part};
 use host_calls::stores::{attach, close, detach, find_number};
@@ -327,5 +329,18 @@ pub unsafe extern "C" fn nrbpf_raw_store_info(at: *mut u8, words: *mut u8)
     describe_store(
         &mut *(at as *mut StoreHandle),
         &mut *(words as *mut StoreWords),
+    );
+}
+
+/// Writes what the store had done at one moment, and how far the session's node had come then.
+#[unsafe(no_mangle)]
+pub unsafe extern "C" fn nrbpf_raw_stats(at: *mut u8, words: *mut u8)
+    ghost values: { SessionHandle × StatWords }
+    requires* { sem 𝓛 (holds_session at values.0) ∗ sem 𝓛 (holds_stats words values.1) }
+    ensures* { ∃ₛ (λ after. ∃ₛ (λ left. sem 𝓛 (holds_session at after) ∗ sem 𝓛 (holds_stats words left) ∗ ⌜ Measures values.0 after values.1 left ⌝)) }
+{
+    measure(
+        &mut *(at as *mut SessionHandle),
+        &mut *(words as *mut StatWords),
     );
 }

@@ -6,6 +6,7 @@ pub mod CallResults
 pub mod Calls
 pub mod Looks
 pub mod Describing
+pub mod Measuring
 pub mod Seating
 pub mod Stores
 pub mod Openings

@@ -10,9 +10,11 @@ use Rattle.host_calls.specs.declared.handles.TextHandle.{TextHandle}
 use Rattle.host_calls.specs.declared.describing.MapWords.{MapWords}
 use Rattle.host_calls.specs.declared.describing.ProgramWords.{ProgramWords}
 use Rattle.host_calls.specs.declared.describing.StoreWords.{StoreWords}
+use Rattle.host_calls.specs.declared.measuring.StatWords.{StatWords}
 use Rattle.host_calls.specs.contracts.describing.MapWords.{the_row as the_map_words}
 use Rattle.host_calls.specs.contracts.describing.ProgramWords.{the_row as the_program_words}
 use Rattle.host_calls.specs.contracts.describing.StoreWords.{the_row as the_store_words}
+use Rattle.host_calls.specs.contracts.measuring.StatWords.{the_row as the_stat_words}
 use Rattle.host_calls.specs.contracts.handles.StateHandle.{the_row as the_state}
 use Rattle.host_calls.specs.contracts.handles.StoreHandle.{the_row as the_store}
 use Rattle.host_calls.specs.contracts.handles.SessionHandle.{the_row as the_session}
@@ -38,3 +40,6 @@ holds_program p h = lies_at the_program_words full_share p h
 
 abbrev pub holds_facts : Ptr → StoreWords → Fml
 holds_facts p h = lies_at the_store_words full_share p h
+
+abbrev pub holds_stats : Ptr → StatWords → Fml
+holds_stats p h = lies_at the_stat_words full_share p h

@@ -9,6 +9,7 @@ pub mod describing;
 pub mod handles;
 pub mod loading;
 pub mod looks;
+pub mod measuring;
 pub mod opening;
 pub mod pool;
 pub mod states;

@@ -7,6 +7,7 @@ mod asked;
 mod closed;
 mod describing;
 mod laws;
+mod measuring;
 mod opening;
 mod pipeline;
 mod polled;
@@ -31,7 +32,7 @@ pub use session::Session;
 pub use store::Store;
 pub use store_steps::{
     Batches, Beginning, GetRefused, InfoRefused, Lookup, MapInfo, MapKey, ProgramFacts,
-    ProgramInfo, Question, QuestionRefused, Scan, ScanRefused, Setup, Value, desks,
+    ProgramInfo, Question, QuestionRefused, Scan, ScanRefused, Setup, Stats, Value, desks,
 };
 pub use verifier::Mode;
 pub use within::Confined;

@@ -33,7 +33,7 @@ use readpath::ReadAnswer;
 use replica::{Replies, StoreRefused, check_call, check_install};
 use std::marker::Model;
 use store_steps::{
-    Beginning, Caller, Deed, Get, GetRefused, Here, Look, Lookup, MapKey, Page, Question,
+    Batches, Beginning, Caller, Deed, Get, GetRefused, Here, Look, Lookup, MapKey, Page, Question,
     QuestionRefused, Reads, Scan, ScanRefused, Snapshot, Stage, Value, go_on, go_on_at_once,
     try_look, try_post,
 };
@@ -77,6 +77,8 @@ pub struct Polled {
     pub(crate) stage: Stage,
     // Whether the update that is out goes by four takes.
     pub(crate) at_once: bool,
+    // The batches of several updates that it has combined.
+    pub(crate) shared: Batches,
 }
 
 impl Model for Polled {
@@ -124,6 +126,7 @@ impl Polled {
             room,
             stage: Stage::Idle,
             at_once: false,
+            shared: Batches::none(),
         }
     }
 
@@ -158,6 +161,7 @@ impl Polled {
             replies: _replies,
             stage: _stage,
             at_once: _at_once,
+            shared: _shared,
         } = self;
         Session::new(seat, caller, room)
     }
@@ -380,7 +384,7 @@ impl Polled {
         for _ in 0..DEEDS {
             match self.deed(store) {
                 Deed::Busy => return None,
-                Deed::Went => {}
+                Deed::Went => self.count_batch(),
                 Deed::Collected(reply) => return Some(answer_of(reply)),
             }
         }

@@ -57,8 +57,8 @@ use verifier::Mode;
 /// assert_eq!(rt; answer, Ok(Answer { index: 0, reply: 5 }));
 /// ```
 pub struct Session {
-    seat: Seat<Value>,
-    caller: Caller,
+    pub(crate) seat: Seat<Value>,
+    pub(crate) caller: Caller,
     // Room for what it combines, and what it has combined.
     combining: Room,
     // Room to find out whether a program may be installed.
@@ -157,7 +157,8 @@ impl Session {
         (seat, caller)
     }
 
-    /// What the session has combined since it was opened or came back from a [`Polled`](crate::Polled), which counts nothing. No clause speaks of it.
+    /// What the session has combined since it was opened or came back from a [`Polled`](crate::Polled), which has
+    /// [its own counts](crate::Polled::shared_batches). No clause speaks of it.
     ///
     /// # Examples
     ///

@@ -38,4 +38,5 @@ pub mod AskingEach
 pub mod BetweenHolds
 pub mod Gone
 pub mod Begun
+pub mod Measured
 pub mod Export

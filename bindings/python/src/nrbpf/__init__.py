@@ -11,7 +11,7 @@ so threads wait for each other in the store alone. Make no call in a forked chil
 """
 
 from ._errors import CallError, DumpError, Error, HostError, ManifestError, OpeningError, Pending, Status
-from ._facts import MapInfo, MapShape, Mode, ProgramFacts, ProgramInfo, StoreInfo
+from ._facts import Counts, MapInfo, MapShape, Mode, ProgramFacts, ProgramInfo, StoreInfo
 from ._lane import MOST_SLOTS, Lane
 from ._manifest import LARGE, STANDARD, Limits, Manifest, Sizes
 from ._native import VERSION
@@ -39,6 +39,7 @@ __all__ = [
     "VERSION",
     "Answer",
     "CallError",
+    "Counts",
     "DumpError",
     "Error",
     "Found",

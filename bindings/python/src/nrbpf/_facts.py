@@ -1,4 +1,4 @@
-"""What a store says of itself: of its maps, its programs and its sizes."""
+"""What a store says of itself: of its maps, its programs, its sizes, and what it has done."""
 
 from __future__ import annotations
 
@@ -74,3 +74,27 @@ class StoreInfo(NamedTuple):
     spare: int
     maps: int
     programs: int
+
+
+class Counts(NamedTuple):
+    """What a store has done: how many updates are completed, how many the history has, and how many of these the log
+    keeps. How many updates the maps of the session's node have seen, and how many completed ones they have still to
+    see. How many updates and installs the session was asked for, and how many of its calls waited for another session.
+    How many batches of several updates it combined, how many updates these had, and how many the largest had; and its
+    node."""
+
+    completed: int
+    appended: int
+    kept: int
+    tail: int
+    lag: int
+    updates: int
+    waits: int
+    batches: int
+    batched: int
+    largest: int
+    node: int
+
+    @classmethod
+    def of(cls, told: _native.Counts) -> Counts:
+        return cls(*(getattr(told, name) for name in cls._fields))

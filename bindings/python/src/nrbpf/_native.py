@@ -82,6 +82,14 @@ class StoreFacts(c.Structure):
     )
 
 
+class Counts(c.Structure):
+    _fields_ = (
+        *((name, c.c_uint64) for name in ("completed", "appended", "kept", "tail", "lag")),
+        *((name, c.c_uint64) for name in ("updates", "waits", "batches", "batched", "largest")),
+        ("node", c.c_uint32),
+    )
+
+
 Writer = c.CFUNCTYPE(c.c_int, c.c_void_p, c.POINTER(c.c_char), c.c_size_t)
 
 _AT, _OUT, _SIZE, _TEXT = c.c_void_p, c.POINTER(c.c_void_p), c.c_size_t, c.c_char_p
@@ -130,6 +138,7 @@ _TWINS = {
     "map_info": [_AT, c.c_uint32, c.POINTER(MapFacts), _SIZE],
     "program_info": [_AT, c.c_uint16, c.POINTER(ProgramFacts), _SIZE],
     "snapshot": [_AT, _AT, _POINT],
+    "stats": [_AT, c.POINTER(Counts), _SIZE],
 }
 
 

@@ -8,8 +8,8 @@ from collections.abc import Callable, Iterable, Iterator, Sequence
 from typing import TYPE_CHECKING, Any, NamedTuple
 
 from . import _native
-from ._errors import Pending, Status, check, error_of, pending, within
-from ._facts import MapInfo, Mode, ProgramInfo
+from ._errors import Error, Pending, Status, check, error_of, pending, within
+from ._facts import Counts, MapInfo, Mode, ProgramInfo
 from ._handle import Handle
 from ._manifest import Buffer, as_bytes
 from ._state import State
@@ -203,6 +203,19 @@ class Session(Handle):
         told, program = _native.ProgramFacts(), within(program, 16, Status.UNKNOWN_PROGRAM)
         status = self._try(lambda at: _library.nrbpf_try_program_info(at, program, told, ctypes.sizeof(told)))
         return pending(status) or ProgramInfo.of(told)
+
+    def stats(self) -> Counts:
+        """What the store has done, and how far the session's node has come: the first five counts are of one moment of
+        the call. For the other nodes ask a session of each."""
+        told = _native.Counts()
+        check(self._use(lambda at: _library.nrbpf_stats(at, told, ctypes.sizeof(told))))
+        return Counts.of(told)
+
+    def try_stats(self) -> Counts | Pending:
+        """As `stats`, and waits for nobody."""
+        told = _native.Counts()
+        status = self._try(lambda at: _library.nrbpf_try_stats(at, told, ctypes.sizeof(told)))
+        return pending(status) or Counts.of(told)
 
     def snapshot(self, into: State) -> int:
         """Makes a state the store's at one point of the history, and answers the point. Sessions of the same node wait

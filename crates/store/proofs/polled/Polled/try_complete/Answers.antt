@@ -1,13 +1,13 @@
-use Rattle.std.proofs.Common.{refl, subst, ◌∙◌}
+use Rattle.std.proofs.Common.{refl, subst, sym, ◌∙◌}
 use Rattle.replica.specs.StoreMeaning.{store_meaning}
 use Rattle.accounts.specs.Accounts.{IsWellFormed}
-use Rattle.store_steps.specs.Stages.{HasDone}
+use Rattle.store_steps.specs.Stages.{HasDone, IsOnItsWay}
 use Rattle.store_steps.specs.Views.{SessionView}
 use Rattle.store.proofs.Between.{goes_still, goes_then, way_then, well_at}
 use Rattle.store_steps.proofs.Export.{deeds_on}
-use Rattle.store.specs.Sessions.{known_of}
+use Rattle.store.specs.Sessions.{SessionGoesOn, known_of}
 use Rattle.store_steps.specs.Polling.{DeedsGo}
-use Rattle.store_steps.specs.Updating.{Rests}
+use Rattle.store_steps.specs.Updating.{Deeds, Rests}
 use Rattle.store.proofs.polled.Polled.try_complete.Goals as goal
 
 pub loop-init : goal.loop-init
@@ -28,10 +28,12 @@ loop-preserved c =
     let i = c.loop.invariant in
     let o = c.requires.asked in
     let d = subst (λ z. HasDone c.loop.self c.deed.new.self o.0 z) c.in-Went.is (c.deed.ensures.done o.0 (i.way.0 ∙ o.1)) in
+    let e = sym c.count_batch.ensures.same in
     record {
-      session = goes_then c.args.store.now c.args.self.now c.loop.self c.deed.new.self i.session c.deed.ensures.session;
-      way = way_then c.args.self.now c.loop.self c.deed.new.self i.way d;
-      deeds = deeds_on (known_of c.args.self.now) (known_of c.loop.self) (known_of c.deed.new.self) i.deeds (subst (λ z. DeedsGo (known_of c.loop.self) (known_of c.deed.new.self) z) c.in-Went.is c.deed.ensures.goes);
+      session = subst (SessionGoesOn c.args.store.now c.args.self.now) e (goes_then c.args.store.now c.args.self.now c.loop.self c.deed.new.self i.session c.deed.ensures.session);
+      way = subst (IsOnItsWay c.args.self.now) e (way_then c.args.self.now c.loop.self c.deed.new.self i.way d);
+      deeds = subst (λ (z : SessionView). Deeds (known_of c.args.self.now) (known_of z)) e
+          (deeds_on (known_of c.args.self.now) (known_of c.loop.self) (known_of c.deed.new.self) i.deeds (subst (λ z. DeedsGo (known_of c.loop.self) (known_of c.deed.new.self) z) c.in-Went.is c.deed.ensures.goes));
     }
 
 pub returns-in-Busy-clause-goes : goal.returns-in-Busy-clause-goes
