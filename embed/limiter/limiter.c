@@ -90,11 +90,13 @@ static int is_there(const char *path) { return access(path, F_OK) == 0 || errno 
 
 static void open_store(void) {
     nrbpf_config config = NRBPF_CONFIG(NODES + 1, SLOTS);
+    const nrbpf_limits large = NRBPF_LARGE;     // the manifest is the service's own
     nrbpf_file manifest = file_of("embed/limiter/manifest"), text = {"embed/limiter/manifest", 0, NULL, 0};
     nrbpf_file files[PROGRAMS] = {file_of("examples/c/rate_limiter/configure.hex"), file_of("examples/c/rate_limiter/take.hex"),
                                   file_of("examples/c/rate_limiter/left.hex"), file_of("embed/limiter/sweep.hex")};
     nrbpf_state *state;
     nrbpf_error why;
+    config.limits = large;
     if (state_path && is_there(state_path)) text = file_of(state_path);
     if (nrbpf_state_load(&config, manifest.text, manifest.text_len, files, PROGRAMS, text.text, text.text_len, &state, &why)) complain(text.name, &why);
     if (nrbpf_open_on(&config, manifest.text, manifest.text_len, files, PROGRAMS, state, &store, &why)) complain("the store", &why);
