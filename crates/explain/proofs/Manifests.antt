@@ -2,6 +2,7 @@
 use Rattle.std.proofs.Common.{◌≡◌, ℕ, List, [], ◌∷◌, ◌++◌, map, Option, Some, None, refl, sym, ap, subst, ◌∙◌, append_assoc, arith}
 use Rattle.std.specs.Prelude.{not, is_none, ◌&&◌, option_map}
 use Rattle.std.specs.List.{All}
+use Rattle.std.proofs.lemmas.Bool.{le-leb}
 use Rattle.text.specs.Lines.{lines_of, next_line}
 use Rattle.maps.specs.declared.shapes.MapLimits.{MapLimits}
 use Rattle.maps.specs.Shapes.{AreLimits, IsShapeWithin}
@@ -53,7 +54,7 @@ none_within : (limits : MapLimits) → All (IsShapeWithin limits) []
 none_within limits k d lt = absurd (omega (arith, lt))
 
 pub nothing_within : (limits : MapLimits) → AreLimits limits → IsWithin limits nothing_above
-nothing_within limits are = record { limits_are = are; each = none_within limits; few = refl }
+nothing_within limits are = record { limits_are = are; each = none_within limits; few = rw (le-leb 0 limits.bytes (omega arith)) refl }
 
 module _ (limits : MapLimits) (files : Files) (name : Option (List ℕ)) (manifest : List ℕ) where
   -- before the first line
@@ -77,8 +78,9 @@ module _ (limits : MapLimits) (files : Files) (name : Option (List ℕ)) (manife
 
   -- one line more
   pub line_more : (e f : Explanation) (n m : ℕ) (line : List ℕ) (left rest : List (List ℕ)) (old new : List ℕ) → SoFar limits files name manifest e n left old → left ≡ line ∷ rest → m ≡ next_line n
-      → TakesLine n line (line_meaning limits line) e f old new → SoFar limits files name manifest f m rest new
-  line_more e f n m line left rest old new s first next t =
+      → TakesLine n line (line_meaning e.limits line) e f old new → SoFar limits files name manifest f m rest new
+  line_more e f n m line left rest old new s first next took =
+      let t = subst (λ l. TakesLine n line (line_meaning l line) e f old new) s.same_limits took in
       let above = subst (λ l. above_of f ≡ with_line l n line (line_meaning limits line) (above_of e)) s.same_limits t.above in
       let told = subst (λ l. Adds (TellsOfLine l (files_of e.files.now) (name_of e) n (above_of e) (line_meaning limits line)) old new) s.same_limits t.told in
       record {
