@@ -5,7 +5,7 @@ use Rattle.engine.specs.declared.replies.Verdict.{Verdict}
 use Rattle.engine.specs.declared.replies.Verdict.TheVariants as verdicts
 use Rattle.engine.specs.Texts.{programs_text, refusal_text}
 use Rattle.engine.specs.Answer.{Answer, not_text}
-use Rattle.engine.specs.Reading.{TextsRead, loaded_by}
+use Rattle.engine.specs.Reading.{TextsRead, limits_of, loaded_by}
 use Rattle.console.specs.MapsAnswer.{IsMapsChecked}
 
 -- what is written where all is good, or the line of the refusal alone
@@ -27,8 +27,8 @@ check_answer (Some t) = good_or_refused (λ c. programs_text c.programs) refusal
 -- what is told of a manifest that was read: of the program of this name, or of all where none is given, what `explain_manifest` tells; where no line is
 -- that of a program of this name, that there is none. What is told of what is no text isn't defined
 pub record IsTold (name : Option (List ℕ)) (read : Option TextsRead) (text : List ℕ) : Type 0 where
-  pub manifest : IfSome read (λ t. TellsOfManifest t.files name t.manifest text)
-  pub missing : IfSome read (λ t. IfSome name (λ n. has_program n t.manifest ≡ false → text ≡ no_program n))
+  pub manifest : IfSome read (λ t. TellsOfManifest (limits_of t.sizes) t.files name t.manifest text)
+  pub missing : IfSome read (λ t. IfSome name (λ n. has_program (limits_of t.sizes) n t.manifest ≡ false → text ≡ no_program n))
 
 -- what `check` answers, or with maps what `check --maps` does
 abbrev pub IsChecked : Bool → Option TextsRead → Answer → Type 0

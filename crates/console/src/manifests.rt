@@ -125,7 +125,8 @@ impl<F: Folder> Explain<'_, F> {
             Err(stranger) => return self.strangers_told(alloc, stranger),
         };
         let files = lent(alloc, &texts.files)?;
-        let told = explain_manifest(alloc, texts.manifest.as_str(), &files, self.name)?;
+        let limits = texts.sizes.limits();
+        let told = explain_manifest(alloc, &limits, texts.manifest.as_str(), &files, self.name)?;
         Ok(told.into_bytes())
     }
 }

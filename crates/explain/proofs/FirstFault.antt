@@ -1,5 +1,5 @@
 -- The refusal of the loader stands in what is told of a manifest.
-use Rattle.std.proofs.Common.{◌≡◌, ℕ, ◌≤◌, Bool, true, false, cond, eqb, leb, ltb, ◌||◌, List, [], ◌∷◌, ◌++◌, length, map, Option, Some, None, Result, Ok, Err, refl, sym, ap, subst, ◌∙◌, append_assoc, arith}
+use Rattle.std.proofs.Common.{◌≡◌, ℕ, ◌≤◌, Bool, true, false, cond, eqb, leb, ltb, ◌||◌, List, [], ◌∷◌, ◌++◌, length, Option, Some, None, Result, Ok, Err, refl, sym, ap, subst, ◌∙◌, append_assoc, arith}
 use Rattle.std.specs.Prelude.{not, codes, is_some, bytes_eq, is_err, MatchOption, MatchResult}
 use Rattle.std.specs.List.{list_any}
 use Rattle.std.proofs.lemmas.Bool.{le-leb, lt-leb, ltb-false, ltb-true, ne_eqb}
@@ -15,14 +15,14 @@ use Rattle.verifier.specs.declared.refusal.Refused.{Refused}
 use Rattle.verifier.specs.Signature.{signature}
 use Rattle.verifier.specs.Accepted.{Checked}
 use Rattle.verifier.specs.Verdict.{verdict}
-use Rattle.maps.specs.Shapes.{standard}
+use Rattle.maps.specs.declared.shapes.MapLimits.{MapLimits}
 use Rattle.loader.specs.declared.refusals.LoadFault.{LoadFault}
 use Rattle.loader.specs.declared.refusals.LoadFault.TheVariants.{BadLine, BadHex, Decode, Verify, TooMany}
 use Rattle.loader.specs.declared.refusals.LoadRefusal.{LoadRefusal}
 use Rattle.loader.specs.Grammar.{ProgramLine, Meaning, Comment, Map, Program, line_meaning}
 use Rattle.loader.specs.CatalogueView.{Entry, CatalogueView, names_of}
 use Rattle.loader.specs.ProgramFiles.{◌>>=◌, Files, file_named, or_bad_line, or_bad_hex, or_decode, bytes_of_hex, instructions_of, unless_refused, checked_program, entry_for}
-use Rattle.loader.specs.Loading.{are_few, is_taken, with_map, with_entry, with_program, after_meaning, after_line, after_lines, either, loaded, loaded_within}
+use Rattle.loader.specs.Loading.{are_few, is_taken, with_map, with_entry, with_program, after_meaning, after_line, after_lines, either, loaded_within}
 use Rattle.loader.proofs.Export.{entry_from, after_map, after_program}
 use Rattle.explain.specs.Listing.{head_text, refusal_text, IsReason}
 use Rattle.explain.specs.Manifest.{Above, nothing_above, has_map, has_name, is_full, is_misplaced, map_fault, with_line, with_shape, refused_by, line_fault, named_words, slot_fault, IsJudged, TellsOfRead, TellsOfFile, TellsWhereMap, TellsOfProgram, TellsOfLine, TellsOfLines, TellsOfAll}
@@ -101,13 +101,13 @@ module _ (a : Above) (c : CatalogueView) (k : HasRead c a) where
   by_tests false false w = refl
 
   -- the loader finds the same fault in a map
-  same_map : (s : Shape) → MapIs (with_map standard c s) (map_fault a s)
+  same_map : (limits : MapLimits) (s : Shape) → MapIs (with_map limits c s) (map_fault limits a s)
   unfolding with_map
-  same_map s =
+  same_map limits s =
       let after : CatalogueView = record c { shapes = c.shapes ++ s ∷ [] } in
-      subst (λ m. MapIs (with_map standard c s) (cond (ltb 0 m) (Some BadLine) (cond (are_few standard (a.shapes ++ s ∷ [])) None (Some TooMany)))) same_count
-      (subst (λ ss. MapIs (with_map standard c s) (cond (ltb 0 (length c.programs)) (Some BadLine) (cond (are_few standard (ss ++ s ∷ [])) None (Some TooMany)))) k.shapes
-      (by_tests (ltb 0 (length c.programs)) (are_few standard (c.shapes ++ s ∷ [])) after))
+      subst (λ m. MapIs (with_map limits c s) (cond (ltb 0 m) (Some BadLine) (cond (are_few limits (a.shapes ++ s ∷ [])) None (Some TooMany)))) same_count
+      (subst (λ ss. MapIs (with_map limits c s) (cond (ltb 0 (length c.programs)) (Some BadLine) (cond (are_few limits (ss ++ s ∷ [])) None (Some TooMany)))) k.shapes
+      (by_tests (ltb 0 (length c.programs)) (are_few limits (c.shapes ++ s ∷ [])) after))
 
   by_count : (n : ℕ) (w : CatalogueView) → is_err (cond {A = Result CatalogueView LoadFault} (ltb n 256) (Ok w) (Err TooMany)) ≡ leb 256 n
   by_count n w = by (ltb n 256) refl
@@ -122,7 +122,7 @@ module _ (a : Above) (c : CatalogueView) (k : HasRead c a) where
   same_room entry = by_count (length c.programs) (record c { programs = c.programs ++ entry ∷ [] }) ∙ ap (λ n. leb 256 n) same_count
 
 pub rules_are_shared : RulesAreShared
-rules_are_shared a c k = record { map = same_map a c k; name = same_name a c k; room = same_room a c k }
+rules_are_shared limits a c k = record { map = same_map a c k limits; name = same_name a c k; room = same_room a c k }
 
 module _ (a : Above) (c : CatalogueView) (k : Alike a c) where
   none_is : (ss : List Shape) → not (ltb 0 (length ss) || false) ≡ eqb (length ss) 0
@@ -146,18 +146,18 @@ fault_told n why text true f is told = subst (λ w. BeginsIf true (line_fault n 
 fault_told n why text false true is told = absurd cc
 fault_told n why text false false is told = subst (λ w. BeginsIf true (line_fault n w) text → TellsRefusal n w text) (same_Some _ _ is) (too_many_told n text) told
 
-map_refused : (a : Above) (c : CatalogueView) (s : Shape) (n : ℕ) (why : LoadFault) (text : List ℕ) → Alike a c → with_map standard c s ≡ Err why
-    → MatchOption (map_fault a s) (text ≡ []) (λ w. BeginsIf true (line_fault n w) text) → TellsRefusal n why text
-map_refused a c s n why text k is told =
-    let fault : map_fault a s ≡ Some why = subst (λ r. MatchResult r (λ _. map_fault a s ≡ None) (λ w. map_fault a s ≡ Some w)) is (same_map a c k.read s) in
-    fault_told n why text (ltb 0 (length a.names)) (are_few standard (a.shapes ++ s ∷ [])) fault (subst (λ o. MatchOption o (text ≡ []) (λ w. BeginsIf true (line_fault n w) text)) fault told)
+map_refused : (limits : MapLimits) (a : Above) (c : CatalogueView) (s : Shape) (n : ℕ) (why : LoadFault) (text : List ℕ) → Alike a c → with_map limits c s ≡ Err why
+    → MatchOption (map_fault limits a s) (text ≡ []) (λ w. BeginsIf true (line_fault n w) text) → TellsRefusal n why text
+map_refused limits a c s n why text k is told =
+    let fault : map_fault limits a s ≡ Some why = subst (λ r. MatchResult r (λ _. map_fault limits a s ≡ None) (λ w. map_fault limits a s ≡ Some w)) is (same_map a c k.read limits s) in
+    fault_told n why text (ltb 0 (length a.names)) (are_few limits (a.shapes ++ s ∷ [])) fault (subst (λ o. MatchOption o (text ≡ []) (λ w. BeginsIf true (line_fault n w) text)) fault told)
 
-map_kept : (a : Above) (c w : CatalogueView) (s : Shape) (n : ℕ) → Alike a c → with_map standard c s ≡ Ok w → Alike (with_shape n a s (map_fault a s)) w
-map_kept a c w s n k is =
-    let after = after_map standard c s w is in
+map_kept : (limits : MapLimits) (a : Above) (c w : CatalogueView) (s : Shape) (n : ℕ) → Alike a c → with_map limits c s ≡ Ok w → Alike (with_shape n a s (map_fault limits a s)) w
+map_kept limits a c w s n k is =
+    let after = after_map limits c s w is in
     let none : length a.names ≡ 0 = sym (same_count a c k.read) ∙ ap length after.0 in
-    let few : are_few standard (a.shapes ++ s ∷ []) ≡ true = ap (λ ss. are_few standard (ss ++ s ∷ [])) (sym k.read.shapes) ∙ after.1 in
-    subst (λ r. Alike (with_shape n a s r) w) (sym (taken a s none few))
+    let few : are_few limits (a.shapes ++ s ∷ []) ≡ true = ap (λ ss. are_few limits (ss ++ s ∷ [])) (sym k.read.shapes) ∙ after.1 in
+    subst (λ r. Alike (with_shape n a s r) w) (sym (taken limits a s none few))
     (record {
       read = record { shapes = ap (λ x. x.shapes) (sym after.2) ∙ ap (λ ss. ss ++ s ∷ []) k.read.shapes; names = ap (λ x. names_of x.programs) (sym after.2) ∙ k.read.names };
       good = k.good;
@@ -250,12 +250,12 @@ module _ (files : Files) (n : ℕ) (a : Above) (c : CatalogueView) (p : ProgramL
 
 -- ---- line by line
 
-line_refused : (files : Files) (n : ℕ) (a : Above) (c : CatalogueView) (m : Option Meaning) (why : LoadFault) (text : List ℕ) → Alike a c → after_meaning standard files c m ≡ Err why → TellsOfLine files None n a m text
+line_refused : (limits : MapLimits) (files : Files) (n : ℕ) (a : Above) (c : CatalogueView) (m : Option Meaning) (why : LoadFault) (text : List ℕ) → Alike a c → after_meaning limits files c m ≡ Err why → TellsOfLine limits files None n a m text
     → HasRefusal n why text
-line_refused files n a c None why text k is told = subst (λ w. HasRefusal n w text) (err_is BadLine why is) (at_once n BadLine text (bad_line_told n text told))
-line_refused files n a c (Some Comment) why text k is told = absurd cc
-line_refused files n a c (Some (Map s)) why text k is told = at_once n why text (map_refused a c s n why text k is told)
-line_refused files n a c (Some (Program p)) why text k is told = program_refused files n a c p why text k told is
+line_refused limits files n a c None why text k is told = subst (λ w. HasRefusal n w text) (err_is BadLine why is) (at_once n BadLine text (bad_line_told n text told))
+line_refused limits files n a c (Some Comment) why text k is told = absurd cc
+line_refused limits files n a c (Some (Map s)) why text k is told = at_once n why text (map_refused limits a c s n why text k is told)
+line_refused limits files n a c (Some (Program p)) why text k is told = program_refused files n a c p why text k told is
 
 abbrev passed : CatalogueView → Result CatalogueView LoadFault
 passed x = Ok x
@@ -263,31 +263,31 @@ passed x = Ok x
 ok_is : (x y : CatalogueView) → passed x ≡ Ok y → x ≡ y
 ok_is x y is = cc
 
-line_kept : (files : Files) (n : ℕ) (l : List ℕ) (a : Above) (c w : CatalogueView) (m : Option Meaning) → Alike a c → after_meaning standard files c m ≡ Ok w → Alike (with_line n l m a) w
-line_kept files n l a c w None k is = absurd cc
-line_kept files n l a c w (Some Comment) k is = subst (Alike a) (ok_is c w is) k
-line_kept files n l a c w (Some (Map s)) k is = map_kept a c w s n k is
-line_kept files n l a c w (Some (Program p)) k is = program_kept files a c w p k is
+line_kept : (limits : MapLimits) (files : Files) (n : ℕ) (l : List ℕ) (a : Above) (c w : CatalogueView) (m : Option Meaning) → Alike a c → after_meaning limits files c m ≡ Ok w → Alike (with_line limits n l m a) w
+line_kept limits files n l a c w None k is = absurd cc
+line_kept limits files n l a c w (Some Comment) k is = subst (Alike a) (ok_is c w is) k
+line_kept limits files n l a c w (Some (Map s)) k is = map_kept limits a c w s n k is
+line_kept limits files n l a c w (Some (Program p)) k is = program_kept files a c w p k is
 
 end_by : (b : Bool) (c : CatalogueView) (n : ℕ) (e : LoadRefusal) (text : List ℕ) → cond b (Err (record { line = n; why = BadLine })) (Ok c) ≡ Err e → BeginsIf b (line_fault n BadLine) text → HasRefusal e.line e.why text
 end_by true c n e text is told = subst (λ x. HasRefusal x.line x.why text) (err_is (record { line = n; why = BadLine }) e is) (at_once n BadLine text (bad_line_told n text told))
 end_by false c n e text is told = absurd cc
 
-walk : (files : Files) (n : ℕ) (a : Above) (c : CatalogueView) (ls : List (List ℕ)) (text : List ℕ) (e : LoadRefusal) → Alike a c → after_lines standard files n c ls ≡ Err e → TellsOfLines files None n a ls text
+walk : (limits : MapLimits) (files : Files) (n : ℕ) (a : Above) (c : CatalogueView) (ls : List (List ℕ)) (text : List ℕ) (e : LoadRefusal) → Alike a c → after_lines limits files n c ls ≡ Err e → TellsOfLines limits files None n a ls text
     → HasRefusal e.line e.why text
 unfolding after_lines after_line
-walk files n a c [] text e k is told = end_by (eqb (length c.shapes) 0) c n e text is (subst (λ b. BeginsIf b (line_fault n BadLine) text) (no_map_is a c k) told)
-walk files n a c (l ∷ ls) text e k is told =
-    by_result (after_meaning standard files c (line_meaning standard l)) refl is (λ w kept rest. walk files (next_line n) (with_line n l (line_meaning standard l) a) w ls told.1 e kept rest told.4)
+walk limits files n a c [] text e k is told = end_by (eqb (length c.shapes) 0) c n e text is (subst (λ b. BeginsIf b (line_fault n BadLine) text) (no_map_is a c k) told)
+walk limits files n a c (l ∷ ls) text e k is told =
+    by_result (after_meaning limits files c (line_meaning limits l)) refl is (λ w kept rest. walk limits files (next_line n) (with_line limits n l (line_meaning limits l) a) w ls told.1 e kept rest told.4)
   where
-    by_result : (r : Result CatalogueView LoadFault) → after_meaning standard files c (line_meaning standard l) ≡ r → either (λ why. Err (record { line = n; why = why })) (λ after. after_lines standard files (next_line n) after ls) r ≡ Err e
-        → ((w : CatalogueView) → Alike (with_line n l (line_meaning standard l) a) w → after_lines standard files (next_line n) w ls ≡ Err e → HasRefusal e.line e.why told.1) → HasRefusal e.line e.why text
+    by_result : (r : Result CatalogueView LoadFault) → after_meaning limits files c (line_meaning limits l) ≡ r → either (λ why. Err (record { line = n; why = why })) (λ after. after_lines limits files (next_line n) after ls) r ≡ Err e
+        → ((w : CatalogueView) → Alike (with_line limits n l (line_meaning limits l) a) w → after_lines limits files (next_line n) w ls ≡ Err e → HasRefusal e.line e.why told.1) → HasRefusal e.line e.why text
     by_result (Err why) was is more =
-        let here = line_refused files n a c (line_meaning standard l) why told.0 k was told.3 in
+        let here = line_refused limits files n a c (line_meaning limits l) why told.0 k was told.3 in
         subst (λ x. HasRefusal x.line x.why text) (err_is (record { line = n; why = why }) e is)
         (here.0, here.1 ++ told.1, told.2 ∙ ap (λ t. t ++ told.1) here.2 ∙ append_assoc here.0 here.1 told.1, longer n why here.1 told.1 here.3)
-    by_result (Ok w) was is more = behind e.line e.why told.0 told.1 text told.2 (more w (line_kept files n l a c w (line_meaning standard l) k was) is)
+    by_result (Ok w) was is more = behind e.line e.why told.0 told.1 text told.2 (more w (line_kept limits files n l a c w (line_meaning limits l) k was) is)
 
-pub refusal_is_told : (files : Files) (manifest text : List ℕ) (e : LoadRefusal) → loaded manifest files ≡ Err e → TellsOfAll files None manifest text → HasRefusal e.line e.why text
+pub refusal_is_told : (limits : MapLimits) (files : Files) (manifest text : List ℕ) (e : LoadRefusal) → loaded_within limits manifest files ≡ Err e → TellsOfAll limits files None manifest text → HasRefusal e.line e.why text
 unfolding loaded_within
-refusal_is_told files manifest text e is told = walk files 1 nothing_above _ (lines_of manifest) text e (record { read = record { shapes = refl; names = refl }; good = refl }) is told
+refusal_is_told limits files manifest text e is told = walk limits files 1 nothing_above _ (lines_of manifest) text e (record { read = record { shapes = refl; names = refl }; good = refl }) is told

@@ -1,5 +1,5 @@
 -- What is told of the program of a line, and of its file.
-use Rattle.std.proofs.Common.{◌≡◌, ℕ, ◌<◌, Bool, true, false, ◌||◌, List, [], ◌∷◌, ◌++◌, length, Option, Some, None, Result, Ok, Err, refl, sym, ap, subst, ◌∙◌, append_assoc, arith}
+use Rattle.std.proofs.Common.{◌≡◌, ℕ, ◌<◌, Bool, true, false, ◌||◌, List, [], ◌∷◌, ◌++◌, length, Option, Some, None, Result, Ok, Err, refl, sym, ap, subst, ◌∙◌, append_assoc}
 use Rattle.std.specs.Prelude.{not, nat_lt, ◌≤◌, codes, is_some}
 use Rattle.std.specs.List.{concat}
 use Rattle.std.proofs.lemmas.Bool.{ltb-true, le-leb, lt-leb}
@@ -9,7 +9,8 @@ use Rattle.insn.specs.declared.instruction.Form.{Form}
 use Rattle.insn.specs.declared.decoding.DecodeRefusal.{DecodeRefusal}
 use Rattle.insn.specs.Decoded.{decoded}
 use Rattle.maps.specs.declared.shapes.Shape.{Shape}
-use Rattle.maps.specs.Shapes.{AreLimits, AreShapesSupported, standard}
+use Rattle.maps.specs.declared.shapes.MapLimits.{MapLimits}
+use Rattle.maps.specs.Shapes.{AreShapesSupported}
 use Rattle.loader.specs.declared.refusals.LoadFault.{LoadFault}
 use Rattle.loader.specs.declared.refusals.LoadFault.TheVariants.{BadLine, BadHex, Decode, TooMany}
 use Rattle.loader.specs.Grammar.{ProgramLine}
@@ -112,8 +113,5 @@ some_map ss bad none has =
     let only : (nat_lt 0 (length ss) || false) ≡ true = subst (λ o. (nat_lt 0 (length ss) || is_some o) ≡ true) none has in
     ltb-true 0 (length ss) (or_false _ only)
 
-standard_limits : AreLimits standard
-standard_limits = record { key = (omega arith, omega arith); value = omega arith; entries = omega arith; bytes = omega arith }
-
-pub maps_are_ok : (a : Above) → IsWithin a → has_map a ≡ true → a.bad_map ≡ None → AreShapesSupported a.shapes
-maps_are_ok a within has none = shapes_are_ok standard a.shapes standard_limits (some_map a.shapes a.bad_map none has) within.each within.few
+pub maps_are_ok : (l : MapLimits) (a : Above) → IsWithin l a → has_map a ≡ true → a.bad_map ≡ None → AreShapesSupported a.shapes
+maps_are_ok l a within has none = shapes_are_ok l a.shapes within.limits_are (some_map a.shapes a.bad_map none has) within.each within.few

@@ -4,7 +4,8 @@ use Rattle.std.specs.List.{All}
 use Rattle.std.specs.String.{string_bytes}
 use Rattle.insn.specs.declared.instruction.Form.{Form}
 use Rattle.maps.specs.declared.shapes.Shape.{Shape}
-use Rattle.maps.specs.Shapes.{IsShapeOk, standard}
+use Rattle.maps.specs.declared.shapes.MapLimits.{MapLimits}
+use Rattle.maps.specs.Shapes.{AreLimits, IsShapeWithin}
 use Rattle.loader.specs.declared.refusals.LoadFault.{LoadFault}
 use Rattle.loader.specs.declared.grammar.ProgramLine.{ProgramLine as TheLine}
 use Rattle.loader.specs.Grammar.{Meaning, Program}
@@ -50,21 +51,23 @@ TellsAsked e p text = TellsIfAsked (is_asked (name_of e) (Some (Program (program
 
 -- ---- what then stands above
 
--- the maps are within their limits
-pub record IsWithin (a : Above) : Type 0 where
-  pub each : All IsShapeOk a.shapes
-  pub few : are_few standard a.shapes ≡ true
+-- the maps are within these limits
+pub record IsWithin (limits : MapLimits) (a : Above) : Type 0 where
+  pub limits_are : AreLimits limits
+  pub each : All (IsShapeWithin limits) a.shapes
+  pub few : are_few limits a.shapes ≡ true
 
 -- a map is taken, or the rule is told that keeps it out
-pub record TakesMap (a : Above) (shape : Shape) (b : Above) (rule : Option ℕ) : Type 0 where
-  pub told : MatchOption (map_fault a shape) ((rule ≡ None) × (b ≡ record a { shapes = a.shapes ++ shape ∷ [] })) (λ why. (rule ≡ Some (fault_number why)) × (b ≡ a))
-  pub within : IsWithin b
+pub record TakesMap (limits : MapLimits) (a : Above) (shape : Shape) (b : Above) (rule : Option ℕ) : Type 0 where
+  pub told : MatchOption (map_fault limits a shape) ((rule ≡ None) × (b ≡ record a { shapes = a.shapes ++ shape ∷ [] })) (λ why. (rule ≡ Some (fault_number why)) × (b ≡ a))
+  pub within : IsWithin limits b
 
 -- one line more: what is told of it stands behind what stood there, and it stands above the next
 pub record TakesLine (n : ℕ) (line : List ℕ) (meaning : Option Meaning) (e f : Explanation) (old new : List ℕ) : Type 0 where
-  pub told : Adds (TellsOfLine (files_of e.files.now) (name_of e) n (above_of e) meaning) old new
-  pub above : above_of f ≡ with_line n line meaning (above_of e)
-  pub within : IsWithin (above_of f)
+  pub told : Adds (TellsOfLine e.limits (files_of e.files.now) (name_of e) n (above_of e) meaning) old new
+  pub above : above_of f ≡ with_line e.limits n line meaning (above_of e)
+  pub within : IsWithin e.limits (above_of f)
+  pub limits : f.limits ≡ e.limits
   pub files : f.files ≡ e.files
   pub name : f.name ≡ e.name
 

@@ -1,7 +1,7 @@
 -- What is told of the line that the loader refuses.
 use Rattle.std.specs.Prelude.{◌≡◌, ℕ, List, ◌++◌, codes, Some, None, Err, MatchResult, is_err}
 use Rattle.maps.specs.declared.shapes.Shape.{Shape}
-use Rattle.maps.specs.Shapes.{standard}
+use Rattle.maps.specs.declared.shapes.MapLimits.{MapLimits}
 use Rattle.verifier.specs.declared.refusal.Refused.{Refused}
 use Rattle.loader.specs.declared.refusals.LoadFault.{LoadFault}
 use Rattle.loader.specs.declared.refusals.LoadFault.TheVariants.{Verify}
@@ -9,7 +9,7 @@ use Rattle.loader.specs.declared.refusals.LoadRefusal.{LoadRefusal}
 use Rattle.loader.specs.Grammar.{ProgramLine}
 use Rattle.loader.specs.ProgramFiles.{Files}
 use Rattle.loader.specs.CatalogueView.{CatalogueView, Entry, names_of}
-use Rattle.loader.specs.Loading.{is_taken, loaded, with_entry, with_map}
+use Rattle.loader.specs.Loading.{is_taken, loaded_within, with_entry, with_map}
 use Rattle.loader.specs.Refusal.{fault_number}
 use Rattle.explain.specs.Listing.{head_text, refusal_text}
 use Rattle.explain.specs.Manifest.{Above, has_name, is_full, map_fault, refused_by, TellsOfAll}
@@ -31,10 +31,11 @@ TellsRefusal n why text = BeginsWith (refused_by n (fault_number why)) text
 abbrev pub HasRefusal : ℕ → LoadFault → List ℕ → Type 0
 HasRefusal n why text = (before : List ℕ) × (told : List ℕ) × (text ≡ before ++ told) × TellsRefusal n why told
 
--- where the loader refuses a manifest, what is told of all its lines has this refusal
+-- where the loader refuses a manifest by these limits, what is told of all its lines has this refusal
 abbrev pub RefusalIsTold : Type 0
 RefusalIsTold =
-    (files : Files) (manifest text : List ℕ) (e : LoadRefusal) → loaded manifest files ≡ Err e → TellsOfAll files None manifest text → HasRefusal e.line e.why text
+    (limits : MapLimits) (files : Files) (manifest text : List ℕ) (e : LoadRefusal)
+    → loaded_within limits manifest files ≡ Err e → TellsOfAll limits files None manifest text → HasRefusal e.line e.why text
 
 -- ---- the loader's own rules
 
@@ -44,11 +45,11 @@ pub record HasRead (c : CatalogueView) (a : Above) : Type 0 where
   pub names : names_of c.programs ≡ a.names
 
 -- it finds the same fault in a map, takes the same names, and has room for one more program if there is room
-pub record SharesRules (c : CatalogueView) (a : Above) : Type 0 where
-  pub map : (shape : Shape) → MatchResult (with_map standard c shape) (λ _. map_fault a shape ≡ None) (λ why. map_fault a shape ≡ Some why)
+pub record SharesRules (limits : MapLimits) (c : CatalogueView) (a : Above) : Type 0 where
+  pub map : (shape : Shape) → MatchResult (with_map limits c shape) (λ _. map_fault limits a shape ≡ None) (λ why. map_fault limits a shape ≡ Some why)
   pub name : (name : List ℕ) → is_taken c.programs name ≡ has_name a name
   pub room : (entry : Entry) → is_err (with_entry c entry) ≡ is_full a
 
 -- the rules by which a line is told are those of the loader
 abbrev pub RulesAreShared : Type 0
-RulesAreShared = (a : Above) (c : CatalogueView) → HasRead c a → SharesRules c a
+RulesAreShared = (limits : MapLimits) (a : Above) (c : CatalogueView) → HasRead c a → SharesRules limits c a

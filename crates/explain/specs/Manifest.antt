@@ -1,4 +1,4 @@
--- What is told of a manifest, line by line.
+-- What is told of a manifest, line by line, by limits of maps.
 use Rattle.std.specs.Prelude.{◌≡◌, ℕ, Bool, true, false, not, ◌&&◌, ◌||◌, nat_eq, nat_le, nat_lt, List, [], ◌∷◌, ◌++◌, length, codes, decimal, Option, Some, None, is_none, is_some, Result, MatchOption, MatchResult, if◌then◌else◌, bytes_eq}
 use Rattle.std.specs.Option.{option_or}
 use Rattle.std.specs.List.{concat, list_any, starts_with}
@@ -7,7 +7,7 @@ use Rattle.insn.specs.declared.instruction.Form.{Form}
 use Rattle.insn.specs.declared.decoding.DecodeRefusal.{DecodeRefusal}
 use Rattle.insn.specs.Refusal.{fault_number as slot_fault_number}
 use Rattle.maps.specs.declared.shapes.Shape.{Shape}
-use Rattle.maps.specs.Shapes.{standard}
+use Rattle.maps.specs.declared.shapes.MapLimits.{MapLimits}
 use Rattle.loader.specs.declared.refusals.LoadFault.{LoadFault}
 use Rattle.loader.specs.declared.refusals.LoadFault.TheVariants.{BadLine, BadHex, Decode, TooMany}
 use Rattle.loader.specs.Grammar.{ProgramLine, Meaning, Comment, Map, Program, line_meaning}
@@ -26,13 +26,13 @@ is_asked (Some name) (Some (Program p)) = bytes_eq p.name name
 is_asked (Some name) meaning = false
 
 -- a line of a manifest is that of a program of this name
-abbrev pub has_program : List ℕ → List ℕ → Bool
-has_program name text = list_any (λ l. is_asked (Some name) (line_meaning standard l)) (lines_of text)
+abbrev pub has_program : MapLimits → List ℕ → List ℕ → Bool
+has_program limits name text = list_any (λ l. is_asked (Some name) (line_meaning limits l)) (lines_of text)
 
 -- a line is asked for, where a name is given
-abbrev pub has_asked : Option (List ℕ) → List ℕ → Bool
-has_asked None text = true
-has_asked (Some name) text = has_program name text
+abbrev pub has_asked : MapLimits → Option (List ℕ) → List ℕ → Bool
+has_asked limits None text = true
+has_asked limits (Some name) text = has_program limits name text
 
 -- the text where no line is
 abbrev pub no_program : List ℕ → List ℕ
@@ -62,10 +62,10 @@ abbrev pub is_full : Above → Bool
 is_full a = nat_le 256 (length a.names)
 
 -- what is wrong with one more map: C1 after a program, C5 if the maps are then too many or too large
-abbrev pub map_fault : Above → Shape → Option LoadFault
-map_fault a shape =
+abbrev pub map_fault : MapLimits → Above → Shape → Option LoadFault
+map_fault limits a shape =
     if nat_lt 0 (length a.names) then Some BadLine
-    else if are_few standard (a.shapes ++ shape ∷ []) then None
+    else if are_few limits (a.shapes ++ shape ∷ []) then None
     else Some TooMany
 
 -- line n is that of a bad map, if it is that of a map
@@ -78,11 +78,11 @@ with_shape n a shape None = record a { shapes = a.shapes ++ shape ∷ [] }
 with_shape n a shape (Some why) = with_bad_map true n a
 
 -- line n stands above too: a bad line that begins with `map` is that of a map, and the name of a refused program is taken
-abbrev pub with_line : ℕ → List ℕ → Option Meaning → Above → Above
-with_line n line None a = with_bad_map (starts_with nat_eq line (codes "map")) n a
-with_line n line (Some Comment) a = a
-with_line n line (Some (Map shape)) a = with_shape n a shape (map_fault a shape)
-with_line n line (Some (Program p)) a = record a { names = a.names ++ p.name ∷ [] }
+abbrev pub with_line : MapLimits → ℕ → List ℕ → Option Meaning → Above → Above
+with_line limits n line None a = with_bad_map (starts_with nat_eq line (codes "map")) n a
+with_line limits n line (Some Comment) a = a
+with_line limits n line (Some (Map shape)) a = with_shape n a shape (map_fault limits a shape)
+with_line limits n line (Some (Program p)) a = record a { names = a.names ++ p.name ∷ [] }
 
 -- ---- how what is told of a refused line begins
 
@@ -165,27 +165,27 @@ TellsIfAsked false files n a p text = text ≡ []
 -- ---- what is told of lines
 
 -- of a line that is bad by itself its fault; of a map its own, if it has one; nothing of another line that is good or isn't asked for
-abbrev pub TellsOfLine : Files → Option (List ℕ) → ℕ → Above → Option Meaning → List ℕ → Type 0
-TellsOfLine files name n a None text = BeginsIf (is_none name) (line_fault n BadLine) text
-TellsOfLine files name n a (Some Comment) text = text ≡ []
-TellsOfLine files name n a (Some (Map shape)) text =
-    MatchOption (map_fault a shape) (text ≡ []) (λ why. BeginsIf (is_none name) (line_fault n why) text)
-TellsOfLine files name n a (Some (Program p)) text = TellsIfAsked (is_asked name (Some (Program p))) files n a p text
+abbrev pub TellsOfLine : MapLimits → Files → Option (List ℕ) → ℕ → Above → Option Meaning → List ℕ → Type 0
+TellsOfLine limits files name n a None text = BeginsIf (is_none name) (line_fault n BadLine) text
+TellsOfLine limits files name n a (Some Comment) text = text ≡ []
+TellsOfLine limits files name n a (Some (Map shape)) text =
+    MatchOption (map_fault limits a shape) (text ≡ []) (λ why. BeginsIf (is_none name) (line_fault n why) text)
+TellsOfLine limits files name n a (Some (Program p)) text = TellsIfAsked (is_asked name (Some (Program p))) files n a p text
 
 -- of one line after another, from line n on; C1 behind the last where there is no map and no name is given
-abbrev pub TellsOfLines : Files → Option (List ℕ) → ℕ → Above → List (List ℕ) → List ℕ → Type 0
-TellsOfLines files name n a [] text = BeginsIf (is_none name && not (has_map a)) (line_fault n BadLine) text
-TellsOfLines files name n a (l ∷ ls) text =
+abbrev pub TellsOfLines : MapLimits → Files → Option (List ℕ) → ℕ → Above → List (List ℕ) → List ℕ → Type 0
+TellsOfLines limits files name n a [] text = BeginsIf (is_none name && not (has_map a)) (line_fault n BadLine) text
+TellsOfLines limits files name n a (l ∷ ls) text =
     (told : List ℕ)
     × (rest : List ℕ)
     × (text ≡ told ++ rest)
-    × TellsOfLine files name n a (line_meaning standard l) told
-    × TellsOfLines files name (next_line n) (with_line n l (line_meaning standard l) a) ls rest
+    × TellsOfLine limits files name n a (line_meaning limits l) told
+    × TellsOfLines limits files name (next_line n) (with_line limits n l (line_meaning limits l) a) ls rest
 
 -- of all lines of a manifest
-abbrev pub TellsOfAll : Files → Option (List ℕ) → List ℕ → List ℕ → Type 0
-TellsOfAll files name manifest text = TellsOfLines files name 1 nothing_above (lines_of manifest) text
+abbrev pub TellsOfAll : MapLimits → Files → Option (List ℕ) → List ℕ → List ℕ → Type 0
+TellsOfAll limits files name manifest text = TellsOfLines limits files name 1 nothing_above (lines_of manifest) text
 
 -- of a manifest, of which a line is asked for
-abbrev pub TellsOfManifest : Files → Option (List ℕ) → List ℕ → List ℕ → Type 0
-TellsOfManifest files name manifest text = has_asked name manifest ≡ true → TellsOfAll files name manifest text
+abbrev pub TellsOfManifest : MapLimits → Files → Option (List ℕ) → List ℕ → List ℕ → Type 0
+TellsOfManifest limits files name manifest text = has_asked limits name manifest ≡ true → TellsOfAll limits files name manifest text

@@ -158,7 +158,19 @@ pub(crate) fn put(out: &mut String, text: &str, words: &[Word<'_>]) -> Written {
     Ok(())
 }
 
-impl Told<'_> {
+impl<'a> Told<'a> {
+    // With this in place of the second text.
+    pub(crate) fn and(self, text: &'a str) -> Told<'a> {
+        let Told {
+            texts: [first, _],
+            words,
+        } = self;
+        Told {
+            texts: [first, text],
+            words,
+        }
+    }
+
     // `put`, but into a new text.
     pub(crate) fn text(&self, alloc: Global, to_do: &str) -> Result<String, AllocError> {
         let mut out = String::new(alloc);

@@ -4,6 +4,7 @@ use asm::assemble;
 use explain::{explain_assembly, explain_manifest};
 use insn::encode;
 use loader::load_manifest;
+use maps::MapLimits;
 use std::alloc::{AllocError, Global};
 use std::{fs, io};
 
@@ -64,7 +65,13 @@ fn tell(rt: &HostRuntime, name: &str, kind: &str) -> io::Result<()> {
     let alloc = rt.alloc();
     let slip = slip_at(rt, name, "", kind)?;
     let files = [(slip.file.as_str(), slip.digits.as_str())];
-    let told = explain_manifest(alloc, slip.manifest.as_str(), &files, None)?;
+    let told = explain_manifest(
+        alloc,
+        &MapLimits::standard(),
+        slip.manifest.as_str(),
+        &files,
+        None,
+    )?;
     print!(rt; "{name}.{kind}\n{told}")?;
     let fixed = slip_at(rt, name, ".fixed", kind)?;
     let files = [(fixed.file.as_str(), fixed.digits.as_str())];

@@ -10,7 +10,8 @@ use crate::sentences::Word::{Character, Count, Field, Hex, Number, Small, Text};
 use crate::sentences::{Told, Written, put, put_all, put_numbers, say};
 use asm::{AsmError, AsmFault, assemble};
 use insn::{DecodeFault, DecodeRefusal};
-use maps::{MAX_ARG_LEN, MAX_ENTRIES, MAX_KEY_BYTES, MAX_VALUE_BYTES, Shape, ShapeFault};
+use loader::{Line, read_line};
+use maps::{MAX_ARG_LEN, MapLimits, Shape, ShapeFault, shapes_within};
 use std::alloc::{AllocError, Global};
 use std::str;
 use text::{LINE_BYTES, is_name, number, number_within};
@@ -26,6 +27,9 @@ const OBJECT_FILE: &str =
 
 // What is told of a line that has more or fewer fields than it should, and of one that begins otherwise.
 const OTHER_FIELDS: &str = "The line has more or fewer fields than `{0}`.";
+
+// What is told where the widest limits of maps allow what these don't.
+const LARGE: &str = "|`--large` allows it.";
 
 const OTHER_WORD: &str = "A line begins with `map`, `program` or `#`, and not with `{0}`.";
 
@@ -69,10 +73,15 @@ fn wrong_number<'a>(name: &'a str, low: u64, high: u64, text: &'a str) -> Option
 }
 
 // What is wrong with the sizes of a map: a value and entries, behind a key or not.
-fn wrong_sizes<'a>(key: Option<&'a str>, value: &'a str, entries: &'a str) -> Option<Told<'a>> {
-    let of_key = key.and_then(|text| wrong_number("KEY", 1, u64::from(MAX_KEY_BYTES), text));
-    let of_value = wrong_number("VALUE", 1, u64::from(MAX_VALUE_BYTES), value);
-    of_key.or(of_value).or(wrong_number("ENTRIES", 1, u64::from(MAX_ENTRIES), entries))
+fn wrong_sizes<'a>(
+    limits: &MapLimits,
+    key: Option<&'a str>,
+    value: &'a str,
+    entries: &'a str,
+) -> Option<Told<'a>> {
+    let of_key = key.and_then(|text| wrong_number("KEY", 1, u64::from(limits.key), text));
+    let of_value = wrong_number("VALUE", 1, u64::from(limits.value), value);
+    of_key.or(of_value).or(wrong_number("ENTRIES", 1, u64::from(limits.entries), entries))
 }
 
 // The first blank of a line that may not stand there, with its column.
@@ -104,10 +113,10 @@ fn wrong_program<'a>(name: &'a str, mode: &'a str, length: &'a str) -> Option<To
 }
 
 // What is wrong with the words of a line.
-fn wrong_words<'a>(words: &[&'a str]) -> Option<Told<'a>> {
+fn wrong_words<'a>(limits: &MapLimits, words: &[&'a str]) -> Option<Told<'a>> {
     let (text, word) = match words {
-        ["map", "array", v, n] => return wrong_sizes(None, v, n),
-        ["map", "hash", k, v, n] => return wrong_sizes(Some(*k), v, n),
+        ["map", "array", v, n] => return wrong_sizes(limits, None, v, n),
+        ["map", "hash", k, v, n] => return wrong_sizes(limits, Some(*k), v, n),
         ["map", "hash", ..] => (OTHER_FIELDS, "map hash KEY VALUE ENTRIES"),
         ["map", "array", ..] | ["map"] => (OTHER_FIELDS, "map array VALUE ENTRIES"),
         ["map", word, ..] => ("A map is an `array` or a `hash`, and no `{0}`.", *word),
@@ -119,8 +128,17 @@ fn wrong_words<'a>(words: &[&'a str]) -> Option<Told<'a>> {
     Some(say(text, &[Text(word)]))
 }
 
-// What is wrong with a line that is bad by itself.
-pub(crate) fn wrong_line(alloc: Global, line: &str) -> Result<Told<'_>, AllocError> {
+// Whether a line is that of a map by the widest limits.
+fn is_large(line: &str) -> bool {
+    matches!(read_line(&MapLimits::widest(), line), Some(Line::Map(_)))
+}
+
+// What is wrong with a line that is bad by itself, by these limits of maps.
+pub(crate) fn wrong_line<'a>(
+    alloc: Global,
+    limits: &MapLimits,
+    line: &'a str,
+) -> Result<Told<'a>, AllocError> {
     if line.len() > LINE_BYTES {
         let what = "The line has {0} bytes, of at most {1}. Break a comment into several lines.";
         return Ok(say(what, &[Count(line.len()), Count(LINE_BYTES)]));
@@ -131,11 +149,16 @@ pub(crate) fn wrong_line(alloc: Global, line: &str) -> Result<Told<'_>, AllocErr
         return Ok(say(text, &[Text(what), Count(column)]));
     }
     let words: Vec<&str> = line.split(' ').collect(alloc)?;
-    Ok(wrong_words(&words).unwrap_or(say("", &[])))
+    let told = wrong_words(limits, &words).unwrap_or(say("", &[]));
+    Ok(if is_large(line) {
+        told.and(LARGE)
+    } else {
+        told
+    })
 }
 
-// Why there are too many maps, or too large ones.
-pub(crate) fn too_many<'a>(why: ShapeFault, shapes: &[Shape]) -> Told<'a> {
+// Why there are too many maps, or too large ones, by these limits.
+pub(crate) fn too_many<'a>(limits: &MapLimits, why: ShapeFault, shapes: &[Shape]) -> Told<'a> {
     let mut bytes = 0u64;
     for shape in shapes {
         let each = match *shape {
@@ -145,11 +168,16 @@ pub(crate) fn too_many<'a>(why: ShapeFault, shapes: &[Shape]) -> Told<'a> {
         bytes = bytes.saturating_add(each.saturating_mul(shape.entry_count() as u64));
     }
     let text = match why {
+        ShapeFault::TooManyBytes if shapes_within(&MapLimits::widest(), shapes).is_ok() =>
+            "The maps with this one take {1} bytes, of at most {2}.|make them smaller; `--large` allows them.",
         ShapeFault::TooManyBytes =>
-            "The maps with this one take {1} bytes, of at most 16777216.|make them smaller.",
+            "The maps with this one take {1} bytes, of at most {2}.|make them smaller.",
         _ => "This is map {0}, of at most 16.|leave one out.",
     };
-    say(text, &[Count(shapes.len()), Field(bytes)])
+    say(
+        text,
+        &[Count(shapes.len()), Field(bytes), Field(limits.bytes)],
+    )
 }
 
 // ---- files

@@ -6,7 +6,7 @@ ghost use Rattle.std.specs.Option.{option_or};
 ghost use Rattle.std.specs.String.{string_bytes};
 ghost use Rattle.insn.specs.declared.instruction.TheConstants.{MAX_SLOTS};
 ghost use Rattle.insn.specs.Layout.{size};
-ghost use Rattle.maps.specs.Shapes.{IsShapeOk, standard};
+ghost use Rattle.maps.specs.Shapes.{AreLimits, IsShapeWithin};
 ghost use Rattle.maps.specs.declared.shapes.TheConstants.{MAX_ARG_LEN};
 ghost use Rattle.loader.specs.declared.refusals.LoadFault.TheVariants.{BadLine, TooMany};
 ghost use Rattle.loader.specs.Grammar.{Map, Program, line_meaning};
@@ -23,7 +23,7 @@ use crate::sentences::{Told, Word, Written, put_all, put_numbers, say};
 use insn::{DecodeError, Insn, decode};
 use itoa::Buffer;
 use loader::{Line, ProgramLine, read_line};
-use maps::{MapLimits, Shape, shapes_ok};
+use maps::{MapLimits, Shape, shapes_within};
 use std::alloc::{AllocError, Global};
 use text::{NumberedLines, spaced_hex};
 
@@ -42,6 +42,8 @@ const NO_MAP: &str =
 struct Explanation<'a> {
     alloc: Global,
     files: &'a [(&'a str, &'a str)],
+    // How large the maps may be.
+    limits: MapLimits,
     // The program that is asked for, if not all.
     name: Option<&'a str>,
     // The number of the line that is looked at.
@@ -92,19 +94,19 @@ impl<'a> Explanation<'a> {
 
     // Adds what is wrong with a line that is none by itself.
     fn put_bad_line(&mut self, out: &mut String, line: &str) -> Written
-        requires { IsWithin (above_of self.old) }
+        requires { IsWithin self.old.limits (above_of self.old) }
         ensures { OnOk result (TakesNext line.now None self.old self.new out.old out.new) }
     {
         self.note_bad_map(is_of_map(line));
-        let told = wrong_line(self.alloc, line)?;
+        let told = wrong_line(self.alloc, &self.limits, line)?;
         self.put_wrong(out, 1, told)
     }
 
     // Takes the map of the line, or says what is wrong with it, and under which number.
     fn take_map(&mut self, shape: Shape) -> Result<Option<(u8, Told<'a>)>, AllocError>
-        requires within { IsWithin (above_of self.old) }
-        requires shape { IsShapeOk shape }
-        ensures taken { IfOk result (λ o. TakesMap (above_of self.old) shape (above_of self.new) (option_map (λ w. w.0) o)) }
+        requires within { IsWithin self.old.limits (above_of self.old) }
+        requires shape { IsShapeWithin self.old.limits shape }
+        ensures taken { IfOk result (λ o. TakesMap self.old.limits (above_of self.old) shape (above_of self.new) (option_map (λ w. w.0) o)) }
         ensures same { IfOk result (λ _. self.new ≡ record self.old { shapes = self.new.shapes }) }
     {
         if let Some((name, line)) = self.names.first() {
@@ -114,10 +116,10 @@ impl<'a> Explanation<'a> {
         }
         let count = self.shapes.as_slice().len();
         self.shapes.push(shape)?;
-        match shapes_ok(&self.shapes) {
+        match shapes_within(&self.limits, &self.shapes) {
             Ok(()) => Ok(None),
             Err(why) => {
-                let told = too_many(why, &self.shapes);
+                let told = too_many(&self.limits, why, &self.shapes);
                 self.shapes.truncate(count);
                 Ok(Some((5, told)))
             }
@@ -126,8 +128,8 @@ impl<'a> Explanation<'a> {
 
     // Adds what is wrong with the map of the line, if something is.
     fn put_map(&mut self, out: &mut String, shape: Shape) -> Written
-        requires within { IsWithin (above_of self.old) }
-        requires shape { IsShapeOk shape }
+        requires within { IsWithin self.old.limits (above_of self.old) }
+        requires shape { IsShapeWithin self.old.limits shape }
         ensures { (line : List ℕ) → OnOk result (TakesNext line (Some (Map shape)) self.old self.new out.old out.new) }
     {
         let Some((number, told)) = self.take_map(shape)? else {
@@ -166,7 +168,7 @@ impl<'a> Explanation<'a> {
 
     // Adds what is known of a program.
     fn put_judged(&self, out: &mut String, line: ProgramLine<'_>, program: &[Insn]) -> Written
-        requires within { IsWithin (above_of self.now) }
+        requires within { IsWithin self.now.limits (above_of self.now) }
         requires map { has_map (above_of self.now) ≡ true }
         requires argument { line.arg_len ≤ MAX_ARG_LEN }
         requires few { size program.now ≤ MAX_SLOTS }
@@ -202,7 +204,7 @@ impl<'a> Explanation<'a> {
 
     // Adds what is known of the program that bytes spell, or why they spell none.
     fn put_bytes(&self, out: &mut String, line: ProgramLine<'_>, bytes: &[u8]) -> Written
-        requires within { IsWithin (above_of self.now) }
+        requires within { IsWithin self.now.limits (above_of self.now) }
         requires map { has_map (above_of self.now) ≡ true }
         requires argument { line.arg_len ≤ MAX_ARG_LEN }
         ensures { OnOk result (Writes (TellsRead self.now line.entry (instructions_of bytes.now)) out.old out.new) }
@@ -219,7 +221,7 @@ impl<'a> Explanation<'a> {
 
     // Adds what is known of the program that the text of a file spells, or what is wrong with the text.
     fn put_text(&self, out: &mut String, line: ProgramLine<'_>, text: &str) -> Written
-        requires within { IsWithin (above_of self.now) }
+        requires within { IsWithin self.now.limits (above_of self.now) }
         requires map { has_map (above_of self.now) ≡ true }
         requires argument { line.arg_len ≤ MAX_ARG_LEN }
         ensures { OnOk result (Writes (TellsRead self.now line.entry (program_of_text text.now)) out.old out.new) }
@@ -236,7 +238,7 @@ impl<'a> Explanation<'a> {
 
     // Adds what is known of the program of the line, where a map stands above, or what is wrong with its file.
     fn put_program(&self, out: &mut String, line: ProgramLine<'_>) -> Written
-        requires within { IsWithin (above_of self.now) }
+        requires within { IsWithin self.now.limits (above_of self.now) }
         requires argument { line.arg_len ≤ MAX_ARG_LEN }
         ensures { OnOk result (Writes (TellsKnown self.now line.entry) out.old out.new) }
     {
@@ -261,7 +263,7 @@ impl<'a> Explanation<'a> {
 
     // Adds what is to be said of the line of a program, if it is asked for.
     fn put_asked(&self, out: &mut String, line: ProgramLine<'a>) -> Written
-        requires within { IsWithin (above_of self.now) }
+        requires within { IsWithin self.now.limits (above_of self.now) }
         requires argument { line.arg_len ≤ MAX_ARG_LEN }
         ensures { OnOk result (Writes (TellsAsked self.now line.entry) out.old out.new) }
     {
@@ -275,7 +277,7 @@ impl<'a> Explanation<'a> {
 
     // `put_asked`, but the program's name is taken from then on.
     fn put_named(&mut self, out: &mut String, program: ProgramLine<'a>) -> Written
-        requires within { IsWithin (above_of self.old) }
+        requires within { IsWithin self.old.limits (above_of self.old) }
         requires argument { program.arg_len ≤ MAX_ARG_LEN }
         ensures { (line : List ℕ) → OnOk result (TakesNext line (Some (Program (program_of program.entry))) self.old self.new out.old out.new) }
     {
@@ -286,11 +288,11 @@ impl<'a> Explanation<'a> {
 
     // Adds what is to be said of the next line, of this number: nothing of most.
     fn put_line(&mut self, out: &mut String, number: u32, line: &'a str) -> Written
-        requires { IsWithin (above_of self.old) }
-        ensures { OnOk result (TakesLine number line.now (line_meaning standard line.now) self.old self.new (string_bytes out.old) (string_bytes out.new)) }
+        requires { IsWithin self.old.limits (above_of self.old) }
+        ensures { OnOk result (TakesLine number line.now (line_meaning self.old.limits line.now) self.old self.new (string_bytes out.old) (string_bytes out.new)) }
     {
         self.line = number;
-        match standard_line(line) {
+        match read_line(&self.limits, line) {
             None => self.put_bad_line(out, line),
             Some(Line::Comment) => Ok(()),
             Some(Line::Map(shape)) => self.put_map(out, shape),
@@ -309,14 +311,6 @@ impl<'a> Explanation<'a> {
     }
 }
 
-// What a line of a manifest means, by the standard limits of maps.
-fn standard_line(line: &str) -> Option<Line<'_>>
-    ensures meaning { option_map meaning_of result ≡ line_meaning standard line.now }
-    ensures fits { IfSome result (LineFits standard) }
-{
-    read_line(&MapLimits::standard(), line)
-}
-
 // Whether a line begins as that of a map.
 #[tactic(auto, using(std::proofs::lemmas::Str::Pattern::starts_text))]
 fn is_of_map(line: &str) -> bool
@@ -326,12 +320,13 @@ fn is_of_map(line: &str) -> bool
 }
 
 // Whether a line of a manifest is that of a program of this name.
-fn has_program(manifest: &str, name: &str) -> bool
-    ensures { result ≡ has_program name.now manifest.now }
+fn has_program(limits: &MapLimits, manifest: &str, name: &str) -> bool
+    requires { AreLimits limits.now }
+    ensures { result ≡ has_program limits.now name.now manifest.now }
 {
     let mut lines = NumberedLines::new(manifest);
     while let Some((_, line)) = lines.take_line() {
-        if is_of(line, name) {
+        if is_of(limits, line, name) {
             return true;
         }
     }
@@ -339,54 +334,60 @@ fn has_program(manifest: &str, name: &str) -> bool
 }
 
 // Whether a line is that of a program of this name.
-fn is_of(line: &str, name: &str) -> bool
-    ensures { result ≡ is_asked (Some name.now) (line_meaning standard line.now) }
+fn is_of(limits: &MapLimits, line: &str, name: &str) -> bool
+    requires { AreLimits limits.now }
+    ensures { result ≡ is_asked (Some name.now) (line_meaning limits.now line.now) }
 {
-    match standard_line(line) {
+    match read_line(limits, line) {
         Some(Line::Program(program)) => program.name == name,
         _ => false,
     }
 }
 
-/// What is to be said of a manifest with these files: of each line that is bad what is wrong with it, and of each program what is known
-/// of it; where a name is given, of the program of this name alone, or that there is none.
+/// What is to be said of a manifest with these files, by limits of its maps: of each line that is bad what is wrong with it, and of each
+/// program what is known of it; where a name is given, of the program of this name alone, or that there is none.
 ///
 /// # Errors
 ///
 /// The system has no memory left.
 pub fn explain_manifest(
     alloc: Global,
+    limits: &MapLimits,
     manifest: &str,
     files: &[(&str, &str)],
     name: Option<&str>,
 ) -> Result<String, AllocError>
+    requires limits { AreLimits limits.now }
     // Of each line that is bad first its fault, as the loader gives it, and of each program what `explain_program` tells.
-    ensures told { IfOk result (λ s. TellsOfManifest (files_of files.now) (option_map (λ n. n.now) name.entry) manifest.now (string_bytes s)) }
+    ensures told { IfOk result (λ s. TellsOfManifest limits.now (files_of files.now) (option_map (λ n. n.now) name.entry) manifest.now (string_bytes s)) }
     // Where no line is that of a program of this name, it says so.
-    ensures missing { IfSome name.entry (λ n. has_program n.now manifest.now ≡ false → IfOk result (λ s. string_bytes s ≡ no_program n.now)) }
+    ensures missing { IfSome name.entry (λ n. has_program limits.now n.now manifest.now ≡ false → IfOk result (λ s. string_bytes s ≡ no_program n.now)) }
 {
     if let Some(name) = name
-        && !has_program(manifest, name)
+        && !has_program(limits, manifest, name)
     {
         let mut out = String::new(alloc);
         put_all(&mut out, &["\nno program ", name, "\n"])?;
         return Ok(out);
     }
-    told(alloc, manifest, files, name)
+    told(alloc, limits, manifest, files, name)
 }
 
 // What is told of the lines of a manifest, one of which at least is asked for.
 fn told(
     alloc: Global,
+    limits: &MapLimits,
     manifest: &str,
     files: &[(&str, &str)],
     name: Option<&str>,
 ) -> Result<String, AllocError>
-    ensures { IfOk result (λ s. TellsOfAll (files_of files.now) (option_map (λ n. n.now) name.entry) manifest.now (string_bytes s)) }
+    requires { AreLimits limits.now }
+    ensures { IfOk result (λ s. TellsOfAll limits.now (files_of files.now) (option_map (λ n. n.now) name.entry) manifest.now (string_bytes s)) }
 {
     let mut explanation = Explanation {
         alloc,
         files,
+        limits: *limits,
         name,
         line: 1,
         shapes: Vec::new(alloc),

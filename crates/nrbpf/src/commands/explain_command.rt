@@ -38,6 +38,9 @@ the arrow of a jump.
 
 With `--maps` the answer begins with what `nrbpf check --maps` writes. A graph stays the same.
 
+With `--large` maps may be as large as `nrbpf check --large` allows. Without it, the answer says of which maps
+`--large` would allow.
+
 Exit statuses are those of `check`: 0 all is well; 2 the words of the command line are wrong; 3 refused;
 4 `no memory`; 5 `cannot read` or `cannot write`, on standard error.";
 
@@ -49,6 +52,7 @@ pub fn arguments<'a>(alloc: Global) -> Result<Command<'a>, AllocError> {
         )
         .after_help(HELP)
         .arg(arg!(in alloc; --graph "Writes the programs as a graph for Graphviz instead"))?
+        .arg(options::large(alloc))?
         .arg(options::maps(alloc))?
         .arg(options::manifest(alloc))?
         .arg(arg!(in alloc; [NAME] "The name of the only program to explain; by default all"))

@@ -1,26 +1,27 @@
-use Rattle.std.proofs.Common.{refl, ap}
+use Rattle.std.proofs.Common.{refl, ap, subst, sym}
 use Rattle.std.specs.Prelude.{option_map}
 use Rattle.loader.specs.ProgramFiles.{files_of}
+use Rattle.explain.specs.Explanation.{above_of, IsWithin}
 use Rattle.explain.proofs.Manifests.{at_first, line_more, the_end}
 use Rattle.explain.proofs.files.manifest.told.Goals as goal
 
 pub loop-number-init : goal.loop-number-init
 loop-number-init c =
     let all = c.new-lines.ensures.all in
-    at_first (files_of c.args.files.now) (option_map (λ n. n.now) c.args.name) c.args.manifest.now _ _ _ _ c.new.ensures.items refl c.new-2.ensures.items refl refl (ap (λ l. l.number) all)
+    at_first c.args.limits.now (files_of c.args.files.now) (option_map (λ n. n.now) c.args.name) c.args.manifest.now _ _ _ _ c.requires refl c.new.ensures.items refl c.new-2.ensures.items refl refl (ap (λ l. l.number) all)
     (ap (λ l. l.lines) all) c.new-out.ensures.bytes
 
 pub put_line-requires : goal.put_line-requires
-put_line-requires c = c.loop-number.invariant.within
+put_line-requires c = let before = c.loop-number.invariant in subst (λ l. IsWithin l (above_of c.loop-number.explanation)) (sym before.same_limits) before.within
 
 pub loop-number-preserved : goal.loop-number-preserved
 loop-number-preserved c =
     let taken = c.in-Some.ensures.taken in
-    line_more (files_of c.args.files.now) (option_map (λ n. n.now) c.args.name) c.args.manifest.now _ _ c.loop-number.lines.number _ c.in-Some.line.now _ c.take_line.new.self.lines _ _ c.loop-number.invariant taken.0 taken.2
+    line_more c.args.limits.now (files_of c.args.files.now) (option_map (λ n. n.now) c.args.name) c.args.manifest.now _ _ c.loop-number.lines.number _ c.in-Some.line.now _ c.take_line.new.self.lines _ _ c.loop-number.invariant taken.0 taken.2
     (rw taken.1 at c.in_ok-put_line.ensures)
 
 pub returns : goal.returns
 returns c =
     let taken = c.in_default.ensures.taken in
-    the_end (files_of c.args.files.now) (option_map (λ n. n.now) c.args.name) c.args.manifest.now c.loop-number.explanation c.loop-number.lines.number c.loop-number.lines.lines _ _ c.loop-number.invariant taken.0
+    the_end c.args.limits.now (files_of c.args.files.now) (option_map (λ n. n.now) c.args.name) c.args.manifest.now c.loop-number.explanation c.loop-number.lines.number c.loop-number.lines.lines _ _ c.loop-number.invariant taken.0
     (rw (c.number.ensures.number, taken.1) at c.in_ok-put_end.ensures)

@@ -6,7 +6,7 @@ use Rattle.explain.proofs.Manifests.{SoFar}
 use Rattle.explain.proofs.files.manifest.told.Given as goal
 
 abbrev pub invariant-loop-number : goal.invariant-loop-number
-invariant-loop-number l = SoFar (files_of l.fn.files) (option_map (λ n. n.now) l.fn.name) l.manifest l.explanation l.lines.number l.lines.lines (string_bytes l.out)
+invariant-loop-number l = SoFar l.fn.limits (files_of l.fn.files) (option_map (λ n. n.now) l.fn.name) l.manifest l.explanation l.lines.number l.lines.lines (string_bytes l.out)
 
 abbrev pub decreases-loop-number : goal.decreases-loop-number
 decreases-loop-number l = length l.lines.lines

@@ -1,4 +1,4 @@
-use Rattle.std.proofs.Common.{◌≡◌, ◌+◌, inl, inr, refl, ap, arith}
+use Rattle.std.proofs.Common.{◌+◌, inl, inr, refl, ap, arith}
 use Rattle.explain.proofs.Lines.{begin_upto, counted_more, counted_none}
 use Rattle.explain.proofs.programs.listing.count_upto.Goals as goal
 

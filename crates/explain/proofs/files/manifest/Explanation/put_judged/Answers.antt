@@ -24,7 +24,7 @@ returns c =
     let s = c.args.self.now in
     let p = program_of c.args.line in
     let none : s.bad_map ≡ None = c.in_default.is in
-    let ok = maps_are_ok (above_of s) c.requires.within c.requires.map none in
+    let ok = maps_are_ok s.limits (above_of s) c.requires.within c.requires.map none in
     let subject : Subject =
     record { name = c.args.line.name; line = s.line; file = c.args.line.file; mode = c.args.line.mode; arg_len = c.from.result; shapes = c.deref.result; program = c.args.program } in
     let can : CanBeJudged subject = record { shapes = rw c.deref.ensures.value ok; argument = rw c.from.ensures c.requires.argument; few = c.requires.few } in

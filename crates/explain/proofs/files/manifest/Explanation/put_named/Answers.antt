@@ -9,4 +9,4 @@ returns c = λ line.
     let s = c.args.self.now in
     let p = program_of c.args.program in
     let names = ap (λ items. map (λ n. n.0.now) items) c.in_ok-push.ensures.items ∙ map-append (λ n. n.0.now) s.names.items ((c.args.program.name, s.line) ∷ []) in
-    program_line s _ p line _ _ c.requires.within c.in_ok-put_asked.ensures (ap (λ ns. record { shapes = s.shapes.items; bad_map = s.bad_map; names = ns }) names) refl refl
+    program_line s _ p line _ _ c.requires.within c.in_ok-put_asked.ensures (ap (λ ns. record { shapes = s.shapes.items; bad_map = s.bad_map; names = ns }) names) refl refl refl
