@@ -31,7 +31,7 @@ use Rattle.store.proofs.Export.{all_of_at}
 use Rattle.replica.specs.declared.refusals.StoreRefused.{StoreRefused}
 use Rattle.store_steps.specs.Views.{SessionView, request_of}
 use Rattle.store.specs.Sessions.{StoreView, TellsUpdate, fresh_session, fresh_sessions}
-use Rattle.stress.specs.declared.lines.Told.{Told}
+use Rattle.stress.specs.declared.lines.AnsweredCall.{AnsweredCall}
 use Rattle.stress.specs.declared.watching.Noted.{Noted}
 use Rattle.stress.specs.declared.lines.Said.{Said}
 use Rattle.stress.specs.declared.lines.Said.TheVariants as told
@@ -84,7 +84,7 @@ counted i t = cond (is_at i t.said) 1 0
 abbrev OnlyIts : SessionView → List ToldCall → Type 0
 OnlyIts s lines = (i : ℕ) → (lines_at i lines ≡ 0) ⊎ HasAnswered i s
 
-module _ (old new : SessionView) (t : Told) (asked : IsAsked old new t) (before : List ToldCall) (shown : AreShown old.progress old before) (only : OnlyIts old before) where
+module _ (old new : SessionView) (t : AnsweredCall) (asked : IsAsked old new t) (before : List ToldCall) (shown : AreShown old.progress old before) (only : OnlyIts old before) where
   abbrev now : List ToldCall
   now = before ++ told_of t ∷ []
 
@@ -166,7 +166,7 @@ module _ (old new : SessionView) (t : Told) (asked : IsAsked old new t) (before 
       by (told.Seen a) is = nothing_noted (subst (IsNoted old new) is asked.noted) (λ i. ap (λ said. is_at i (said_of said)) is)
       by told.Ended is = nothing_noted (subst (IsNoted old new) is asked.noted) (λ i. ap (λ said. is_at i (said_of said)) is)
 
-pub asked_more : (old new : SessionView) (said : List Told) (t : Told) → IsTold old said → IsAsked old new t → IsTold new (said ++ t ∷ [])
+pub asked_more : (old new : SessionView) (said : List AnsweredCall) (t : AnsweredCall) → IsTold old said → IsAsked old new t → IsTold new (said ++ t ∷ [])
 asked_more old new said t known asked =
     let before = map told_of said in
     let pushed = sym (map_push told_of said t) in
@@ -189,7 +189,7 @@ none_told s none = record { so = All-nil (IsSoIn s.progress); before = All-nil (
 
 -- ---- what one call is told
 
-module _ (old new : SessionView) (t : Told) (op : Operation) (asks : Asks (called t.call.now) op) (same : new.session ≡ old.session) (grown : Extends old.progress new.progress)
+module _ (old new : SessionView) (t : AnsweredCall) (op : Operation) (asks : Asks (called t.call.now) op) (same : new.session ≡ old.session) (grown : Extends old.progress new.progress)
     (well : IsWellFormed store_meaning new.progress) where
   pub updated : (a : Answer) → Tells store_meaning new.progress old.session (length old.note.answered) (request_of old.progress op) (Placed a.index a.reply) × (new.note ≡ note_with old.note a.index op a.reply)
       → IsAsked old new (record t { said = told.Updated a })
@@ -228,7 +228,7 @@ module _ (old new : SessionView) (t : Told) (op : Operation) (asks : Asks (calle
   told_update (Err e) h = ended (h.1, h.2)
 
 -- whatever is noted of it
-pub noted_too : (old new : SessionView) (t : Told) (noted : Noted) → IsAsked old new t → IsAsked old new (record t { noted = noted })
+pub noted_too : (old new : SessionView) (t : AnsweredCall) (noted : Noted) → IsAsked old new t → IsAsked old new (record t { noted = noted })
 noted_too old new t noted h = record { session = h.session; grown = h.grown; so = h.so; behind = h.behind; before = h.before; noted = h.noted }
 
 -- ---- all sessions together
@@ -259,7 +259,7 @@ both_map : {X Y : Type 0} (f : X → Y) (xs ys : List X) → map f (xs ++ ys) �
 both_map f [] ys = refl
 both_map f (x ∷ xs) ys = ap (λ rest. f x ∷ rest) (both_map f xs ys)
 
-module _ (sessions : List SessionView) (s : SessionView) (said more : List Told) (known : AreTold sessions said) (new : IsTold s more) (l : Progress CatalogueView)
+module _ (sessions : List SessionView) (s : SessionView) (said more : List AnsweredCall) (known : AreTold sessions said) (new : IsTold s more) (l : Progress CatalogueView)
     (each : (k : ℕ) (z : SessionView) → At k z (sessions ++ s ∷ []) → Extends z.progress l × (z.session ≡ k)) where
   abbrev before : List ToldCall
   before = map told_of said
@@ -330,10 +330,10 @@ module _ (sessions : List SessionView) (s : SessionView) (said more : List Told)
         only = subst OnlyTheirs both only_all;
       }
 
-pub told_more : (sessions : List SessionView) (s : SessionView) (said more : List Told) → AreTold sessions said → IsTold s more → AreTold (sessions ++ s ∷ []) (said ++ more)
+pub told_more : (sessions : List SessionView) (s : SessionView) (said more : List AnsweredCall) → AreTold sessions said → IsTold s more → AreTold (sessions ++ s ∷ []) (said ++ more)
 told_more sessions s said more known new l each = all_told sessions s said more known new l each
 
-module _ {V E : Type 0} (items : V → List Told) where
+module _ {V E : Type 0} (items : V → List AnsweredCall) where
   pub joined_told : (sessions : List SessionView) (s : SessionView) (all said both : Result V E)
       → IfOk both (λ v. MatchResult all (λ a. MatchResult said (λ b. items v ≡ items a ++ items b) (λ _. ⊥)) (λ _. ⊥))
       → IfOk all (λ v. AreTold sessions (items v)) → IfOk said (λ v. IsTold s (items v)) → IfOk both (λ v. AreTold (sessions ++ s ∷ []) (items v))
@@ -349,7 +349,7 @@ is_read [] k x at = refl
 is_read (y ∷ ys) zero x at = some-injective y x at
 is_read (y ∷ ys) (suc k) x at = is_read ys k x at
 
-module _ (store : StoreView) (sessions : List SessionView) (closed : ClosedView) (is : IsClosed store sessions closed) (said : List Told) (known : AreTold sessions said)
+module _ (store : StoreView) (sessions : List SessionView) (closed : ClosedView) (is : IsClosed store sessions closed) (said : List AnsweredCall) (known : AreTold sessions said)
     (numbers : AreNumbered sessions) where
   abbrev l : Progress CatalogueView
   l = is.progress
@@ -381,7 +381,7 @@ module _ (store : StoreView) (sessions : List SessionView) (closed : ClosedView)
       subst (λ (p : Sizes × CatalogueView). EndsIn p.1 p.0.limit (last_state closed) said) (λ i. (is.of.0 i, is.of.1 i))
       (of_one, subst (λ c. last_state closed ≡ state_of c l.history) (sym is.of.1) is.last)
 
-module _ {V E : Type 0} (items : V → List Told) where
+module _ {V E : Type 0} (items : V → List AnsweredCall) where
   pub left_in : (c : CatalogueView) (config : Sizes) (state : StoreState) (store : StoreView) (sessions : List SessionView) → store.config ≡ config → store.catalogue ≡ c
       → (closed : ClosedView) × IsClosed store sessions closed × (state ≡ last_state closed)
       → AreNumbered sessions → (all : Result V E) → IfOk all (λ v. AreTold sessions (items v)) → IfOk all (λ v. EndsIn c config.limit state (items v))

@@ -8,7 +8,7 @@ use Rattle.std.proofs.lemmas.List.Elements.{All-nil, All-cons, All-head, All-tai
 use Rattle.std.proofs.lemmas.List.Sorted.{IsNonDecreasingBy-push, IsNonDecreasingBy-short}
 use Rattle.loader.specs.CatalogueView.{CatalogueView}
 use Rattle.accounts.specs.declared.sessions.Progress.{Progress}
-use Rattle.stress.specs.declared.lines.Told.{Told}
+use Rattle.stress.specs.declared.lines.AnsweredCall.{AnsweredCall}
 use Rattle.stress.specs.Calls.{Called}
 use Rattle.stress.specs.Dealt.{dealt, dealt_from, share_of}
 use Rattle.stress.specs.Lines.{Said, Updated, Seen, Ended, ToldCall, AreOrdered, AreSteady, is_ended, rank}
@@ -106,14 +106,14 @@ module _ {X : Type 0} (n : ℕ) (calls : List X) where
         ∙ ap (take l) (drop-append-le (length xs) xs ys (omega arith) ∙ ap (λ zs. zs ++ ys) (drop-length xs))
         ∙ take_all l ys (omega (arith, mine))
 
-abbrev Steady : List Told → Type 0
+abbrev Steady : List AnsweredCall → Type 0
 Steady told = AreSteady (map told_of told)
 
-long_of : (told : List Told) (calls : List (Option Called)) → calls_told told ≡ calls → length told ≡ length calls
+long_of : (told : List AnsweredCall) (calls : List (Option Called)) → calls_told told ≡ calls → length told ≡ length calls
 long_of told calls is = sym (length-map told told_call) ∙ ap length is
 
 module _ (n m : ℕ) (calls : List (Option Called)) where
-  steady_to : (xs ys : List Told) → length xs ≡ length (dealt_from n 0 m calls) → length ys ≡ length (dealt n m calls) → AreSteadyTo n m calls xs → Steady ys → AreSteadyTo n (suc m) calls (xs ++ ys)
+  steady_to : (xs ys : List AnsweredCall) → length xs ≡ length (dealt_from n 0 m calls) → length ys ≡ length (dealt n m calls) → AreSteadyTo n m calls xs → Steady ys → AreSteadyTo n (suc m) calls (xs ++ ys)
   steady_to xs ys long mine old new k below =
       ⊎_elim (λ lt. subst Steady (sym (share_front n calls xs ys m long k lt)) (old k lt))
       (λ ge.
@@ -121,7 +121,7 @@ module _ (n m : ℕ) (calls : List (Option Called)) where
       subst (λ j. Steady (share_of n j calls (xs ++ ys))) same (subst Steady (sym (share_last n calls xs ys m long mine)) new))
       (cases_lt k m)
 
-  module _ {V E : Type 0} (items : V → List Told) where
+  module _ {V E : Type 0} (items : V → List AnsweredCall) where
     pub joined_steady : (all said both : Result V E) → IfOk both (λ v. MatchResult all (λ a. MatchResult said (λ b. items v ≡ items a ++ items b) (λ _. ⊥)) (λ _. ⊥))
         → IfOk all (λ v. calls_told (items v) ≡ dealt_from n 0 m calls) → IfOk said (λ v. calls_told (items v) ≡ dealt n m calls)
         → IfOk all (λ v. AreSteadyTo n m calls (items v)) → IfOk said (λ v. Steady (items v)) → IfOk both (λ v. AreSteadyTo n (suc m) calls (items v))

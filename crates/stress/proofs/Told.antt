@@ -5,7 +5,7 @@ use Rattle.std.specs.Ordering.{nat_cmp}
 use native.Mathlib.Nat.{not-suc-le-zero, le_of_suc-le-suc}
 use Rattle.std.proofs.Math.ListN.{length-map}
 use Rattle.std.specs.List.Sorted.{IsNonDecreasingBy}
-use Rattle.stress.specs.declared.lines.Told.{Told}
+use Rattle.stress.specs.declared.lines.AnsweredCall.{AnsweredCall}
 use Rattle.std.specs.Prelude.{filter, if◌then◌else◌, ◌==◌}
 use Rattle.stress.specs.Lines.{AreOrdered, ToldCall, Said, at_rank, rank}
 use Rattle.stress.specs.Timed.{Timed, how_many}
@@ -18,7 +18,7 @@ get_map f [] i d e below = absurd (not-suc-le-zero below)
 get_map f (x ∷ xs) zero d e below = refl
 get_map f (x ∷ xs) (suc i) d e below = get_map f xs i d e (le_of_suc-le-suc below)
 
-pub ordered : (xs : List Told) → IsNonDecreasingBy (λ t. rank (said_of t.said)) xs → AreOrdered (map told_of xs)
+pub ordered : (xs : List AnsweredCall) → IsNonDecreasingBy (λ t. rank (said_of t.said)) xs → AreOrdered (map told_of xs)
 ordered [] up i j d low below = absurd (not-suc-le-zero below)
 ordered (x ∷ xs) up i j d low below =
     let all = x ∷ xs in
@@ -27,10 +27,10 @@ ordered (x ∷ xs) up i j d low below =
     rw (get_map told_of all i d x before, get_map told_of all j d x inside) (up i j x low inside)
 
 -- the calls of one rank, as they are told
-abbrev at_one : ℕ → List Told → List Told
+abbrev at_one : ℕ → List AnsweredCall → List AnsweredCall
 at_one r xs = filter (λ t. rank (said_of t.said) == r) xs
 
-at_rank_map : (r : ℕ) (xs : List Told) → at_rank r (map told_of xs) ≡ map told_of (at_one r xs)
+at_rank_map : (r : ℕ) (xs : List AnsweredCall) → at_rank r (map told_of xs) ≡ map told_of (at_one r xs)
 at_rank_map r [] = refl
 at_rank_map r (x ∷ xs) = by (rank (said_of x.said) == r) (at_rank_map r xs)
   where
@@ -40,21 +40,21 @@ at_rank_map r (x ∷ xs) = by (rank (said_of x.said) == r) (at_rank_map r xs)
     by false rest = rest
 
 -- a stable sort by ranks leaves the calls of each rank in their order
-pub still : (xs ys : List Told) → IsStableByKey (λ (t : Told). rank (said_of t.said)) nat_cmp xs ys → (r : ℕ) → at_rank r (map told_of ys) ≡ at_rank r (map told_of xs)
-still xs ys stable r = at_rank_map r ys ∙ ap (map told_of) (stays (λ (t : Told). rank (said_of t.said)) xs ys stable r) ∙ sym (at_rank_map r xs)
+pub still : (xs ys : List AnsweredCall) → IsStableByKey (λ (t : AnsweredCall). rank (said_of t.said)) nat_cmp xs ys → (r : ℕ) → at_rank r (map told_of ys) ≡ at_rank r (map told_of xs)
+still xs ys stable r = at_rank_map r ys ∙ ap (map told_of) (stays (λ (t : AnsweredCall). rank (said_of t.said)) xs ys stable r) ∙ sym (at_rank_map r xs)
 
 -- the calls of a history are the calls that were told
-pub of_timed : (xs : List Told) → map (λ (t : Timed). t.told) (map timed_of xs) ≡ map told_of xs
+pub of_timed : (xs : List AnsweredCall) → map (λ (t : Timed). t.told) (map timed_of xs) ≡ map told_of xs
 of_timed [] = refl
 of_timed (x ∷ xs) = ap (λ rest. told_of x ∷ rest) (of_timed xs)
 
 -- as many of the calls were told such a thing
-pub as_many : (is : Said → Bool) (xs : List Told) → length (filter (λ (t : Told). is (said_of t.said)) xs) ≡ how_many is (map told_of xs)
+pub as_many : (is : Said → Bool) (xs : List AnsweredCall) → length (filter (λ (t : AnsweredCall). is (said_of t.said)) xs) ≡ how_many is (map told_of xs)
 as_many is [] = refl
 as_many is (x ∷ xs) = by (is (said_of x.said)) (as_many is xs)
   where
-    by : (b : Bool) → length (filter (λ (t : Told). is (said_of t.said)) xs) ≡ how_many is (map told_of xs)
-        → length (if b then x ∷ filter (λ (t : Told). is (said_of t.said)) xs else filter (λ (t : Told). is (said_of t.said)) xs)
+    by : (b : Bool) → length (filter (λ (t : AnsweredCall). is (said_of t.said)) xs) ≡ how_many is (map told_of xs)
+        → length (if b then x ∷ filter (λ (t : AnsweredCall). is (said_of t.said)) xs else filter (λ (t : AnsweredCall). is (said_of t.said)) xs)
         ≡ length (if b then told_of x ∷ filter (λ (t : ToldCall). is t.said) (map told_of xs) else filter (λ (t : ToldCall). is t.said) (map told_of xs))
     by true rest = ap (λ n. suc n) rest
     by false rest = rest

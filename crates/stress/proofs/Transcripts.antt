@@ -8,7 +8,7 @@ use Rattle.loader.specs.CatalogueView.{CatalogueView}
 use Rattle.oplog.specs.declared.configuration.Config.{Config}
 use Rattle.engine.specs.declared.replies.Verdict.TheVariants as verdicts
 use Rattle.stress.specs.declared.calls.ScriptCall.{ScriptCall}
-use Rattle.stress.specs.declared.lines.Told.{Told}
+use Rattle.stress.specs.declared.lines.AnsweredCall.{AnsweredCall}
 use Rattle.stress.specs.declared.sharing.Left.{Left}
 use Rattle.stress.specs.Calls.{Called, told_as}
 use Rattle.stress.specs.Dealt.{dealt_to}
@@ -29,14 +29,14 @@ abbrev Suits : ToldCall → Type 0
 Suits t = suits (told_as t.call.asked) t.said ≡ true
 
 -- a call that stands there was told so
-one_so : (t : Told) (c : Called) → told_call t ≡ Some c → (called t.call.now ≡ c) × Suits (told_of t)
+one_so : (t : AnsweredCall) (c : Called) → told_call t ≡ Some c → (called t.call.now ≡ c) × Suits (told_of t)
 one_so t c e = by (suits (told_as t.call.now.asked) (said_of t.said)) refl e
   where
     by : (b : Bool) → suits (told_as t.call.now.asked) (said_of t.said) ≡ b → (if b then Some (called t.call.now) else None) ≡ Some c → (called t.call.now ≡ c) × (suits (told_as t.call.now.asked) (said_of t.said) ≡ true)
     by true is e = let some : Some (called t.call.now) ≡ Some c = e in let same : called t.call.now ≡ c = cc in (same, is)
     by false is e = absurd cc
 
-pub so : (told : List Told) (cs : List Called) → calls_told told ≡ map (λ c. Some c) cs → (calls_of (map told_of told) ≡ cs) × All Suits (map told_of told)
+pub so : (told : List AnsweredCall) (cs : List Called) → calls_told told ≡ map (λ c. Some c) cs → (calls_of (map told_of told) ≡ cs) × All Suits (map told_of told)
 so [] [] e = (refl, All-nil Suits)
 so [] (c ∷ cs) e = absurd cc
 so (t ∷ ts) [] e = absurd cc
@@ -52,7 +52,7 @@ twice [] = refl
 twice (c ∷ cs) = ap (λ rest. Some (called c) ∷ rest) (twice cs)
 
 -- the lines of a history, where one is kept
-history_of : (timed : Bool) (n : ℕ) (calls : List Called) (told : List Told) (text : List ℕ) → All (λ t. IsInTurn n calls (timed_of t)) told
+history_of : (timed : Bool) (n : ℕ) (calls : List Called) (told : List AnsweredCall) (text : List ℕ) → All (λ t. IsInTurn n calls (timed_of t)) told
     → text ≡ history_if timed (map timed_of told) → IsHistoryIf timed n calls (map told_of told) text
 history_of true n calls told text turns is = (map timed_of told, of_timed told, All-map (IsInTurn n calls) timed_of told turns, is)
 history_of false n calls told text turns is = is
@@ -102,7 +102,7 @@ each_call_has_one_line config c calls a sizes t =
 -- ---- what is left
 
 -- what is left of a store, where memory was left
-module _ {V E : Type 0} (items : V → List Told) (config : Config) (c : CatalogueView) (timed : Bool) (script : List ScriptCall) where
+module _ {V E : Type 0} (items : V → List AnsweredCall) (config : Config) (c : CatalogueView) (timed : Bool) (script : List ScriptCall) where
   pub is_left : (told : Result V E) (left : Left) → IfOk told (λ v. calls_told (items v) ≡ dealt_to (session_count config) (to_be_told script))
       → IfOk told (λ v. All (λ t. IsInTurn (session_count config) (map called script) (timed_of t)) (items v))
       → IfOk told (λ v. AreSteadyTo (session_count config) (session_count config) (to_be_told script) (items v))

@@ -4,7 +4,7 @@ use Rattle.std.specs.Prelude.{Result, Ok, Err, IfOk, MatchResult}
 use Rattle.std.proofs.Math.ListN.{length-map}
 use Rattle.std.proofs.lemmas.List.Elements.{All-append, Contains-get_or}
 use Rattle.stress.specs.declared.calls.ScriptCall.{ScriptCall}
-use Rattle.stress.specs.declared.lines.Told.{Told}
+use Rattle.stress.specs.declared.lines.AnsweredCall.{AnsweredCall}
 use Rattle.stress.specs.Calls.{Called}
 use Rattle.stress.specs.Dealt.{dealt}
 use Rattle.stress.specs.Lines.{ToldCall}
@@ -16,7 +16,7 @@ use Rattle.stress.proofs.Told.{get_map}
 use Rattle.stress.proofs.Transcripts.{so, twice}
 
 -- a call that was told is one of the calls that were told
-one_of : (told : List Told) → All (λ t. Contains (calls_of (map told_of told)) (called t.call.now)) told
+one_of : (told : List AnsweredCall) → All (λ t. Contains (calls_of (map told_of told)) (called t.call.now)) told
 one_of told k d below =
     let said = map told_of told in
     let calls = calls_of said in
@@ -27,7 +27,7 @@ one_of told k d below =
     (Contains-get_or calls k one.call here)
 
 -- where a session was told its calls, and what was noted has its number, the lines name it
-pub in_turn : (n number : ℕ) → number < n → (calls : List ScriptCall) (told : List Told) → calls_told told ≡ dealt n number (to_be_told calls) → All (λ t. t.noted.session ≡ number) told
+pub in_turn : (n number : ℕ) → number < n → (calls : List ScriptCall) (told : List AnsweredCall) → calls_told told ≡ dealt n number (to_be_told calls) → All (λ t. t.noted.session ≡ number) told
     → All (λ t. IsInTurn n (map called calls) (timed_of t)) told
 in_turn n number one calls told is by k d below =
     let all = map called calls in
@@ -35,11 +35,11 @@ in_turn n number one calls told is by k d below =
     let t = get_or told k d in
     subst (λ s. (s < n) × Contains (dealt n s all) (called t.call.now)) (sym (by k d below)) (one, subst (λ cs. Contains cs (called t.call.now)) theirs (one_of told k d below))
 
-abbrev AreInTurn : ℕ → List Called → List Told → Type 0
+abbrev AreInTurn : ℕ → List Called → List AnsweredCall → Type 0
 AreInTurn n calls told = All (λ t. IsInTurn n calls (timed_of t)) told
 
 -- what one session more was told
-module _ {V E : Type 0} (items : V → List Told) (n : ℕ) (calls : List Called) where
+module _ {V E : Type 0} (items : V → List AnsweredCall) (n : ℕ) (calls : List Called) where
   pub joined_turns : (all said both : Result V E) → IfOk both (λ v. MatchResult all (λ a. MatchResult said (λ b. items v ≡ items a ++ items b) (λ _. ⊥)) (λ _. ⊥))
       → IfOk all (λ v. AreInTurn n calls (items v)) → IfOk said (λ v. AreInTurn n calls (items v)) → IfOk both (λ v. AreInTurn n calls (items v))
   joined_turns all said (Err e) h old new = tt

@@ -26,10 +26,10 @@ use Rattle.accounts.specs.declared.sessions.AnsweredUpdate.{AnsweredUpdate}
 use Rattle.accounts.specs.Accounts.{Extends}
 use Rattle.ownlock.specs.Seats.{At}
 use Rattle.oplog.specs.Operations.{Operation}
-use Rattle.stress.specs.declared.lines.Told.{Told}
+use Rattle.stress.specs.declared.lines.AnsweredCall.{AnsweredCall}
 use Rattle.stress.specs.declared.lines.Said.{Said}
 use Rattle.stress.specs.declared.lines.Said.TheVariants as told
-use Rattle.stress.specs.declared.lines.Written.{Written}
+use Rattle.stress.specs.declared.lines.WrittenCalls.{WrittenCalls}
 use Rattle.stress.specs.declared.sharing.Left.{Left}
 use Rattle.oplog.specs.declared.configuration.Config.{Config}
 use Rattle.oplog.specs.Limits.{IsConfig}
@@ -113,24 +113,24 @@ TellTheirs n calls players =
     (k : ℕ) (d : Player) → k < length players → TellsCalls (slice_index_or players k d).told (dealt n (n - 1 - k) calls)
 
 -- what was told names the sessions that these calls went to, n of them in turn, unless memory ran out
-abbrev pub NamesTurns : {X E : Type 0} → ℕ → List Called → Result (Vec Told X) E → Type 0
+abbrev pub NamesTurns : {X E : Type 0} → ℕ → List Called → Result (Vec AnsweredCall X) E → Type 0
 NamesTurns n calls told = IfOk told (λ v. All (λ t. IsInTurn n calls (timed_of t)) v.items)
 
 -- of what n sessions were told of these calls, one behind the other, the answers of each of the first m have their lines in its order
-abbrev pub AreSteadyTo : ℕ → ℕ → List (Option Called) → List Told → Type 0
+abbrev pub AreSteadyTo : ℕ → ℕ → List (Option Called) → List AnsweredCall → Type 0
 AreSteadyTo n m calls told = (k : ℕ) → k < m → AreSteady (map told_of (share_of n k calls told))
 
 -- `AreSteadyTo`, unless memory ran out
-abbrev pub TellsSteady : {X E : Type 0} → ℕ → ℕ → List (Option Called) → Result (Vec Told X) E → Type 0
+abbrev pub TellsSteady : {X E : Type 0} → ℕ → ℕ → List (Option Called) → Result (Vec AnsweredCall X) E → Type 0
 TellsSteady n m calls told = IfOk told (λ v. AreSteadyTo n m calls v.items)
 
 -- where these players were told the calls that are dealt to their sessions, all of them are told, the first session's first
-abbrev pub TellsAll : {X E : Type 0} → List Player → Result (Vec Told X) E → Type 0
+abbrev pub TellsAll : {X E : Type 0} → List Player → Result (Vec AnsweredCall X) E → Type 0
 TellsAll players told =
     (calls : List (Option Called)) → TellTheirs (length players) calls players → TellsCalls told (dealt_to (length players) calls)
 
 -- and each session's answers have their lines in its order
-abbrev pub AllSteady : {X E : Type 0} → List Player → Result (Vec Told X) E → Type 0
+abbrev pub AllSteady : {X E : Type 0} → List Player → Result (Vec AnsweredCall X) E → Type 0
 AllSteady players told =
     (calls : List (Option Called)) → TellTheirs (length players) calls players → TellsSteady (length players) (length players) calls told
 
@@ -167,7 +167,7 @@ abbrev pub IsBefore : Progress CatalogueView → said.Said → Type 0
 IsBefore l answer = IsUpTo l.completed answer × IsUpTo (length l.history) answer
 
 -- the session was told all this, and no more, and its answers have their lines in this order
-pub record IsTold (s : SessionView) (told : List Told) : Type 0 where
+pub record IsTold (s : SessionView) (told : List AnsweredCall) : Type 0 where
   pub so : All (IsSoIn s.progress) (map told_of told)
   pub before : All (λ t. IsBefore s.progress t.said) (map told_of told)
   pub steady : AreSteady (map told_of told)
@@ -195,7 +195,7 @@ IsNoted old new (told.Seen a) = new.note.answered ≡ old.note.answered
 IsNoted old new told.Ended = new.note.answered ≡ old.note.answered
 
 -- the session was told this by one call
-pub record IsAsked (old new : SessionView) (t : Told) : Type 0 where
+pub record IsAsked (old new : SessionView) (t : AnsweredCall) : Type 0 where
   pub session : new.session ≡ old.session
   pub grown : Extends old.progress new.progress
   pub so : IsSoIn new.progress (told_of t)
@@ -204,13 +204,13 @@ pub record IsAsked (old new : SessionView) (t : Told) : Type 0 where
   pub noted : IsNoted old new t.said
 
 -- all this is so in this history, each answered update of these sessions has one line, and there are no others
-pub record AreToldIn (l : Progress CatalogueView) (sessions : List SessionView) (told : List Told) : Type 0 where
+pub record AreToldIn (l : Progress CatalogueView) (sessions : List SessionView) (told : List AnsweredCall) : Type 0 where
   pub so : All (IsSoIn l) (map told_of told)
   pub shown : (k : ℕ) (s : SessionView) → At k s sessions → AreShown l s (map told_of told)
   pub only : (i : ℕ) → (lines_at i (map told_of told) ≡ 0) ⊎ ((k : ℕ) × (s : SessionView) × At k s sessions × HasAnswered i s)
 
 -- `AreToldIn` in whatever has grown from what these sessions know, if each is numbered by its index
-abbrev pub AreTold : List SessionView → List Told → Type 0
+abbrev pub AreTold : List SessionView → List AnsweredCall → Type 0
 AreTold sessions told =
     (l : Progress CatalogueView) → ((k : ℕ) (s : SessionView) → At k s sessions → Extends s.progress l × (s.session ≡ k)) → AreToldIn l sessions told
 
@@ -226,8 +226,8 @@ history_if true timed = history_text timed
 history_if false timed = []
 
 -- what is written of these calls, in the order of their lines
-pub record IsWritten (c : CatalogueView) (timed : Bool) (told : List Told) (w : Written) : Type 0 where
-  pub lines : List Told
+pub record IsWritten (c : CatalogueView) (timed : Bool) (told : List AnsweredCall) (w : WrittenCalls) : Type 0 where
+  pub lines : List AnsweredCall
   pub same : IsPermutation told lines
   pub ordered : AreOrdered (map told_of lines)
   pub stable : (r : ℕ) → at_rank r (map told_of lines) ≡ at_rank r (map told_of told)
@@ -236,12 +236,12 @@ pub record IsWritten (c : CatalogueView) (timed : Bool) (told : List Told) (w : 
   pub counts : AreCounted (map told_of lines) w.counts
 
 -- one history is behind these calls, and this is the state after it
-abbrev pub EndsIn : CatalogueView → ℕ → StoreState → List Told → Type 0
+abbrev pub EndsIn : CatalogueView → ℕ → StoreState → List AnsweredCall → Type 0
 EndsIn c limit state told = (of_one : IsOfOneHistory c limit (map told_of told)) × (state ≡ state_of c of_one.history)
 
 -- what the sessions of a store of these sizes and this catalogue were told of these calls, in what is left of it
 pub record IsLeft (config : Config) (c : CatalogueView) (timed : Bool) (calls : List ScriptCall) (left : Left) : Type 0 where
-  pub told : List Told
+  pub told : List AnsweredCall
   pub in_turn : calls_told told ≡ dealt_to (session_count config) (to_be_told calls)
   pub turns : All (λ t. IsInTurn (session_count config) (map called calls) (timed_of t)) told
   pub steady : AreSteadyTo (session_count config) (session_count config) (to_be_told calls) told

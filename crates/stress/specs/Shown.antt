@@ -6,7 +6,7 @@ use Rattle.stress.specs.declared.calls.ScriptCalls.{ScriptCalls}
 use Rattle.stress.specs.declared.calls.LineCall.{LineCall}
 use Rattle.stress.specs.declared.calls.LineCall.TheVariants as lines
 use Rattle.stress.specs.declared.calls.ScriptCalls.TheVariants as reads
-use Rattle.stress.specs.declared.lines.Told.{Told}
+use Rattle.stress.specs.declared.lines.AnsweredCall.{AnsweredCall}
 use Rattle.stress.specs.declared.lines.Said.{Said}
 use Rattle.stress.specs.declared.lines.Said.TheVariants as told
 use Rattle.stress.specs.Calls.{Called, told_as}
@@ -39,22 +39,22 @@ said_of (told.Updated a) = said.Updated a.index a.reply
 said_of (told.Seen a) = said.Seen a.point a.reply
 said_of told.Ended = said.Ended
 
-abbrev pub told_of : Told → ToldCall
+abbrev pub told_of : AnsweredCall → ToldCall
 told_of t = record { call = called t.call.now; said = said_of t.said }
 
 -- `told_of`, and when the call was made
-abbrev pub timed_of : Told → Timed
+abbrev pub timed_of : AnsweredCall → Timed
 timed_of t = record { told = told_of t; session = t.noted.session; begun = t.noted.begun; ended = t.noted.ended }
 
 -- the call of a told one, if what was said suits it
-abbrev pub told_call : Told → Option Called
+abbrev pub told_call : AnsweredCall → Option Called
 told_call t = if suits (told_as t.call.now.asked) (said_of t.said) then Some (called t.call.now) else None
 
-abbrev pub calls_told : List Told → List (Option Called)
+abbrev pub calls_told : List AnsweredCall → List (Option Called)
 calls_told told = map told_call told
 
 -- these calls were told, unless memory ran out
-abbrev pub TellsCalls : {X E : Type 0} → Result (Vec Told X) E → List (Option Called) → Type 0
+abbrev pub TellsCalls : {X E : Type 0} → Result (Vec AnsweredCall X) E → List (Option Called) → Type 0
 TellsCalls told calls = IfOk told (λ v. calls_told v.items ≡ calls)
 
 -- the calls of a script, as they are to be told

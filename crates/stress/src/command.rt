@@ -4,7 +4,7 @@ ghost use Rattle.std.specs.Prelude.{◌≡◌, ◌≤◌, All, map, Option, Some
 ghost use Rattle.text.specs.Lines.{lines_of};
 ghost use Rattle.loader.specs.declared.installed.TheConstants.{MAX_SPARE};
 ghost use Rattle.engine.specs.ReadFaults.{IfCannotRead};
-ghost use Rattle.engine.specs.Reading.{FailedInTurn, IfGiven, TextsRead, read, texts_in, texts_read};
+ghost use Rattle.engine.specs.Reading.{FailedInTurn, IfGiven, StopsAtStranger, TextsRead, read, texts_in, texts_read};
 ghost use Rattle.engine.specs.Engine.{Performs, PerformsRead, Reports, ReportsRead};
 ghost use Rattle.engine.specs.Report.{Failed, answer_of};
 ghost use Rattle.engine.specs.Sizes.{places_in};
@@ -17,7 +17,7 @@ ghost use Rattle.stress.specs.Playing.{IsReady, IsScriptRun, MayOpen};
 use crate::calls::{ScriptCall, ScriptCalls, read_calls};
 use crate::gate::Gate;
 use crate::left_texts::{Leaving, LeftTexts, left_texts};
-use crate::lines::Written;
+use crate::lines::WrittenCalls;
 use crate::sharing::Left;
 use crate::stressed::Stressed;
 use engine::{
@@ -83,7 +83,7 @@ impl<'a, R: Threads + Wait + Sync, G: Gate + Sync, C: Clock + Sync> Stress<'a, R
         ensures { IfOk result (IsRun self.now.config self.now.has_history catalogue (map called calls.now)) }
     {
         let Left { written, state } = self.tell_all(alloc, catalogue, state, calls)?;
-        let Written {
+        let WrittenCalls {
             transcript,
             history,
             counts,
@@ -154,6 +154,8 @@ impl<'a, R: Threads + Wait + Sync, G: Gate + Sync, C: Clock + Sync> Stress<'a, R
         ensures failed { IfCannotRead result (FailedInTurn F.holds F.can_fail S.remaining S.has_failed inputs.old inputs.new) }
         // Whatever they give.
         ensures some { IfOk result (λ s. (t : Option TextsRead) × MayMake self.now t s) }
+        // However it ends, a text is read only if all texts before it are UTF-8.
+        ensures stops { IfGiven F.holds S.remaining inputs.old (StopsAtStranger inputs.old inputs.new) }
     {
         let read = gather(alloc, inputs)?;
         match self.make(alloc, read) {
@@ -177,6 +179,8 @@ impl<'a, R: Threads + Wait + Sync, G: Gate + Sync, C: Clock + Sync> Stress<'a, R
         ensures failed { Failed result (FailedInTurn F.holds F.can_fail S.remaining S.has_failed inputs.old inputs.new) (W.has_failed writer.new) }
         // Whatever they give, or where they fail.
         ensures ended { Reports (λ s. answer_of s.reply) (λ s. (t : Option TextsRead) × MayMake self.now t s) (W.contents writer.old) (W.contents writer.new) result }
+        // However it ends, a text is read only if all texts before it are UTF-8.
+        ensures stops { IfGiven F.holds S.remaining inputs.old (StopsAtStranger inputs.old inputs.new) }
     {
         let made = self.prepare(alloc, inputs);
         report(writer, &made)
@@ -192,6 +196,7 @@ impl<'a, R: Threads + Wait + Sync, G: Gate + Sync, C: Clock + Sync> Stress<'a, R
         ensures known { IfGiven F.holds S.remaining inputs.old (λ g. IfOk result (MayLeave self.now to (read g))) }
         ensures failed { IfCannotRead result (FailedInTurn F.holds F.can_fail S.remaining S.has_failed inputs.old inputs.new) }
         ensures some { IfOk result (λ l. (t : Option TextsRead) × MayLeave self.now to t l) }
+        ensures stops { IfGiven F.holds S.remaining inputs.old (StopsAtStranger inputs.old inputs.new) }
     {
         let stressed = self.prepare(alloc, inputs)?;
         match left_texts(alloc, to, stressed) {
@@ -215,6 +220,8 @@ impl<'a, R: Threads + Wait + Sync, G: Gate + Sync, C: Clock + Sync> Stress<'a, R
         ensures failed { Failed result.status (FailedInTurn F.holds F.can_fail S.remaining S.has_failed inputs.old inputs.new) (W.has_failed writer.new) }
         // Whatever they give, or where they fail.
         ensures ended { Performs answer_left (λ l. (t : Option TextsRead) × MayLeave self.now to t l) (W.contents writer.old) (W.contents writer.new) result }
+        // However it ends, a text is read only if all texts before it are UTF-8.
+        ensures stops { IfGiven F.holds S.remaining inputs.old (StopsAtStranger inputs.old inputs.new) }
     {
         let made = self.prepare_left(alloc, to, inputs);
         hand_back(writer, made)

@@ -27,7 +27,7 @@ pub(crate) enum Said {
 
 // A call, what its session is told, and what was noted.
 #[derive(Clone, Copy)]
-pub(crate) struct Told<'a> {
+pub(crate) struct AnsweredCall<'a> {
     pub call: &'a ScriptCall<'a>,
     pub said: Said,
     pub noted: Noted,
@@ -35,7 +35,7 @@ pub(crate) struct Told<'a> {
 
 // What is written of the calls, and how many there are.
 #[derive(Drop)]
-pub(crate) struct Written {
+pub(crate) struct WrittenCalls {
     pub transcript: Vec<u8>,
     pub history: Vec<u8>,
     pub counts: Counts,
@@ -121,7 +121,7 @@ fn update_letter(asked: Asked) -> &'static [u8]
 }
 
 // The line of a call.
-fn put_told(out: &mut Vec<u8>, catalogue: &Catalogue, told: &Told) -> Result<(), AllocError>
+fn put_told(out: &mut Vec<u8>, catalogue: &Catalogue, told: &AnsweredCall) -> Result<(), AllocError>
     ensures { OnOk result (out.new.items ≡ out.old.items ++ said_text catalogue.now (called told.now.call.now) (said_of told.now.said)) }
 {
     let call = told.call;
@@ -146,7 +146,7 @@ fn put_told(out: &mut Vec<u8>, catalogue: &Catalogue, told: &Told) -> Result<(),
 fn transcript_text(
     alloc: Global,
     catalogue: &Catalogue,
-    told: &[Told<'_>],
+    told: &[AnsweredCall<'_>],
 ) -> Result<Vec<u8>, AllocError>
     ensures { IfOk result (λ text. text.items ≡ transcript_text catalogue.now (map told_of told.now)) }
 {
@@ -158,7 +158,7 @@ fn transcript_text(
 }
 
 // The line SESSION LINE BEGIN END of a call.
-fn put_timed(out: &mut Vec<u8>, told: &Told) -> Result<(), AllocError>
+fn put_timed(out: &mut Vec<u8>, told: &AnsweredCall) -> Result<(), AllocError>
     ensures { OnOk result (out.new.items ≡ out.old.items ++ timed_text (timed_of told.now)) }
 {
     let Noted {
@@ -175,7 +175,7 @@ fn put_timed(out: &mut Vec<u8>, told: &Told) -> Result<(), AllocError>
 }
 
 // The lines of a history.
-fn history_text(alloc: Global, told: &[Told<'_>]) -> Result<Vec<u8>, AllocError>
+fn history_text(alloc: Global, told: &[AnsweredCall<'_>]) -> Result<Vec<u8>, AllocError>
     ensures { IfOk result (λ text. text.items ≡ history_text (map timed_of told.now)) }
 {
     let mut out = Vec::new(alloc);
@@ -186,7 +186,7 @@ fn history_text(alloc: Global, told: &[Told<'_>]) -> Result<Vec<u8>, AllocError>
 }
 
 // The history, if it is wanted.
-fn history_if(alloc: Global, timed: bool, told: &[Told<'_>]) -> Result<Vec<u8>, AllocError>
+fn history_if(alloc: Global, timed: bool, told: &[AnsweredCall<'_>]) -> Result<Vec<u8>, AllocError>
     ensures { IfOk result (λ text. text.items ≡ history_if timed (map timed_of told.now)) }
 {
     if timed {
@@ -197,7 +197,7 @@ fn history_if(alloc: Global, timed: bool, told: &[Told<'_>]) -> Result<Vec<u8>, 
 }
 
 // How many of these calls were told an index.
-fn updates_in(told: &[Told<'_>]) -> u64
+fn updates_in(told: &[AnsweredCall<'_>]) -> u64
     ensures { result ≡ length (filter (λ t. is_updated (said_of t.said)) told.now) }
 {
     let updates = told.iter().filter(|t| matches!(t.said, Said::Updated(_)));
@@ -205,7 +205,7 @@ fn updates_in(told: &[Told<'_>]) -> u64
 }
 
 // How many of them are reads.
-fn reads_in(told: &[Told<'_>]) -> u64
+fn reads_in(told: &[AnsweredCall<'_>]) -> u64
     ensures { result ≡ length (filter (λ t. is_seen (said_of t.said)) told.now) }
 {
     let reads = told.iter().filter(|t| matches!(t.said, Said::Seen(_)));
@@ -213,7 +213,7 @@ fn reads_in(told: &[Told<'_>]) -> u64
 }
 
 // How many of them were told that the history has ended.
-fn ended_in(told: &[Told<'_>]) -> u64
+fn ended_in(told: &[AnsweredCall<'_>]) -> u64
     ensures { result ≡ length (filter (λ t. is_ended (said_of t.said)) told.now) }
 {
     let ended = told.iter().filter(|t| matches!(t.said, Said::Ended));
@@ -221,7 +221,7 @@ fn ended_in(told: &[Told<'_>]) -> u64
 }
 
 // The longest wait of these calls, in nanoseconds.
-fn longest_wait(told: &[Told<'_>]) -> u64 {
+fn longest_wait(told: &[AnsweredCall<'_>]) -> u64 {
     let mut longest = 0;
     for one in told {
         longest = one.noted.waited.max(longest);
@@ -230,7 +230,7 @@ fn longest_wait(told: &[Told<'_>]) -> u64 {
 }
 
 // How many calls these are, and what was spent on them.
-fn counted(told: &[Told<'_>], spent: Spent) -> Counts
+fn counted(told: &[AnsweredCall<'_>], spent: Spent) -> Counts
     ensures { AreCounted (map told_of told.now) result }
 {
     let Spent {
@@ -252,13 +252,13 @@ pub(crate) fn write_told(
     alloc: Global,
     catalogue: &Catalogue,
     timed: bool,
-    mut told: Vec<Told<'_>>,
+    mut told: Vec<AnsweredCall<'_>>,
     spent: Spent,
-) -> Result<Written, AllocError>
+) -> Result<WrittenCalls, AllocError>
     ensures { IfOk result (IsWritten catalogue.now timed told.entry.items) }
 {
     told.sort_by_key(|t| rank(t.said))?;
-    Ok(Written {
+    Ok(WrittenCalls {
         transcript: transcript_text(alloc, catalogue, &told)?,
         history: history_if(alloc, timed, &told)?,
         counts: counted(&told, spent),

@@ -7,7 +7,7 @@ ghost use Rattle.stress.specs.Playing.{IsReady, IsAsked, IsTold, IsToldPlayer, N
 
 use crate::calls::{Asked, ScriptCall};
 use crate::gate::Gate;
-use crate::lines::{Said, Told};
+use crate::lines::{AnsweredCall, Said};
 use crate::watching::{Noted, nanoseconds_since, tick, time};
 use std::alloc::{AllocError, Global};
 use std::rt::Clock;
@@ -35,7 +35,7 @@ pub(crate) struct Playground<'s, 'a, G, C> {
 // A session, and what it was told.
 pub(crate) struct Player<'a> {
     pub session: Session,
-    pub told: Result<Vec<Told<'a>>, AllocError>,
+    pub told: Result<Vec<AnsweredCall<'a>>, AllocError>,
 }
 
 // What a session is told of an update that was not refused early.
@@ -54,7 +54,7 @@ fn ask<'a, R: Wait>(
     store: &Store,
     session: &mut Session,
     call: &'a ScriptCall<'a>,
-) -> Told<'a>
+) -> AnsweredCall<'a>
     requires own { IsOf store.now session.old }
     requires ready { IsReady store.now.catalogue call.now }
     ensures own { IsOf store.now session.new }
@@ -77,7 +77,7 @@ fn ask<'a, R: Wait>(
             update_said(session.install(rt, store, mode, arg_len, bytes))
         }
     };
-    Told {
+    AnsweredCall {
         call,
         said,
         noted: Noted {
@@ -96,7 +96,7 @@ fn ask_noted<'a, R: Wait, G, C: Clock>(
     session: &mut Session,
     number: usize,
     call: &'a ScriptCall<'a>,
-) -> Told<'a>
+) -> AnsweredCall<'a>
     requires own { IsOf ground.now.store.now session.old }
     requires ready { IsReady ground.now.store.now.catalogue call.now }
     ensures own { IsOf ground.now.store.now session.new }
@@ -114,7 +114,7 @@ fn ask_noted<'a, R: Wait, G, C: Clock>(
         ended,
         waited: nanoseconds_since(ground.clock, start),
     };
-    Told {
+    AnsweredCall {
         call: told.call,
         said: told.said,
         noted,
@@ -135,7 +135,7 @@ fn ask_all<'a, R: Wait, G: Gate, C: Clock>(
     ground: &Playground<'_, 'a, G, C>,
     session: &mut Session,
     number: usize,
-) -> Result<Vec<Told<'a>>, AllocError>
+) -> Result<Vec<AnsweredCall<'a>>, AllocError>
     requires own { IsOf ground.now.store.now session.old }
     requires new { session.old.note.answered ≡ [] }
     requires ready { All (IsReady ground.now.store.now.catalogue) ground.now.calls.now }

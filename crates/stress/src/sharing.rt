@@ -14,7 +14,7 @@ ghost use Rattle.stress.specs.Playing.{IsReady, AllSteady, AreIn, AreLast, AreNe
 use crate::calls::ScriptCall;
 use crate::command::Stress;
 use crate::gate::Gate;
-use crate::lines::{Told, Written, write_told};
+use crate::lines::{AnsweredCall, WrittenCalls, write_told};
 use crate::players::{Player, Playground, play};
 use crate::watching::{Spent, batches_of, nanoseconds_since, time};
 use loader::{Catalogue, StoreState};
@@ -31,7 +31,7 @@ use store::{Session, Store};
 #[derive(Drop)]
 pub(crate) struct Left {
     // What is written of its calls.
-    pub written: Written,
+    pub written: WrittenCalls,
     // The state that it ended in.
     pub state: StoreState,
 }
@@ -102,9 +102,9 @@ fn enter<'a>(alloc: Global, sessions: &mut Vec<Session>, players: &mut Vec<Playe
 
 // Joins two lists, one after the other.
 fn joined<'a>(
-    told: Result<Vec<Told<'a>>, AllocError>,
-    more: Result<Vec<Told<'a>>, AllocError>,
-) -> Result<Vec<Told<'a>>, AllocError>
+    told: Result<Vec<AnsweredCall<'a>>, AllocError>,
+    more: Result<Vec<AnsweredCall<'a>>, AllocError>,
+) -> Result<Vec<AnsweredCall<'a>>, AllocError>
     ensures told { (a b : List (Option Called)) → TellsCalls told.entry a → TellsCalls more.entry b → TellsCalls result (a ++ b) }
     ensures all { IfOk result (λ v. MatchResult told.entry (λ a. MatchResult more.entry (λ b. v.items ≡ a.items ++ b.items) (λ _. ⊥)) (λ _. ⊥)) }
 {
@@ -119,7 +119,7 @@ fn leave<'a>(
     alloc: Global,
     players: &mut Vec<Player<'a>>,
     sessions: &mut Vec<Session>,
-) -> Result<Vec<Told<'a>>, AllocError>
+) -> Result<Vec<AnsweredCall<'a>>, AllocError>
     requires empty { sessions.old.items ≡ [] }
     requires room { length players.old.items ≤ vec_capacity sessions.old }
     ensures gone { players.new.items ≡ [] }
@@ -181,7 +181,7 @@ fn play_all<'a, R: Threads + Wait + Sync, G: Gate + Sync, C: Clock + Sync>(
     ground: &Playground<'_, 'a, G, C>,
     sessions: &mut Vec<Session>,
     mut players: Vec<Player<'a>>,
-) -> Result<Vec<Told<'a>>, AllocError>
+) -> Result<Vec<AnsweredCall<'a>>, AllocError>
     requires some { 0 < ground.now.sessions }
     requires all { AreNew ground.now.store.now ground.now.sessions sessions.old.items }
     requires ready { All (IsReady ground.now.store.now.catalogue) ground.now.calls.now }
@@ -205,9 +205,9 @@ fn written(
     alloc: Global,
     catalogue: &Catalogue,
     timed: bool,
-    told: Result<Vec<Told<'_>>, AllocError>,
+    told: Result<Vec<AnsweredCall<'_>>, AllocError>,
     spent: Spent,
-) -> Result<Written, AllocError>
+) -> Result<WrittenCalls, AllocError>
     ensures { IfOk result (λ w. MatchResult told.entry (λ v. IsWritten catalogue.now timed v.items w) (λ _. ⊥)) }
 {
     write_told(alloc, catalogue, timed, told?, spent)

@@ -7,7 +7,7 @@ use Rattle.store.specs.Sessions.{TellsUpdate}
 use Rattle.verifier.specs.declared.refusal.Mode.{Mode}
 use Rattle.verifier.specs.declared.refusal.Mode.TheVariants.{Update, Read}
 use Rattle.stress.specs.declared.calls.Asked.TheVariants as asks
-use Rattle.stress.specs.declared.lines.Told.{Told}
+use Rattle.stress.specs.declared.lines.AnsweredCall.{AnsweredCall}
 use Rattle.stress.specs.Calls.{operation_on, asked_refusal}
 use Rattle.stress.specs.Shown.{called}
 use Rattle.stress.specs.OneHistory.{Asks}
@@ -17,7 +17,7 @@ use Rattle.stress.proofs.players.ask.Goals.{in-Run+in-Update, in-Run+in-Read+in-
 
 pub returns-clause-told : goal.returns-clause-told
 returns-clause-told g c =
-    let t : Told = record { call = c.args.call; said = c.match-call.said; noted = record { session = 0; begun = 0; ended = 0; waited = 0 } } in
+    let t : AnsweredCall = record { call = c.args.call; said = c.match-call.said; noted = record { session = 0; begun = 0; ended = 0; waited = 0 } } in
     let call = c.args.call.now in
     let ready = c.requires.ready in
     let catalogue = c.args.store.now.catalogue in
