@@ -9,6 +9,7 @@ pub mod UnderLimits
 pub mod KeptRuns
 pub mod CutRuns
 pub mod RunWrites
+pub mod OneTurn
 pub mod OneResult
 pub mod SentPieces
 pub mod Export
