@@ -35,6 +35,11 @@ impl Proved {
         Proved::start_with(path, &[1, 1, sizes.window, sizes.entries as usize, sizes.value, keys as usize])
     }
 
+    /// A store of bench/programs/bench_lists: so many threads of each node, and lists of so many updates.
+    pub fn start_lists(path: &str, nodes: usize, threads: usize, list: usize, sizes: Sizes) -> Proved {
+        Proved::start_with(path, &[nodes, threads, list, sizes.window, sizes.entries as usize])
+    }
+
     fn start_with(path: &str, words: &[usize]) -> Proved {
         let words = words.iter().map(|word| word.to_string());
         let mut child = Command::new(path).args(words).stdin(Stdio::piped()).stdout(Stdio::piped()).spawn().expect("the program starts");
