@@ -342,12 +342,12 @@ fn run<R: Threads + Wait + Sync + Input + Print>(rt: &R, alloc: Global, layout: 
 }
 
 fn main(rt: HostRuntime) -> ExitCode {
-    let words: Option<Vec<String>> = match std::env::args(&rt) {
-        Ok(args) => args.collect(rt.alloc()).ok(),
-        Err(_) => None,
-    };
-    let Some(words) = words else {
+    let Ok(args) = std::env::args(&rt) else {
         return ExitCode::FAILURE;
+    };
+    let words: Vec<String> = match args.collect(rt.alloc()) {
+        Ok(words) => words,
+        Err(_) => return ExitCode::FAILURE,
     };
     match layout_in(words.as_slice()) {
         Some(layout) if run(&rt, rt.alloc(), layout) => ExitCode::SUCCESS,
