@@ -17,7 +17,7 @@ _nrbpf() {
     esac
     case ${COMP_WORDS[at]} in
         check) words='--large --maps -h --help' ;;
-        explain) words='--graph --maps -h --help' ;;
+        explain) words='--graph --large --maps -h --help' ;;
         asm) words='-o --output --explain -h --help' ;;
         dis) words='--slots -h --help' ;;
         encode) words='-h --help' ;;
