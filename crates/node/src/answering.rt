@@ -16,13 +16,13 @@ pub fn answer_batch(batch: &mut Batch, replies: &Replies)
     ensures answered { batch.new ≡ answered_batch replies.now batch.old }
 {
     for k in 0..batch.records().len() {
-        let reply = answer_of(replies, k);
+        let reply = reply_at(replies, k);
         batch.answer(k, reply);
     }
 }
 
 // The answer to the k-th request.
-fn answer_of(replies: &Replies, k: usize) -> Reply
+fn reply_at(replies: &Replies, k: usize) -> Reply
     requires run { k < length replies.now.outcomes → (o : TheOutcome) × HasOutcome replies.now k o }
     requires short { replies.now.first + length replies.now.outcomes < 2 ^ 64 }
     ensures placed { (o : TheOutcome) → k < length replies.now.outcomes → HasOutcome replies.now k o → result ≡ Placed (replies.now.first + k) o.reply }

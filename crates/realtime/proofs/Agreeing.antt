@@ -24,14 +24,14 @@ use Rattle.realtime.specs.declared.ranks.Standing.{Standing}
 use Rattle.realtime.specs.declared.ranks.Standing.TheVariants as stands
 use Rattle.realtime.specs.Judging.{standings_of}
 use Rattle.realtime.specs.Ranks.{standing_of}
-use Rattle.realtime.specs.Linearizable.{Told, told_by, calls_told}
+use Rattle.realtime.specs.Linearizable.{TranscriptCall, told_by, calls_told}
 use Rattle.realtime.proofs.Standings.{line_standing}
 
 -- what a line tells, if it is a call
-abbrev line_told : CatalogueView → List ℕ → Option Told
+abbrev line_told : CatalogueView → List ℕ → Option TranscriptCall
 line_told c line = option_and_then (told_by c) (transcript_line_meaning line)
 
-abbrev call_told : Mode → Answer → Operation → Told
+abbrev call_told : Mode → Answer → Operation → TranscriptCall
 call_told mode answer op = record { mode = mode; op = op; answer = answer }
 
 -- an update is answered its index and its reply, a read its point and its reply
@@ -54,7 +54,7 @@ Replies c h mode op (ReadBack answer) next =
     (mode ≡ Read) × (answer.point ≡ length h) × (read_reply_at store_meaning c h (length h) op ≡ Some answer.reply) × (next ≡ h)
 
 -- so are these calls, one after the other
-abbrev pub AllReply : CatalogueView → History → List Told → History → Type 0
+abbrev pub AllReply : CatalogueView → History → List TranscriptCall → History → Type 0
 AllReply c h [] last = last ≡ h
 AllReply c h (a ∷ rest) last = (next : History) × Replies c h a.mode a.op a.answer next × AllReply c next rest last
 
@@ -93,10 +93,10 @@ module _ (c : CatalogueView) (at : Replayed) where
       (refl, eqb-true _ _ parts.0, reply_told reply (read_reply_at store_meaning c at.history (length at.history) op) parts.1, ap (λ (r : Replayed). r.history) (sym agrees.1))
 
   -- what a line tells that agrees, if it is a call, and where that stands
-  abbrev Tells : Option Told → Option Standing → Replayed → Type 0
+  abbrev Tells : Option TranscriptCall → Option Standing → Replayed → Type 0
   Tells a s next =
       ((a ≡ None) × (s ≡ None) × (next.history ≡ at.history))
-      ⊎ ((t : Told) × (a ≡ Some t) × (s ≡ Some (standing_told t.answer)) × Replies c at.history t.mode t.op t.answer next.history)
+      ⊎ ((t : TranscriptCall) × (a ≡ Some t) × (s ≡ Some (standing_told t.answer)) × Replies c at.history t.mode t.op t.answer next.history)
 
   ended_tells : (o : Option Operation) (next : Replayed) → option_map_or (λ op. Agrees (record at { ended = next_count at.ended })) o Bad ≡ Agrees next
       → Tells (option_map (call_told Update (Updated replies.Ended)) o) (Some stands.Ended) next
@@ -158,14 +158,14 @@ module _ (c : CatalogueView) (at : Replayed) (l : List ℕ) (ls : List (List ℕ
     last = rest.last;
     reply = subst (λ o. AllReply c at.history (cons_option o (calls_told c ls)) rest.last) (sym skip.0) (subst (λ h. AllReply c h (calls_told c ls) rest.last) skip.2 rest.reply);
     updates = rest.updates;
-    standings = ap (λ o. cons_option o (standings_of ls)) skip.1 ∙ rest.standings ∙ ap (λ o. map (λ (a : Told). standing_told a.answer) (cons_option o (calls_told c ls))) (sym skip.0);
+    standings = ap (λ o. cons_option o (standings_of ls)) skip.1 ∙ rest.standings ∙ ap (λ o. map (λ (a : TranscriptCall). standing_told a.answer) (cons_option o (calls_told c ls))) (sym skip.0);
   }
   one_more (inr (t, is, stood, replies_so)) = record {
     last = rest.last;
     reply = subst (λ o. AllReply c at.history (cons_option o (calls_told c ls)) rest.last) (sym is) (next.history, replies_so, rest.reply);
     updates = rest.updates;
     standings = ap (λ o. cons_option o (standings_of ls)) stood ∙ ap (λ s. standing_told t.answer ∷ s) rest.standings
-        ∙ ap (λ o. map (λ (a : Told). standing_told a.answer) (cons_option o (calls_told c ls))) (sym is);
+        ∙ ap (λ o. map (λ (a : TranscriptCall). standing_told a.answer) (cons_option o (calls_told c ls))) (sym is);
   }
 
 module _ (c : CatalogueView) (is_whole : IsCatalogue c) (n : ℕ) (at : Replayed) (updates : AreUpdates c at.history) (l : List ℕ) (ls : List (List ℕ))

@@ -9,7 +9,7 @@ use Rattle.schedule.specs.Trace.{Updated, Event, Call, Back, Trace}
 use Rattle.schedule.proofs.Export.{get_in, get_some}
 use Rattle.realtime.specs.declared.histories.Timed.{Timed}
 use Rattle.realtime.specs.Laws.{ShareNone, AreCalls}
-use Rattle.realtime.specs.Linearizable.{Told, IsTraceOf}
+use Rattle.realtime.specs.Linearizable.{TranscriptCall, IsTraceOf}
 use Rattle.realtime.proofs.OneList.{Made, made, Has, made_at, at_made}
 use Rattle.realtime.proofs.Reading.{uses}
 
@@ -78,7 +78,7 @@ pub record Traced (zs : List Made) (t : Trace) : Type 0 where
   pub back : (z : Made) → Has zs z → slice_get t z.call.ended ≡ Some (back_event z)
   pub only : (x : ℕ) (e : Event) → slice_get t x ≡ Some e → (z : Made) × Has zs z × (((x ≡ z.call.begun) × (e ≡ call_event z)) ⊎ ((x ≡ z.call.ended) × (e ≡ back_event z)))
 
-module _ (ranks : List ℕ) (told : List Told) (calls : List Timed) (are : AreCalls ranks calls) (even : length told ≡ length calls) (long : length ranks ≡ length calls) where
+module _ (ranks : List ℕ) (told : List TranscriptCall) (calls : List Timed) (are : AreCalls ranks calls) (even : length told ≡ length calls) (long : length ranks ≡ length calls) where
   abbrev pub zs : List Made
   zs = made told calls
 

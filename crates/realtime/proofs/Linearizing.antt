@@ -33,7 +33,7 @@ use Rattle.realtime.specs.RealTime.{AreInTurn, InRealTime}
 use Rattle.realtime.specs.Ranks.{is_update, rank_of, ranks_of}
 use Rattle.realtime.specs.TimedAnswer.{history_answer, timed_answer, where_good}
 use Rattle.realtime.specs.Laws.{AreCalls}
-use Rattle.realtime.specs.Linearizable.{Told, calls_told, if_placed, operations_of, IsLimitOf, IsLinearizable, AreLinearizable}
+use Rattle.realtime.specs.Linearizable.{TranscriptCall, calls_told, if_placed, operations_of, IsLimitOf, IsLinearizable, AreLinearizable}
 use Rattle.realtime.proofs.Counting.{lines_are_calls}
 use Rattle.realtime.proofs.InOtherWords.{good_is_real}
 use Rattle.realtime.proofs.Agreeing.{standing_told, Good, good_lines}
@@ -88,7 +88,7 @@ is_opened c state transcript is e = by_empty (eqb (length state) 0) refl
 
 -- ---- counting
 
-filtered : (told : List Told) → length (filter is_update (map (λ a. standing_told a.answer) told)) ≡ length (operations_of told)
+filtered : (told : List TranscriptCall) → length (filter is_update (map (λ a. standing_told a.answer) told)) ≡ length (operations_of told)
 filtered [] = refl
 filtered (a ∷ rest) = by a.answer (filtered rest)
   where
@@ -98,7 +98,7 @@ filtered (a ∷ rest) = by a.answer (filtered rest)
     by (Updated replies.Ended) e = e
     by (ReadBack answer) e = e
 
-updates_told : (told : List Told) → count_by is_update (map (λ a. standing_told a.answer) told) ≡ length (operations_of told)
+updates_told : (told : List TranscriptCall) → count_by is_update (map (λ a. standing_told a.answer) told) ≡ length (operations_of told)
 updates_told told = sym (length-filter is_update (map (λ a. standing_told a.answer) told)) ∙ filtered told
 
 -- the same operations are updates
@@ -115,7 +115,7 @@ same_updates c g h same are k r at =
 
 module _ (c : CatalogueView) (transcript history : List (List ℕ)) (good : Good c [] transcript) (calls : List Timed) (read : calls_of (ranks_of transcript) history ≡ Ok calls)
     (turns : AreInTurn calls) (real : InRealTime calls) where
-  abbrev told : List Told
+  abbrev told : List TranscriptCall
   told = calls_told c transcript
 
   are : AreCalls (ranks_of transcript) calls
@@ -125,14 +125,14 @@ module _ (c : CatalogueView) (transcript history : List (List ℕ)) (good : Good
   zs = made told calls
 
   -- the ranks by what is told
-  abbrev told_rank : Told → ℕ
+  abbrev told_rank : TranscriptCall → ℕ
   told_rank a = rank_of (length (operations_of told)) (standing_told a.answer)
 
   ranks_told : map (λ (call : Timed). call.rank) calls ≡ map told_rank told
   ranks_told = are.ranked ∙ ap (λ s. map (rank_of (count_by is_update s)) s) good.standings
-      ∙ ap (λ n. map (rank_of n) (map (λ (a : Told). standing_told a.answer) told)) (updates_told told) ∙ of_all told
+      ∙ ap (λ n. map (rank_of n) (map (λ (a : TranscriptCall). standing_told a.answer) told)) (updates_told told) ∙ of_all told
     where
-      of_all : (rest : List Told) → map (rank_of (length (operations_of told))) (map (λ (a : Told). standing_told a.answer) rest) ≡ map told_rank rest
+      of_all : (rest : List TranscriptCall) → map (rank_of (length (operations_of told))) (map (λ (a : TranscriptCall). standing_told a.answer) rest) ≡ map told_rank rest
       of_all [] = refl
       of_all (a ∷ rest) = ap (λ xs. told_rank a ∷ xs) (of_all rest)
 

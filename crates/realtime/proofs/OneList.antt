@@ -17,7 +17,7 @@ use Rattle.schedule.specs.Trace.{Answer, Updated, ReadBack, Positions}
 use Rattle.schedule.specs.Explains.{count_of}
 use Rattle.schedule.proofs.Export.{get_more, get_new, get_snoc, get_in, take_all_front}
 use Rattle.realtime.specs.declared.histories.Timed.{Timed}
-use Rattle.realtime.specs.Linearizable.{Told, if_placed, operations_of}
+use Rattle.realtime.specs.Linearizable.{TranscriptCall, if_placed, operations_of}
 use Rattle.realtime.proofs.Agreeing.{Replies, AllReply}
 
 -- ---- histories of the same operations
@@ -61,10 +61,10 @@ module _ (c : CatalogueView) (g h : History) (same : map op_of g ≡ map op_of h
 -- ---- calls with what is told of them
 
 pub record Made : Type 0 where
-  pub told : Told
+  pub told : TranscriptCall
   pub call : Timed
 
-abbrev pub made : List Told → List Timed → List Made
+abbrev pub made : List TranscriptCall → List Timed → List Made
 made [] ts = []
 made (a ∷ told) [] = []
 made (a ∷ told) (t ∷ ts) = record { told = a; call = t } ∷ made told ts
@@ -73,14 +73,14 @@ made (a ∷ told) (t ∷ ts) = record { told = a; call = t } ∷ made told ts
 abbrev pub Has : List Made → Made → Type 0
 Has zs z = (k : ℕ) × (slice_get zs k ≡ Some z)
 
-pub made_at : (told : List Told) (ts : List Timed) (k : ℕ) (a : Told) (t : Timed) → slice_get told k ≡ Some a → slice_get ts k ≡ Some t
+pub made_at : (told : List TranscriptCall) (ts : List Timed) (k : ℕ) (a : TranscriptCall) (t : Timed) → slice_get told k ≡ Some a → slice_get ts k ≡ Some t
     → slice_get (made told ts) k ≡ Some (record { told = a; call = t })
 made_at [] ts k a t f g = absurd (none-some a f)
 made_at (b ∷ told) [] k a t f g = absurd (none-some t g)
 made_at (b ∷ told) (u ∷ ts) zero a t f g = ap (λ x. Some (record { told = x; call = u })) (same_Some b a f) ∙ ap (λ x. Some (record { told = a; call = x })) (same_Some u t g)
 made_at (b ∷ told) (u ∷ ts) (suc k) a t f g = made_at told ts k a t f g
 
-pub at_made : (told : List Told) (ts : List Timed) (k : ℕ) (z : Made) → slice_get (made told ts) k ≡ Some z → (slice_get told k ≡ Some z.told) × (slice_get ts k ≡ Some z.call)
+pub at_made : (told : List TranscriptCall) (ts : List Timed) (k : ℕ) (z : Made) → slice_get (made told ts) k ≡ Some z → (slice_get told k ≡ Some z.told) × (slice_get ts k ≡ Some z.call)
 at_made [] ts k z e = absurd (none-some z e)
 at_made (b ∷ told) [] k z e = absurd (none-some z e)
 at_made (b ∷ told) (u ∷ ts) zero z e = let same = same_Some (record { told = b; call = u }) z e in (ap (λ (x : Made). Some x.told) same, ap (λ (x : Made). Some x.call) same)
@@ -255,7 +255,7 @@ module _ (c : CatalogueView) (g h : History) (ps : Positions) (zs : List Made) (
 
 -- ---- all calls
 
-pub all_calls : (c : CatalogueView) (told : List Told) (ts : List Timed) (g h : History) (ps : Positions) (zs : List Made) (last : History) → length told ≡ length ts
+pub all_calls : (c : CatalogueView) (told : List TranscriptCall) (ts : List Timed) (g h : History) (ps : Positions) (zs : List Made) (last : History) → length told ≡ length ts
     → Places c h ps zs → map op_of g ≡ map op_of h → AllReply c g told last → Fitting c (zs ++ made told ts) (map op_of h ++ operations_of told) last
 all_calls c [] [] g h ps zs last even x same r = record {
   list = h;

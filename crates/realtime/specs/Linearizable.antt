@@ -23,13 +23,13 @@ use Rattle.realtime.specs.Ranks.{ranks_of}
 -- ---- what a transcript tells
 
 -- what is told of a call: an update or a read, its operation, and what it was answered
-pub record Told : Type 0 where
+pub record TranscriptCall : Type 0 where
   pub mode : Mode
   pub op : Operation
   pub answer : Answer
 
 -- a comment is no call; an update is answered its index and its reply, a read its point and its reply
-abbrev pub told_by : CatalogueView → TranscriptMeaning → Option Told
+abbrev pub told_by : CatalogueView → TranscriptMeaning → Option TranscriptCall
 told_by c Comment = None
 told_by c (Answered Update call a) = option_map (λ op. record { mode = Update; op = op; answer = Updated (replies.Placed a.index a.reply) }) (operation_of c Update call)
 told_by c (Answered Read call a) = option_map (λ op. record { mode = Read; op = op; answer = ReadBack (record { point = a.index; reply = a.reply }) }) (operation_of c Read call)
@@ -38,7 +38,7 @@ told_by c (Ended call) = option_map (λ op. record { mode = Update; op = op; ans
 told_by c (EndedInstall new) = option_map (λ op. record { mode = Update; op = op; answer = Updated replies.Ended }) (install_of c new)
 
 -- what the lines tell that are calls, in their order
-abbrev pub calls_told : CatalogueView → List (List ℕ) → List Told
+abbrev pub calls_told : CatalogueView → List (List ℕ) → List TranscriptCall
 calls_told c lines = filter_map (λ line. option_and_then (told_by c) (transcript_line_meaning line)) lines
 
 -- the operation, where the answer has an index
@@ -48,22 +48,22 @@ if_placed op (Updated replies.Ended) = None
 if_placed op (ReadBack answer) = None
 
 -- the operations that were given an index, in the order of their lines
-abbrev pub operations_of : List Told → List Operation
+abbrev pub operations_of : List TranscriptCall → List Operation
 operations_of told = filter_map (λ a. if_placed a.op a.answer) told
 
 -- where a call was told that the history has ended, the limit is how many these are
-abbrev pub IsLimitOf : List Told → ℕ → Type 0
-IsLimitOf told limit = (k : ℕ) (a : Told) → slice_get told k ≡ Some a → a.answer ≡ Updated replies.Ended → limit ≡ length (operations_of told)
+abbrev pub IsLimitOf : List TranscriptCall → ℕ → Type 0
+IsLimitOf told limit = (k : ℕ) (a : TranscriptCall) → slice_get told k ≡ Some a → a.answer ≡ Updated replies.Ended → limit ≡ length (operations_of told)
 
 -- ---- what a history shows
 
 -- two events for each call, and no others: its session calls it at the number where it began, and is answered at that where it was back
-pub record IsTraceOf (told : List Told) (calls : List Timed) (t : Trace) : Type 0 where
+pub record IsTraceOf (told : List TranscriptCall) (calls : List Timed) (t : Trace) : Type 0 where
   pub each : length told ≡ length calls
   pub events : length t ≡ 2 * length calls
-  pub called : (k : ℕ) (a : Told) (call : Timed) → slice_get told k ≡ Some a → slice_get calls k ≡ Some call
+  pub called : (k : ℕ) (a : TranscriptCall) (call : Timed) → slice_get told k ≡ Some a → slice_get calls k ≡ Some call
       → slice_get t call.begun ≡ Some (Call call.session a.mode a.op)
-  pub back : (k : ℕ) (a : Told) (call : Timed) → slice_get told k ≡ Some a → slice_get calls k ≡ Some call
+  pub back : (k : ℕ) (a : TranscriptCall) (call : Timed) → slice_get told k ≡ Some a → slice_get calls k ≡ Some call
       → slice_get t call.ended ≡ Some (Back call.session a.answer)
 
 -- the lines of the history are the calls of such a trace, and one list of operations, the transcript's own in its order, explains it

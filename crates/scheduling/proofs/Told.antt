@@ -216,7 +216,7 @@ turn_is m w (Reclaim n) = refl
 turn_is m w (Rebase n) = refl
 
 -- from a store for which some history stands
-record Told (m : Opening) (n : ℕ) (t : Trace) (ls : List (List ℕ)) (a : Answer) : Type 0 where
+record AnswerTold (m : Opening) (n : ℕ) (t : Trace) (ls : List (List ℕ)) (a : Answer) : Type 0 where
   whole : Trace
   world : WorldView
   history : History
@@ -224,7 +224,7 @@ record Told (m : Opening) (n : ℕ) (t : Trace) (ls : List (List ℕ)) (a : Answ
   tells : Tells m n t ls a whole world
   stands : Stands m world history positions whole
 
-lines_told : (m : Opening) (n : ℕ) (w : WorldView) (h : History) (positions : Positions) (t : Trace) (ls : List (List ℕ)) → Stands m w h positions t → Told m n t ls (steps_answer m n w ls)
+lines_told : (m : Opening) (n : ℕ) (w : WorldView) (h : History) (positions : Positions) (t : Trace) (ls : List (List ℕ)) → Stands m w h positions t → AnswerTold m n t ls (steps_answer m n w ls)
 unfolding steps_answer step_line_turn
 lines_told m n w h positions t [] x = record { whole = t; world = w; history = h; positions = positions; tells = (refl, refl); stands = x }
 lines_told m n w h positions t (l ∷ ls) x = by (λ v g ps u y. lines_told m (next_line n) v g ps u ls y) (step_line_meaning (length m.catalogue.programs) l) refl
@@ -232,8 +232,8 @@ lines_told m n w h positions t (l ∷ ls) x = by (λ v g ps u y. lines_told m (n
     next : StepTurn → Answer
     next turn = steps_answer m (next_line n) turn.world ls
 
-    by : ((v : WorldView) (g : History) (ps : Positions) (u : Trace) → Stands m v g ps u → Told m (next_line n) u ls (steps_answer m (next_line n) v ls)) → (o : Option StepMeaning) → step_line_meaning (length m.catalogue.programs) l ≡ o
-        → Told m n t (l ∷ ls) (option_map_or (λ turn. behind turn.text (next turn)) (option_map (step_turn m w) o) (bad_line n))
+    by : ((v : WorldView) (g : History) (ps : Positions) (u : Trace) → Stands m v g ps u → AnswerTold m (next_line n) u ls (steps_answer m (next_line n) v ls)) → (o : Option StepMeaning) → step_line_meaning (length m.catalogue.programs) l ≡ o
+        → AnswerTold m n t (l ∷ ls) (option_map_or (λ turn. behind turn.text (next turn)) (option_map (step_turn m w) o) (bad_line n))
     by more None e = record { whole = t; world = w; history = h; positions = positions; tells = inl (e, refl, refl); stands = x }
     by more (Some line) e =
         let on = goes_on m w h positions t line x in

@@ -15,4 +15,5 @@ pub mod MayInstall
 pub mod Confines
 pub mod Neighbours
 pub mod AskedEach
+pub mod PolledEach
 pub mod Export

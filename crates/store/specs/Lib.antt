@@ -19,3 +19,5 @@ pub mod Explained
 pub mod CallsTold
 -- Several sessions of one node that ask for their updates at once.
 pub mod Pipelines
+-- Several sessions of one node whose calls answer at once.
+pub mod PolledPipelines

@@ -98,11 +98,11 @@ pub struct NotJoined {
 /// ```
 pub struct Pipeline {
     // The seat and the slot of each session, and its room for a program.
-    members: Vec<Member>,
-    rooms: Vec<Installed>,
+    pub(crate) members: Vec<Member>,
+    pub(crate) rooms: Vec<Installed>,
     // The list that they came in, which is empty. They leave in it.
-    emptied: Vec<Session>,
-    asking: Asking,
+    pub(crate) emptied: Vec<Session>,
+    pub(crate) asking: Asking,
 }
 
 impl Model for Pipeline {
@@ -123,8 +123,8 @@ impl Model for Pipeline {
 
 // Room for what the sessions of a pipeline do together.
 #[derive(Drop)]
-struct Asking {
-    room: EachRoom,
+pub(crate) struct Asking {
+    pub(crate) room: EachRoom,
 }
 
 impl Asking {
@@ -203,7 +203,7 @@ fn joined(
 }
 
 // What the calls say of what became of their updates.
-fn say_each(replies: &[Reply], answers: &mut [Result<Answer, StoreRefused>])
+pub(crate) fn say_each(replies: &[Reply], answers: &mut [Result<Answer, StoreRefused>])
     requires room { length answers.old ≡ length replies.now }
     ensures said { answers.new ≡ map said replies.now }
 {

@@ -39,10 +39,8 @@ impl Polled {
             at_once,
             ..
         } = self;
-        let here = Here {
-            shared,
-            caller: *caller,
-        };
+        let caller = *caller;
+        let here = Here { shared, caller };
         let Some(()) = try_begin(here, seat, op, batch, stage) else {
             return None;
         };

@@ -1,5 +1,5 @@
 -- The own steps of a session that waits for the answer to its update.
-use Rattle.std.proofs.Common.{◌≡◌, ◌+◌, ◌*◌, ℕ, Bool, true, false, List, [], ◌∷◌, ◌++◌, length, map, set, Option, Some, None, append_assoc, refl, sym, ap, ◌∙◌, subst, ◌⊎◌, inl, inr, arith}
+use Rattle.std.proofs.Common.{◌≡◌, ◌+◌, ◌*◌, ℕ, List, [], ◌∷◌, ◌++◌, length, map, set, Option, Some, None, append_assoc, refl, sym, ap, ◌∙◌, subst, ◌⊎◌, inl, inr, arith}
 use Rattle.std.specs.Global.{Box}
 use Rattle.std.specs.List.{AllByRecursion}
 use Rattle.ownlock.specs.declared.known.ShelfStep.{ShelfStep}
@@ -23,7 +23,7 @@ use Rattle.store_steps.specs.Doing.{ADesk, ALog, AReplica, Did, Part, and_then, 
 use Rattle.store_steps.specs.Pipelines.{Stays, Visit, Visits}
 use Rattle.store_steps.specs.Standing.{SessionKnown}
 use Rattle.store_steps.specs.Updating.{Answers, Begins, ClaimsIt, Combines, DeedBy, Deeds, Gives, Looks, PostsBy, Rests, Rounds, Then, Tries, TurnsBy, UpdatesBy, Waits}
-use Rattle.store_steps.specs.Whole.{CombinesBy, answer_deeds, append_deeds, room_deeds}
+use Rattle.store_steps.specs.Whole.{CombinesBy, HadRoom, MovedBase, RoomMade, answer_deeds, append_deeds, room_deeds}
 use Rattle.store_steps.specs.declared.desks.Turn.TheVariants.{Collects}
 use Rattle.store_steps.specs.declared.values.Value.{Value}
 use Rattle.store_steps.specs.declared.values.Value.TheVariants.{Desk, Log, Replica}
@@ -211,27 +211,28 @@ and_desk k m after p q x y since keeps d =
 
 -- ---- rounds
 
-room_deskless : (full : Bool) (h : LogView) → AllByRecursion DesklessPart (room_deeds full h)
-room_deskless true h = (other_part (Raised h.base) (λ z. z), tt)
-room_deskless false h = tt
+module _ {want : ℕ} {g : LogView} {n : NodeReplica} where
+  room_deskless : (room : RoomMade want g n) (h : LogView) → AllByRecursion DesklessPart (room_deeds room h)
+  room_deskless (HadRoom enough) h = tt
+  room_deskless (MovedBase due up) h = (other_part (Raised h.base) (λ z. z), tt)
 
-append_deskless : (full : Bool) (g h : LogView) → AllByRecursion DesklessPart (append_deeds full g h)
-append_deskless full g h = (other_part (Took log_place (ALog g)) (λ z. z), all_joined DesklessPart (room_deeds full h) (Put log_place (ALog h) ∷ []) (room_deskless full h) (other_part (Put log_place (ALog h)) (λ z. z), tt))
+  append_deskless : (room : RoomMade want g n) (h : LogView) → AllByRecursion DesklessPart (append_deeds room h)
+  append_deskless room h = (other_part (Took log_place (ALog g)) (λ z. z), all_joined DesklessPart (room_deeds room h) (Put log_place (ALog h) ∷ []) (room_deskless room h) (other_part (Put log_place (ALog h)) (λ z. z), tt))
 
-answer_deskless : (place : ℕ) (full : Bool) (g h : LogView) (n m : NodeReplica) → AllByRecursion DesklessPart (answer_deeds place full g h n m)
-answer_deskless place full g h n m =
-    (other_part (Took place (AReplica n)) (λ z. z), all_joined DesklessPart (append_deeds full g h) (Raised m.replica.tail ∷ Put place (AReplica m) ∷ []) (append_deskless full g h) (other_part (Raised m.replica.tail) (λ z. z), (other_part (Put place (AReplica m)) (λ z. z), tt)))
+  answer_deskless : (place : ℕ) (room : RoomMade want g n) (h : LogView) (m : NodeReplica) → AllByRecursion DesklessPart (answer_deeds place room h m)
+  answer_deskless place room h m =
+      (other_part (Took place (AReplica n)) (λ z. z), all_joined DesklessPart (append_deeds room h) (Raised m.replica.tail ∷ Put place (AReplica m) ∷ []) (append_deskless room h) (other_part (Raised m.replica.tail) (λ z. z), (other_part (Put place (AReplica m)) (λ z. z), tt)))
 
 -- a combine, after what was done before
 and_combine : (k m after : SessionKnown) (b answered : BatchView) → Since k m → CombinesBy m after b answered → Since k after
 and_combine k m after b answered since c =
     let place = replica_place m.progress.config c.desk.node in
-    let deeds : List (ShelfStep Part) = c.tries ++ answer_deeds place c.full c.log c.put c.own c.left in
+    let deeds : List (ShelfStep Part) = c.tries ++ answer_deeds place c.room c.put c.left in
     let at = desk_place m.progress.config c.desk.node in
     let new = replied (answered_batch c.kept b) c.desk in
     let pair : List (ShelfStep Part) = Took at (ADesk c.desk) ∷ Put at (ADesk new) ∷ [] in
-    let s : SplitIn deeds pair c.did.since = split_in deeds pair c.did.since (c.did.are ∙ sym (append_assoc c.tries (answer_deeds place c.full c.log c.put c.own c.left) pair)) in
-    let all : AllByRecursion Deskless s.first = from_parts s.first (subst (AllByRecursion DesklessPart) (sym s.first_is) (all_joined DesklessPart c.tries (answer_deeds place c.full c.log c.put c.own c.left) (nothing_deskless c.nothing) (answer_deskless place c.full c.log c.put c.own c.left))) in
+    let s : SplitIn deeds pair c.did.since = split_in deeds pair c.did.since (c.did.are ∙ sym (append_assoc c.tries (answer_deeds place c.room c.put c.left) pair)) in
+    let all : AllByRecursion Deskless s.first = from_parts s.first (subst (AllByRecursion DesklessPart) (sym s.first_is) (all_joined DesklessPart c.tries (answer_deeds place c.room c.put c.left) (nothing_deskless c.nothing) (answer_deskless place c.room c.put c.left))) in
     let quiet : Quiet (and_then [] s.first ++ since.steps) = quiet_deskless (and_then [] s.first) since.steps (all_taken Deskless [] s.first tt all) since.quiet in
     let t : TakesDesk at at c.desk new s.rest = takes_desk s.rest at at c.desk new s.rest_is in
     let before : and_then m.steps s.first ≡ (and_then [] s.first ++ since.steps) ++ k.steps = taken_behind m.steps s.first ∙ (ap (λ z. and_then [] s.first ++ z) since.is ∙ sym (append_assoc (and_then [] s.first) since.steps k.steps)) in
@@ -269,8 +270,8 @@ and_deed k m after since (Tries steps nothing did) = and_deskless k m after step
 and_deed k m after since (Looks batch turn) = and_desk k m after _ _ turn.desk turn.back since (same_empty turn.desk turn.back turn.is.2) turn.at.did
 and_deed k m after since (ClaimsIt batch turn) = and_desk k m after _ _ turn.desk turn.back since (claims_empty turn.desk turn.back turn.is.3) turn.at.did
 and_deed k m after since (Answers node batch kept noted a) =
-    let deeds = answer_deeds (replica_place m.progress.config node) a.full a.log a.put a.own a.left in
-    let all = answer_deskless (replica_place m.progress.config node) a.full a.log a.put a.own a.left in
+    let deeds = answer_deeds (replica_place m.progress.config node) a.room a.put a.left in
+    let all = answer_deskless (replica_place m.progress.config node) a.room a.put a.left in
     and_deskless k m after (a.tries ++ deeds) since (all_joined DesklessPart a.tries deeds (nothing_deskless a.nothing) all) a.did
 and_deed k m after since (Gives node batch kept h) =
     and_desk k m after _ _ h.desk (replied (answered_batch kept batch) h.desk) since (replies_empty (answered_batch kept batch) h.desk) h.did

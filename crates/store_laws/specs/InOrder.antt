@@ -57,7 +57,7 @@ pub record WholeCombine (m : Opening) : Type 0 where
 -- the steps of a whole combine
 abbrev pub CombinesInOrder : (m : Opening) → ℕ → List (Option BegunRead) → WholeCombine m → Type 0
 CombinesInOrder m n reads w = let c = w.by in
-    SeenInOrder m n reads (sees c.from c.log c.own (Held w.batch) c.desk) (combine_steps c.course)
+    SeenInOrder m n reads (sees c.from c.log c.own (Held w.batch) c.desk) (combine_steps c.room c.up)
     (sees w.after.progress c.back c.left Absent (replied (answered_batch c.kept w.batch) c.desk))
 
 -- the read of the slot s is answered so on that log and node
@@ -84,7 +84,7 @@ look_to w d = let c = w.by in sees w.after.progress c.back c.left Absent d
 -- the steps of a whole look, and then the schedule's own answer to each read that was begun at the slot s, with the completed tail as
 -- the call loaded it: the reply of there
 pub record ReadsInOrder (m : Opening) (n s : ℕ) (reads : List (Option BegunRead)) (w : WholeLook m) (d : DeskView) : Type 0 where
-  pub steps : SeenInOrder m n reads (look_from w d) (read_steps w.by.low w.by.next w.by.later) (look_to w d)
+  pub steps : SeenInOrder m n reads (look_from w d) (read_steps w.by.log w.by.own w.by.up) (look_to w d)
   pub answered : (call : Call) (reply : ℕ) → RepliesThere w.k.progress.catalogue (Run call) w.by.left reply
       → (let t = look_to w d in
       read_at (node_of t reads) s ≡ Some (record { call = call; seen = w.by.seen }) → IsAnsweredThere m n s t.log (node_of t reads) (record { point = w.point; reply = reply }))

@@ -64,6 +64,7 @@ looked_then k m after a b = record {
   held = b.held ∙ a.held;
   note = b.note ∙ a.note;
   extends = store_laws.extends_on k.progress m.progress after.progress a.extends b.extends;
+  well_formed = λ w. b.well_formed (a.well_formed w);
   visits = visits_then k m after a.visits b.visits;
 }
 

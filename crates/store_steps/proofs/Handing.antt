@@ -46,6 +46,7 @@ use Rattle.store_steps.proofs.AtDesk.{is_batch}
 use Rattle.store_steps.proofs.Combined.{handed, puts_replied, ready_on}
 use Rattle.store_steps.proofs.Resumed.{asked_by, free_by, shelf_then}
 use Rattle.store_steps.proofs.Stretches.{hands_over}
+use Rattle.store_steps.proofs.Taken.{well_formed}
 use Rattle.store_steps.proofs.Visiting.{desk_node, did_at_desk, posts_by, turns_by}
 use Rattle.store_steps.proofs.TakenDesk.{BackDesk, back_same_desk, DeskMayBePut, PutsDesk, desk_back, is_at, may_take_its_desk, took_desk}
 use Rattle.store_steps.proofs.Turning.{deed_in, has_posted, puts_posted, turns_there}
@@ -201,7 +202,7 @@ spot_of_desk here k on = ap (λ n. 1 + n + here.caller.node) (sym on.nodes_are)
 
 -- the session has done nothing
 pub not_looked : (k : K) → HasLooked k k
-not_looked k = record { session = refl; held = refl; note = refl; extends = store_laws.extends_self k.progress; visits = Stays k }
+not_looked k = record { session = refl; held = refl; note = refl; extends = store_laws.extends_self k.progress; well_formed = λ w. w; visits = Stays k }
 
 -- the session t, which was k, has put its desk back as it was, and is f
 pub looked_back : (caller : Caller) (k t : K) (p : ℕ) (v : Value) (b : TookDesk caller k t p v) → IsFree caller k → p ≡ desk_place k.progress.config caller.node → (x : DeskView) → desk_of v ≡ Some x → (f : K) → BackDesk k f k.note → (q : ℕ) → q ≡ p → HasStepped t (Put q v) f → HasLooked k f
@@ -210,6 +211,7 @@ looked_back caller k t p v b free place x is f back q at put = record {
   held = back.held ∙ sym free.held;
   note = back.note;
   extends = back.extends;
+  well_formed = λ _. well_formed f.progress back.stands.notes back.stands.accounts;
   visits = Visit k k f caller.slot x (Stays k) (record {
     own = free.own ∙ ap (λ z. session k.progress.config z caller.slot) (sym (desk_node caller k t p v b x is));
     within = free.within;

@@ -38,5 +38,6 @@ pub mod AskingEach
 pub mod BetweenHolds
 pub mod Gone
 pub mod Begun
+pub mod PollingEach
 pub mod Measured
 pub mod Export

@@ -60,8 +60,8 @@ module _ (k : SessionKnown) (g : LogView) (m : NodeReplica) (c : CatalogueView) 
     pub none_room : (want : ℕ) → min want (left_of g) ≤ room_in g → HasPlace k k want g g (caught_up c 0 p)
     none_room want room = subst (HasPlace k k want g g) (sym same_node) (roomy k want g n i.well i.log kept.0 kept.1 room)
 
-    pub none_goes : (want : ℕ) → MakesRoom want k k g g m (caught_up c 0 p)
-    none_goes want = subst (MakesRoom want k k g g m) (sym same_node) (makes_none k g m n i.log i.follows behind stays want)
+    pub none_goes : (want : ℕ) → min want (left_of g) ≤ room_in g → MakesRoom want k k g g m (caught_up c 0 p)
+    none_goes want room = subst (MakesRoom want k k g g m) (sym same_node) (makes_none k g m n i.log i.follows behind stays want room)
 
   -- ---- the base is due: the replica comes up, where it must, and is v
 

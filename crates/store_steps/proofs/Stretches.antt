@@ -1,8 +1,8 @@
 -- A session's inner calls as lists of its node's steps, with what others do between them.
 use Rattle.std.proofs.Common.{Bool, true, false, not, ◌&&◌, ◌≡◌, ℕ, ◌+◌, ◌<◌, ◌≤◌, Some, List, [], ◌∷◌, ◌++◌, length, refl, sym, ap, ◌∙◌, subst, arith}
-use Rattle.std.specs.Prelude.{nat_le, nat_lt}
+use Rattle.std.specs.Prelude.{cond, min, nat_le, nat_lt}
 use Rattle.std.proofs.Math.Nat.{le-max_left}
-use Rattle.std.proofs.lemmas.Bool.{le-leb}
+use Rattle.std.proofs.lemmas.Bool.{le-leb, le-ltb}
 use Rattle.std.proofs.lemmas.List.{append-nil, append_assoc}
 use Rattle.loader.specs.CatalogueView.{CatalogueView}
 use Rattle.ownlock.specs.declared.known.ShelfStep.TheVariants.{Put, Raised, Read, Took}
@@ -10,7 +10,7 @@ use Rattle.ownlock.specs.Rules.{leader}
 use Rattle.ownlock.specs.Seats.{tails_in, HasStepped}
 use Rattle.accounts.specs.Agreement.{desk_place}
 use Rattle.oplog.specs.History.{History}
-use Rattle.oplog.specs.Logs.{Log as LogView, HandView}
+use Rattle.oplog.specs.Logs.{Log as LogView, HandView, left_of, room_in}
 use Rattle.oplog.specs.declared.configuration.Sizes.{Sizes}
 use Rattle.oplog.specs.Sessions.{IsSessionOf}
 use Rattle.combiner.specs.Desks.{BatchView, DeskView, IsBatchOf, replied}
@@ -22,14 +22,14 @@ use Rattle.accounts.specs.Accounts.{Extends, IsWellFormed}
 use Rattle.node.specs.Answering.{answered_batch}
 use Rattle.node.specs.Following.{copied, grown, has_next, may_append, may_rebase, no_records, rebased, reclaimed, replayed, replies_after, replies_for, told}
 use Rattle.node.specs.Seen.{Goes, Ends, Meets, OthersDo}
-use Rattle.node.specs.Steps.{NodeStep, Finishes, Replays, Replies, Seen}
+use Rattle.node.specs.Steps.{NodeStep, Finishes, Rebases, Replays, Replies, Seen}
 use Rattle.node.proofs.Export.{goes_on}
 use Rattle.node.specs.declared.following.NodeReplica.{NodeReplica}
 use Rattle.node.specs.declared.parts.NodeBatch.{NodeBatch}
 use Rattle.node.specs.declared.parts.NodeBatch.TheVariants.{Absent, Held, InLog}
 use Rattle.store_steps.specs.Standing.{SessionKnown, Agrees, Follows, HasRaised, HoldsLog, HoldsReplica, IsLogOf, Stands}
 use Rattle.store_steps.specs.Rooms.{IsBaseDue}
-use Rattle.store_steps.specs.Whole.{AnswersBy, AppendsBy, CombinesBy, FollowsBy, HandsOver, LooksBy, MakesRoom, ReplaysBy, answer_deeds, append_deeds, append_steps, follow_deeds, if_any, look_deeds, read_steps, replay_steps, room_deeds, sees}
+use Rattle.store_steps.specs.Whole.{AnswersBy, AppendsBy, CombinesBy, FollowsBy, Stayed, HadRoom, HandsOver, LooksBy, MakesRoom, MovedBase, ReplaysBy, RoomMade, answer_deeds, append_deeds, append_steps, catch_up_steps, follow_deeds, look_deeds, read_steps, room_deeds, sees}
 use Rattle.store_steps.specs.Doing.{ADesk, ALog, AReplica, Did, Nothing, takes_and_puts}
 use Rattle.store_steps.specs.Lending.{log_of, replica_of, with_log, with_replica}
 use Rattle.store_steps.specs.declared.values.Value.{Value}
@@ -37,7 +37,7 @@ use Rattle.store_steps.proofs.Doing.{did_both, did_none, did_one, did_then, log_
 use Rattle.store_steps.proofs.StoreLaws.{store_laws}
 use Rattle.store_steps.proofs.Followed.{above, kept_up}
 use Rattle.store_steps.proofs.Taken.{well_formed}
-use Rattle.store_steps.proofs.Whole.{agrees_on, append_step, finish_step, follow_step, later, later_is, log_from, log_from_is, others, others_complete, rebase_step, reclaim_step, replay_step, reply_step, still_log}
+use Rattle.store_steps.proofs.Whole.{agrees_on, append_step, catches_up, caught, finish_step, follow_step, if_any, later, later_is, log_from, log_from_is, others, others_complete, rebase_step, reclaim_step, replay_step, reply_step, still_log}
 
 abbrev K : Type 0
 K = SessionKnown
@@ -87,25 +87,21 @@ module _ (l : L) (k after : K) (g : LogView) (n : NodeReplica) (is : IsLogOf l g
   then_is : later up.before g ≡ later after.progress g
   then_is = ap (λ z. later z g) (sym up.is)
 
-  pub raise_part : (b : NodeBatch) (d : DeskView) → Goes l.catalogue (sees l g n b d) (if_any (nat_lt up.before.completed n.replica.tail) (Finishes ∷ [])) (sees after.progress (later after.progress g) n b d)
+  pub raise_part : (b : NodeBatch) (d : DeskView) → Goes l.catalogue (sees l g n b d) (if_any (nat_lt up.before.completed n.replica.tail) Finishes) (sees after.progress (later after.progress g) n b d)
   raise_part b d =
       let grown = store_laws.extends_on l k.progress up.before on up.was in
       Meets (sees l g n b d) (sees up.before (later up.before g) n b d) _ _ (others l up.before g is grown well_before l.catalogue grown.catalogue n b d)
-      (subst (λ z. Goes l.catalogue (sees up.before (later up.before g) n b d) (if_any (nat_lt up.before.completed n.replica.tail) (Finishes ∷ [])) (sees after.progress z n b d)) then_is
+      (subst (λ z. Goes l.catalogue (sees up.before (later up.before g) n b d) (if_any (nat_lt up.before.completed n.replica.tail) Finishes) (sees after.progress z n b d)) then_is
       (finish_step l.catalogue up.before after.progress (later up.before g) n b d up.is))
 
 -- ---- room is made
 
 module _ (k : K) (g : LogView) (n u : NodeReplica) (is : IsLogOf k.progress g) (f : Follows k.progress n) (behind : may_rebase g n ≡ true → u ≡ rebased g n) (stays : may_rebase g n ≡ false → u ≡ n) where
   -- there was room
-  pub makes_none : (want : ℕ) → MakesRoom want k k g g n u
-  makes_none want = record {
-    low = may_rebase g n;
-    full = false;
-    next = false;
-    later = false;
-    goes = λ b d. goes_on (rebase_step k.progress.catalogue k.progress g n u (Held b) d behind stays) (Ends (sees k.progress g u (Held b) d));
-    due = λ e. absurd cc;
+  pub makes_none : (want : ℕ) → min want (left_of g) ≤ room_in g → MakesRoom want k k g g n u
+  makes_none want enough = record {
+    room = HadRoom enough;
+    goes = λ b d. rebase_step k.progress.catalogue k.progress g n u (Held b) d behind stays;
     is = refl;
     did = did_none k k refl refl;
   }
@@ -118,7 +114,7 @@ module _ (k : K) (g : LogView) (n u : NodeReplica) (is : IsLogOf k.progress g) (
 
   -- the replica comes up, or stays
   Comes : NodeReplica → Type 0
-  Comes m = (next : Bool) × ((b : BatchView) (d : DeskView) → Goes c (sees k.progress g u (Held b) d) (if_any next (Replays ∷ [])) (sees k.progress g m (Held b) d))
+  Comes m = (next : Bool) × ((b : BatchView) (d : DeskView) → Goes c (sees k.progress g u (Held b) d) (if_any next Replays) (sees k.progress g m (Held b) d))
 
   comes : (m : NodeReplica) (up : Bool) → (up ≡ false → m ≡ u) → (up ≡ true → m ≡ replayed c (copied g u)) → Comes m
   unfolding Comes
@@ -133,20 +129,16 @@ module _ (k : K) (g : LogView) (n u : NodeReplica) (is : IsLogOf k.progress g) (
     same_log : later after.progress g ≡ g
     same_log = still_log k.progress after.progress g is up.goes.extends (up.still holds)
 
-    raises : (b : BatchView) (d : DeskView) → Goes c (sees k.progress g m (Held b) d) (if_any ahead (Finishes ∷ [])) (sees after.progress g m (Held b) d)
-    raises b d = subst (λ z. Goes c (sees k.progress g m (Held b) d) (if_any ahead (Finishes ∷ [])) (sees after.progress z m (Held b) d)) same_log (raise_part k.progress k after g m is (store_laws.extends_self k.progress) up (Held b) d)
+    raises : (b : BatchView) (d : DeskView) → Goes c (sees k.progress g m (Held b) d) (if_any ahead Finishes) (sees after.progress g m (Held b) d)
+    raises b d = subst (λ z. Goes c (sees k.progress g m (Held b) d) (if_any ahead Finishes) (sees after.progress z m (Held b) d)) same_log (raise_part k.progress k after g m is (store_laws.extends_self k.progress) up (Held b) d)
 
     pub makes_room : MakesRoom want k after g h n m
     unfolding Comes
     makes_room = record {
-      low = may_rebase g n;
-      full = true;
-      next = (comes m came same ran).0;
-      later = ahead;
+      room = MovedBase due (caught (comes m came same ran).0 ahead);
       goes = λ b d. ends_as c (sees after.progress h m (Held b) d) (ap (λ z. sees after.progress z m (Held b) d) (sym log))
-          (goes_on (rebase_step c k.progress g n u (Held b) d behind stays)
-          (goes_on (goes_on ((comes m came same ran).1 b d) (raises b d)) (reclaim_step c after.progress g m (Held b) d past up.completed)));
-      due = λ _. due;
+          (goes_on (goes_on (rebase_step c k.progress g n u (Held b) d behind stays) (catches_up c _ _ _ (comes m came same ran).0 ahead ((comes m came same ran).1 b d) (raises b d)))
+          (reclaim_step c after.progress g m (Held b) d past up.completed));
       is = log;
       did = subst (λ z. Did k after (Raised z ∷ [])) (ap (λ (z : LogView). z.base) (sym log)) up.did;
     }
@@ -157,39 +149,39 @@ module _ (k : K) (g : LogView) (n u : NodeReplica) (is : IsLogOf k.progress g) (
 module _ (k t m f : K) (g h h2 : LogView) (n v v2 : NodeReplica) (rs : History) (kept : RepliesView) (took : Extends k.progress t.progress) (log_is : IsLogOf t.progress g) (room : MakesRoom (length rs) t m g h n v) (may : may_append rs h v ≡ true)
     (log : h2 ≡ grown rs h) (node : v2 ≡ copied h2 v) (replies : kept ≡ replies_for rs h) (back_is : IsLogOf f.progress h2) (rise : m.progress.completed ≤ f.progress.completed) (stands : Stands f)
     (x : Value) (x_is : log_of x ≡ Some g) (took_it : HasStepped k (Took leader x) t) (q : ℕ) (there : q ≡ leader) (put_it : HasStepped m (Put q (with_log x h2)) f) where
-  room_did : (full : Bool) → Did t m (room_deeds full h) → Did t m (room_deeds full h2)
-  room_did true d = subst (λ z. Did t m (Raised z ∷ [])) (ap (λ (z : LogView). z.base) (sym log)) d
-  room_did false d = d
+  room_did : {want : ℕ} (made : RoomMade want g n) → Did t m (room_deeds made h) → Did t m (room_deeds made h2)
+  room_did (HadRoom enough) d = d
+  room_did (MovedBase due up) d = subst (λ z. Did t m (Raised z ∷ [])) (ap (λ (z : LogView). z.base) (sym log)) d
 
-  appends_did : Did k f (append_deeds room.full g h2)
-  appends_did = did_then k t f (Took leader (ALog g) ∷ []) (room_deeds room.full h2 ++ Put leader (ALog h2) ∷ [])
+  appends_did : {want : ℕ} (made : MakesRoom want t m g h n v) → Did k f (append_deeds made.room h2)
+  appends_did made = did_then k t f (Took leader (ALog g) ∷ []) (room_deeds made.room h2 ++ Put leader (ALog h2) ∷ [])
       (did_one k t (Took leader x) (Took leader (ALog g)) took_it (ap (Took leader) (log_part x g x_is)))
-      (did_then t m f (room_deeds room.full h2) (Put leader (ALog h2) ∷ []) (room_did room.full room.did)
+      (did_then t m f (room_deeds made.room h2) (Put leader (ALog h2) ∷ []) (room_did made.room made.did)
       (did_one m f (Put q (with_log x h2)) (Put leader (ALog h2)) put_it (λ i. Put (there i) (with_log_part x g h2 x_is i))))
 
-  pub appends_by : (b : BatchView) → b.records ≡ rs → AppendsBy k f b n v2 kept
-  appends_by b same = record {
-    logs = record {
-      from = t.progress;
-      since = took;
-      log = g;
-      back = h2;
-      log_is = log_is;
-      back_is = back_is;
-    };
-    low = room.low;
-    full = room.full;
-    next = room.next;
-    later = room.later;
-    goes = λ d. under t.progress.catalogue k.progress.catalogue (sym took.catalogue)
-        (goes_on (room.goes b d)
-        (goes_on (append_step t.progress.catalogue m.progress h h2 v v2 b kept rs d same may log node replies)
-        (Meets _ _ _ [] (others_complete t.progress.catalogue m.progress f.progress h2 v2 (InLog (record { batch = b; replies = kept })) d rise back_is (well_of f stands)) (Ends _))));
-    due = λ e. subst (λ (z : History). IsBaseDue (length z) g n) (sym same) (room.due e);
-    base = v;
-    is = log ∙ (λ i. grown (sym same i) (room.is i));
-    did = appends_did;
-  }
+  module _ (b : BatchView) (same : b.records ≡ rs) where
+    made : MakesRoom (length b.records) t m g h n v
+    made = subst (λ (z : History). MakesRoom (length z) t m g h n v) (sym same) room
+
+    pub appends_by : AppendsBy k f b n v2 kept
+    appends_by = record {
+      logs = record {
+        from = t.progress;
+        since = took;
+        log = g;
+        back = h2;
+        log_is = log_is;
+        back_is = back_is;
+      };
+      room = made.room;
+      goes = λ d. under t.progress.catalogue k.progress.catalogue (sym took.catalogue)
+          (goes_on (made.goes b d)
+          (goes_on (append_step t.progress.catalogue m.progress h h2 v v2 b kept rs d same may log node replies)
+          (Meets _ _ _ [] (others_complete t.progress.catalogue m.progress f.progress h2 v2 (InLog (record { batch = b; replies = kept })) d rise back_is (well_of f stands)) (Ends _))));
+      base = v;
+      is = log ∙ (λ i. grown (sym same i) (made.is i));
+      did = appends_did made;
+    }
 
 -- ---- what was copied is replayed
 
@@ -198,9 +190,8 @@ module _ (k after : K) (g : LogView) (n m : NodeReplica) (old new : RepliesView)
   replays_by = record {
     log = later after.progress g;
     log_is = raised_log k.progress k after g m is (store_laws.extends_self k.progress) up;
-    more = not (no_records n.hand.records);
-    ahead = nat_lt up.before.completed m.replica.tail;
-    goes = λ b d. goes_on (replay_step k.progress.catalogue k.progress g n m b old new d begins own kept)
+    up = caught (not (no_records n.hand.records)) (nat_lt up.before.completed m.replica.tail);
+    goes = λ b d. catches_up k.progress.catalogue _ _ _ (not (no_records n.hand.records)) (nat_lt up.before.completed m.replica.tail) (replay_step k.progress.catalogue k.progress g n m b old new d begins own kept)
         (raise_part k.progress k after g m is (store_laws.extends_self k.progress) up (InLog (record { batch = b; replies = new })) d);
     did = up.did;
   }
@@ -229,10 +220,10 @@ hands_over node k after b kept d grown stands mine claimed there did = record {
 module _ (node : ℕ) (k t a r f : K) (b : BatchView) (n v m : NodeReplica) (old new : RepliesView) (took : Extends k.progress t.progress) (found : Agrees t.progress n) (stands : Stands t) (first : AppendsBy t a b n v old)
     (then : ReplaysBy a r first.back v m old new) (since : Extends t.progress a.progress) (up : Extends a.progress r.progress) (agrees : Agrees r.progress m) (back : Extends r.progress f.progress) (stands_f : Stands f) (within : m.replica.tail ≤ length r.progress.history)
     (w : Value) (w_is : replica_of w ≡ Some n) (took_it : HasStepped k (Took (1 + node) w) t) (q : ℕ) (there : q ≡ 1 + node) (put_it : HasStepped r (Put q (with_replica w m)) f) where
-  answers_did : Did k f (answer_deeds (1 + node) first.full first.log first.back n m)
-  answers_did = did_then k t f (Took (1 + node) (AReplica n) ∷ []) (append_deeds first.full first.log first.back ++ Raised m.replica.tail ∷ Put (1 + node) (AReplica m) ∷ [])
+  answers_did : Did k f (answer_deeds (1 + node) first.room first.back m)
+  answers_did = did_then k t f (Took (1 + node) (AReplica n) ∷ []) (append_deeds first.room first.back ++ Raised m.replica.tail ∷ Put (1 + node) (AReplica m) ∷ [])
       (did_one k t (Took (1 + node) w) (Took (1 + node) (AReplica n)) took_it (ap (Took (1 + node)) (replica_part w n w_is)))
-      (did_then t a f (append_deeds first.full first.log first.back) (Raised m.replica.tail ∷ Put (1 + node) (AReplica m) ∷ []) first.did
+      (did_then t a f (append_deeds first.room first.back) (Raised m.replica.tail ∷ Put (1 + node) (AReplica m) ∷ []) first.did
       (did_then a r f (Raised m.replica.tail ∷ []) (Put (1 + node) (AReplica m) ∷ []) then.did
       (did_one r f (Put q (with_replica w m)) (Put (1 + node) (AReplica m)) put_it (λ i. Put (there i) (with_replica_part w n m w_is i)))))
 
@@ -259,8 +250,8 @@ module _ (node : ℕ) (k t a r f : K) (b : BatchView) (n v m : NodeReplica) (old
         own_is = agrees_on t.progress first.from n first.since (let tail = found.0.tail in let low = stands.accounts.completed in omega (arith, tail, low)) found;
         left_is = agrees_on r.progress f.progress m back within agrees;
       };
-      course = record { low = first.low; full = first.full; next = first.next; later = first.later; more = then.more; ahead = then.ahead };
-      due = first.due;
+      room = first.room;
+      up = then.up;
       base = first.base;
       put = first.back;
       put_is = first.is;
@@ -268,7 +259,7 @@ module _ (node : ℕ) (k t a r f : K) (b : BatchView) (n v m : NodeReplica) (old
       nothing = Nothing;
     };
     goes = λ d. goes_on (under t.progress.catalogue c0 (sym took.catalogue) (first.goes d))
-        (then_others c0 _ _ _ (replay_steps then.more then.ahead) (under a.progress.catalogue c0 (sym to_a) (then.goes b d))
+        (then_others c0 _ _ _ (catch_up_steps then.up) (under a.progress.catalogue c0 (sym to_a) (then.goes b d))
         (others r.progress f.progress then.log then.log_is back (well_of f stands_f) c0 (to_a ∙ (up.catalogue ∙ back.catalogue)) m (InLog (record { batch = b; replies = new })) d));
     did = answers_did;
   }
@@ -291,11 +282,11 @@ module _ (node : ℕ) (k f z : K) (b : BatchView) (kept : RepliesView) (first : 
   within_f = let tail = first.left_is.0.tail in let low = stands.accounts.completed in omega (arith, tail, low)
 
   -- at the node of the desk
-  combines_did : Did k z (first.tries ++ (answer_deeds (1 + last.desk.node) first.full first.log first.put first.own first.left ++ takes_and_puts (desk_place k.progress.config last.desk.node) (ADesk last.desk) (ADesk (replied (answered_batch kept b) last.desk))))
+  combines_did : Did k z (first.tries ++ (answer_deeds (1 + last.desk.node) first.room first.put first.left ++ takes_and_puts (desk_place k.progress.config last.desk.node) (ADesk last.desk) (ADesk (replied (answered_batch kept b) last.desk))))
   combines_did = subst
-      (λ (u : ℕ × Sizes). Did k z (first.tries ++ (answer_deeds (1 + u.0) first.full first.log first.put first.own first.left ++ takes_and_puts (desk_place u.1 u.0) (ADesk last.desk) (ADesk (replied (answered_batch kept b) last.desk)))))
+      (λ (u : ℕ × Sizes). Did k z (first.tries ++ (answer_deeds (1 + u.0) first.room first.put first.left ++ takes_and_puts (desk_place u.1 u.0) (ADesk last.desk) (ADesk (replied (answered_batch kept b) last.desk)))))
       (λ i. (sym last.there i, sym on.config i))
-      (subst (Did k z) (append_assoc first.tries (answer_deeds (1 + node) first.full first.log first.put first.own first.left) _) (did_then k f z (first.tries ++ answer_deeds (1 + node) first.full first.log first.put first.own first.left) _ first.did last.did))
+      (subst (Did k z) (append_assoc first.tries (answer_deeds (1 + node) first.room first.put first.left) _) (did_then k f z (first.tries ++ answer_deeds (1 + node) first.room first.put first.left) _ first.did last.did))
 
   pub combines_by : (answered : BatchView) → answered ≡ answered_batch kept b → k.note.batch ≡ unplaced b.records → f.session ≡ k.session → CombinesBy k z b answered
   combines_by answered answers noted same = record {
@@ -315,8 +306,8 @@ module _ (node : ℕ) (k f z : K) (b : BatchView) (kept : RepliesView) (first : 
         own_is = first.own_is;
         left_is = agrees_on f.progress z.progress first.left end within_f first.left_is;
       };
-      course = first.course;
-      due = first.due;
+      room = first.room;
+      up = first.up;
       base = first.base;
       put = first.put;
       put_is = first.put_is;
@@ -328,12 +319,16 @@ module _ (node : ℕ) (k f z : K) (b : BatchView) (kept : RepliesView) (first : 
     desk = last.desk;
     mine = subst (λ (z : Sizes × ℕ). IsSessionOf z.0 last.desk.node z.1) (λ i. (sym on.config i, same i)) last.mine;
     claimed = last.claimed;
-    goes = subst (λ xs. Goes k.progress.catalogue began xs ended) (append_assoc (append_steps first.low first.full first.next first.later) (replay_steps first.more first.ahead) (Replies ∷ []))
+    goes = subst (λ xs. Goes k.progress.catalogue began xs ended) (append_assoc (append_steps first.room) (catch_up_steps first.up) (Replies ∷ []))
         (goes_on (first.goes last.desk) (under f.progress.catalogue k.progress.catalogue (sym on.catalogue) over.2));
     did = combines_did;
   }
 
 -- ---- a read
+
+-- a replica that is the base is not below it
+never_below : (n : NodeReplica) (l : L) → may_rebase (log_from l n) n ≡ false
+never_below n l = ap (λ z. z && no_records n.hand.records) (le-ltb n.replica.tail n.replica.tail (omega arith))
 
 -- a replica that is ready follows nothing
 pub follows_none : (k : K) (n : NodeReplica) → Agrees k.progress n → Stands k → FollowsBy false k k n n
@@ -346,10 +341,9 @@ follows_none k n a stands = record {
     log_is = log_from_is k.progress n stands.accounts.completed a;
     back_is = log_from_is k.progress n stands.accounts.completed a;
   };
-  low = false;
-  next = false;
-  later = false;
-  goes = λ d. Ends (sees k.progress (log_from k.progress n) n Absent d);
+  up = Stayed;
+  goes = λ d. subst (λ q. Goes k.progress.catalogue (sees k.progress (log_from k.progress n) n Absent d) (cond q (Rebases ∷ []) [] ++ []) (sees k.progress (log_from k.progress n) n Absent d)) (sym (never_below n k.progress))
+      (Ends (sees k.progress (log_from k.progress n) n Absent d));
   did = did_none k k refl refl;
 }
 
@@ -373,12 +367,10 @@ module _ (k t f after : K) (g : LogView) (n u m : NodeReplica) (took : Extends k
       log_is = is;
       back_is = raised_log t.progress f after g m is on up;
     };
-    low = may_rebase g n;
-    next = has_next g u;
-    later = nat_lt up.before.completed m.replica.tail;
+    up = caught (has_next g u) (nat_lt up.before.completed m.replica.tail);
     goes = λ d. under c1 k.progress.catalogue (sym took.catalogue)
         (goes_on (rebase_step c1 t.progress g n u Absent d behind stays)
-        (goes_on (follow_step c1 t.progress g u m (above t.progress g u is keeps_up.0 keeps_up.1) keeps_up.0 ran Absent d (λ x. refl)) (raise_part t.progress f after g m is on up Absent d)));
+        (catches_up c1 _ _ _ (has_next g u) (nat_lt up.before.completed m.replica.tail) (follow_step c1 t.progress g u m (above t.progress g u is keeps_up.0 keeps_up.1) keeps_up.0 ran Absent d (λ x. refl)) (raise_part t.progress f after g m is on up Absent d)));
     did = did_then k f after (Took leader (ALog g) ∷ Put leader (ALog g) ∷ []) (Raised m.replica.tail ∷ [])
         (did_both k t f leader q leader x x (ALog g) (ALog g) took_it put_it refl there (log_part x g x_is) (log_part x g x_is)) up.did;
   }
@@ -428,10 +420,8 @@ module _ (k t r f : K) (p : L) (done : ℕ) (n m : NodeReplica) (point : ℕ) (g
             left_is = agrees_on r.progress f.progress m back within agrees;
           };
           begun = omega (arith, done_is, rise_t, rise_s);
-          low = first.low;
-          next = first.next;
-          later = first.later;
-          goes = λ d. then_others c2 _ _ _ (read_steps first.low first.next first.later) (under t.progress.catalogue c2 (sym to_t) (first.goes d))
+          up = first.up;
+          goes = λ d. then_others c2 _ _ _ (read_steps first.log n first.up) (under t.progress.catalogue c2 (sym to_t) (first.goes d))
               (others r.progress f.progress first.back first.back_is back (well_of f stands_f) c2 (to_t ∙ (up.catalogue ∙ back.catalogue)) m Absent d);
           may = ap (λ z. z && nat_le m.replica.tail f.progress.completed) (le-leb done m.replica.tail reached) ∙ le-leb m.replica.tail f.progress.completed (omega (arith, tail, rise));
           at = at;

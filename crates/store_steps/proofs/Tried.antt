@@ -139,8 +139,8 @@ pub answers_since : (node : ℕ) (k m f : K) (b : BatchView) (kept : RepliesView
 answers_since node k m f b kept s a = record {
   combined = record {
     ends = ends_since k m f s a.ends;
-    course = a.course;
-    due = a.due;
+    room = a.room;
+    up = a.up;
     base = a.base;
     put = a.put;
     put_is = a.put_is;
@@ -148,7 +148,7 @@ answers_since node k m f b kept s a = record {
     nothing = nothing_on s.nothing a.nothing;
   };
   goes = λ d. under m.progress.catalogue k.progress.catalogue (sym s.extends.catalogue) (a.goes d);
-  did = tried_then k m f s.tries a.tries (answer_deeds (1 + node) a.full a.log a.put a.own a.left) s.did a.did;
+  did = tried_then k m f s.tries a.tries (answer_deeds (1 + node) a.room a.put a.left) s.did a.did;
 }
 
 pub combined_then : (k f z : K) (b : BatchView) (kept : RepliesView) → HasAnswered k f b kept → HasCombined f z → HasCombined k z
@@ -208,9 +208,7 @@ module _ (k m f : K) (s : IsStill k m) where
           loads = record { seen = first_read s.more r.seen; more = later_reads s.more r.seen r.more; read = reads k m f s r.seen r.more r.read };
           ends = ends_since k m f s r.ends;
           begun = first_below s.more r.seen m.progress.completed r.from.completed s.below r.since.completed r.begun;
-          low = r.low;
-          next = r.next;
-          later = r.later;
+          up = r.up;
           goes = λ d. under m.progress.catalogue k.progress.catalogue (sym s.extends.catalogue) (r.goes d);
           may = and_from _ _ (le-leb (first_read s.more r.seen) r.left.replica.tail (first_below s.more r.seen m.progress.completed r.left.replica.tail s.below (omega (arith, far, at)) low)) may.1;
           at = at;

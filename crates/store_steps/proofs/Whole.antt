@@ -1,6 +1,6 @@
 -- Single steps of a node as a session takes them, and what others do between them.
-use Rattle.std.proofs.Common.{Bool, true, false, not, ◌&&◌, ◌||◌, ◌≡◌, ℕ, suc, ◌+◌, ◌-◌, ◌<◌, ◌≤◌, [], ◌∷◌, ◌++◌, length, length-append, take, drop, refl, sym, ap, ◌∙◌, subst, arith}
-use Rattle.std.specs.Prelude.{nat_le, nat_lt}
+use Rattle.std.proofs.Common.{Bool, true, false, not, ◌&&◌, ◌||◌, ◌≡◌, ℕ, suc, ◌+◌, ◌-◌, ◌<◌, ◌≤◌, List, [], ◌∷◌, ◌++◌, length, length-append, take, drop, refl, sym, ap, ◌∙◌, subst, arith}
+use Rattle.std.specs.Prelude.{cond, nat_le, nat_lt}
 use Rattle.std.proofs.Math.Nat.{max-eq_left}
 use Rattle.std.proofs.lemmas.Bool.{le-leb, ltb-false}
 use Rattle.std.proofs.lemmas.List.{append-nil, drop-append-le}
@@ -21,11 +21,12 @@ use Rattle.node.specs.Answering.{answered_batch}
 use Rattle.node.specs.Following.{copied, grown, has_next, is_above, may_append, may_rebase, no_records, rebased, reclaimed, replayed, replies_after, replies_for, to_run, told}
 use Rattle.node.specs.Seen.{Goes, Ends, Does, OthersDo, moved_on}
 use Rattle.node.specs.Steps.{NodeStep, Appends, Replays, Finishes, Reclaims, Rebases, Replies, Seen, batch_after, may, next}
+use Rattle.node.proofs.Export.{goes_on}
 use Rattle.node.specs.declared.following.NodeReplica.{NodeReplica}
 use Rattle.node.specs.declared.parts.NodeBatch.{NodeBatch}
 use Rattle.node.specs.declared.parts.NodeBatch.TheVariants.{Absent, Held, InLog}
 use Rattle.store_steps.specs.Standing.{Agrees, Follows, IsLogOf}
-use Rattle.store_steps.specs.Whole.{if_any, sees}
+use Rattle.store_steps.specs.Whole.{CatchUp, Stayed, Applied, Completed, AppliedAndCompleted, catch_up_steps, rebase_steps, sees}
 use Rattle.store_steps.proofs.Places.{drop_all, long_drop}
 
 abbrev L : Type 0
@@ -101,8 +102,11 @@ module _ (l m : L) (g : LogView) (is : IsLogOf l g) (grows : Extends l m) where
 
 -- ---- single steps
 
+abbrev pub if_any : Bool → NodeStep → List NodeStep
+if_any q step = cond q (step ∷ []) []
+
 -- a step, if it may be taken; else what is seen is the same
-pub if_may : (c : CatalogueView) (step : NodeStep) (s t : Seen) (q : Bool) → may step s ≡ q → (q ≡ true → t ≡ next c step s) → (q ≡ false → t ≡ s) → Goes c s (if_any q (step ∷ [])) t
+pub if_may : (c : CatalogueView) (step : NodeStep) (s t : Seen) (q : Bool) → may step s ≡ q → (q ≡ true → t ≡ next c step s) → (q ≡ false → t ≡ s) → Goes c s (if_any q step) t
 if_may c step s t true e does stays = Does step s t [] e (subst (λ z. Goes c z [] t) (does refl) (Ends t))
 if_may c step s t false e does stays = subst (λ z. Goes c s [] z) (sym (stays refl)) (Ends s)
 
@@ -111,7 +115,7 @@ one_step c step s t e is = Does step s t [] e (subst (λ z. Goes c z [] t) is (E
 
 -- a replica that is behind the base becomes it
 pub rebase_step : (c : CatalogueView) (l : L) (g : LogView) (n m : NodeReplica) (b : NodeBatch) (d : DeskView) → (may_rebase g n ≡ true → m ≡ rebased g n) → (may_rebase g n ≡ false → m ≡ n)
-    → Goes c (sees l g n b d) (if_any (may_rebase g n) (Rebases ∷ [])) (sees l g m b d)
+    → Goes c (sees l g n b d) (rebase_steps g n) (sees l g m b d)
 rebase_step c l g n m b d behind above = if_may c Rebases (sees l g n b d) (sees l g m b d) (may_rebase g n) refl (λ e. ap (λ z. sees l g z b d) (behind e)) (λ e. ap (λ z. sees l g z b d) (above e))
 
 -- a replica whose hand gets no record, and applies what is there, stays as it is
@@ -140,17 +144,30 @@ module _ (c : CatalogueView) (l : L) (g : LogView) (n m : NodeReplica) (above : 
   abbrev taken : History → NodeReplica
   taken rs = record n { hand = record n.hand { begin = n.replica.tail; records = to_run g n.replica.tail rs } }
 
-  pub follow_step : (b : NodeBatch) (d : DeskView) → ((x : NodeReplica) → batch_after c x b ≡ b) → Goes c (sees l g n b d) (if_any (has_next g n) (Replays ∷ [])) (sees l g m b d)
+  pub follow_step : (b : NodeBatch) (d : DeskView) → ((x : NodeReplica) → batch_after c x b ≡ b) → Goes c (sees l g n b d) (if_any (has_next g n) Replays) (sees l g m b d)
   follow_step b d same = if_may c Replays (sees l g n b d) (sees l g m b d) (has_next g n) refl
       (λ e. (λ i. sees l g ((ran_all ∙ ap (λ z. replayed c (taken z)) (sym f.empty)) i) ((sym (same (taken n.hand.records))) i) d))
       (λ e. ap (λ z. sees l g z b d) (none_next e))
 
 -- what the replica has applied is completed, if it is not yet
-pub finish_step : (c : CatalogueView) (before l : L) (g : LogView) (n : NodeReplica) (b : NodeBatch) (d : DeskView) → l ≡ raised before n.replica.tail → Goes c (sees before g n b d) (if_any (nat_lt before.completed n.replica.tail) (Finishes ∷ [])) (sees l g n b d)
+pub finish_step : (c : CatalogueView) (before l : L) (g : LogView) (n : NodeReplica) (b : NodeBatch) (d : DeskView) → l ≡ raised before n.replica.tail → Goes c (sees before g n b d) (if_any (nat_lt before.completed n.replica.tail) Finishes) (sees l g n b d)
 finish_step c before l g n b d is = if_may c Finishes (sees before g n b d) (sees l g n b d) (nat_lt before.completed n.replica.tail) refl
     (λ e. ap (λ z. sees z g n b d) is)
     (λ e. let low = ltb-false before.completed n.replica.tail e in
     ap (λ z. sees z g n b d) is ∙ ap (λ z. (let l : L = record before { completed = z } in sees l g n b d)) (max-eq_left low))
+
+-- the replica catches up: a step applies what it lacks, or none does; a step completes that, or none does
+abbrev pub caught : (applies completes : Bool) → CatchUp
+caught false false = Stayed
+caught true false = Applied
+caught false true = Completed
+caught true true = AppliedAndCompleted
+
+pub catches_up : (c : CatalogueView) (s t u : Seen) (applies completes : Bool) → Goes c s (if_any applies Replays) t → Goes c t (if_any completes Finishes) u → Goes c s (catch_up_steps (caught applies completes)) u
+catches_up c s t u false false first last = goes_on first last
+catches_up c s t u true false first last = goes_on first last
+catches_up c s t u false true first last = goes_on first last
+catches_up c s t u true true first last = goes_on first last
 
 -- the replica becomes the base
 pub reclaim_step : (c : CatalogueView) (l : L) (g : LogView) (n : NodeReplica) (b : NodeBatch) (d : DeskView) → g.base < n.replica.tail → n.replica.tail ≤ l.completed → Goes c (sees l g n b d) (Reclaims ∷ []) (sees l (reclaimed n (told n g)) n b d)
@@ -174,7 +191,7 @@ module _ (c : CatalogueView) (l : L) (g : LogView) (n m : NodeReplica) (b : Batc
   abbrev seen : NodeReplica → RepliesView → Seen
   seen x y = sees l g x (InLog (record { batch = b; replies = y })) d
 
-  some_step : (rs : History) → n.hand.records ≡ rs → Goes c (seen n old) (if_any (not (no_records rs)) (Replays ∷ [])) (seen m new)
+  some_step : (rs : History) → n.hand.records ≡ rs → Goes c (seen n old) (if_any (not (no_records rs)) Replays) (seen m new)
   some_step [] e =
       let own_is : m ≡ n = own ∙ (λ i. replayed c (record n { hand = record n.hand { begin = begins i; records = e i } })) ∙ ran_none c n begins e in
       let new_is : new ≡ old = kept ∙ ap (λ z. replies_after c (record n { hand = record n.hand { records = z } }) old) e in
@@ -185,7 +202,7 @@ module _ (c : CatalogueView) (l : L) (g : LogView) (n m : NodeReplica) (b : Batc
       one_step c Replays (seen n old) _ (ap (λ z. not (no_records z) || (is_above g n && nat_lt n.replica.tail (tail_of g))) e)
       (λ i. seen ((own ∙ ap (replayed c) with_is) i) ((kept ∙ ap (λ z. replies_after c z old) with_is) i))
 
-  pub replay_step : Goes c (seen n old) (if_any (not (no_records n.hand.records)) (Replays ∷ [])) (seen m new)
+  pub replay_step : Goes c (seen n old) (if_any (not (no_records n.hand.records)) Replays) (seen m new)
   replay_step = some_step n.hand.records refl
 
 -- the answers are handed over

@@ -39,5 +39,7 @@ pub mod Polling
 pub mod Pipelines
 -- What the members of a pipeline do in each hold, and in the whole call.
 pub mod EachMember
+-- A list of updates whose sessions wait for nobody.
+pub mod PollingEach
 -- What a store has done at one moment, and how far a session's node has come.
 pub mod Measuring

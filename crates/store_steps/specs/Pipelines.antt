@@ -10,9 +10,10 @@ use Rattle.combiner.specs.declared.slots.Reply.{Reply}
 use Rattle.combiner.specs.declared.slots.Stage.TheVariants.{Answered, Posted}
 use Rattle.loader.specs.CatalogueView.{CatalogueView}
 use Rattle.verifier.specs.declared.refusal.Mode.TheVariants.{Update}
-use Rattle.accounts.specs.Accounts.{Extends}
+use Rattle.accounts.specs.Accounts.{Extends, IsWellFormed}
 use Rattle.oplog.specs.Operations.{Operation}
 use Rattle.accounts.specs.declared.sessions.Pending.{Pending}
+use Rattle.replica.specs.StoreMeaning.{store_meaning}
 use Rattle.replica.specs.Views.{RepliesView}
 use Rattle.store_steps.specs.declared.desks.Turn.{Turn}
 use Rattle.store_steps.specs.declared.desks.Turn.TheVariants.{Collects}
@@ -155,6 +156,7 @@ pub record HasLooked (k after : SessionKnown) : Type 0 where
   pub held : after.held ≡ k.held
   pub note : after.note ≡ k.note
   pub extends : Extends k.progress after.progress
+  pub well_formed : IsWellFormed store_meaning k.progress → IsWellFormed store_meaning after.progress
   pub visits : Visits k after
 
 -- no session combines at the held desk

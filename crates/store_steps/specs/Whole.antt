@@ -1,10 +1,10 @@
 -- Whole calls as lists of the node's steps: what a session sees when it takes each, and what others do between them.
-use Rattle.std.specs.Prelude.{◌≡◌, ◌≤◌, Bool, true, false, ℕ, List, [], ◌∷◌, ◌++◌, length, nat_lt}
+use Rattle.std.specs.Prelude.{◌≡◌, ◌≤◌, Bool, true, false, ℕ, List, [], ◌∷◌, ◌++◌, cond, length, min, nat_lt}
 use Rattle.loader.specs.CatalogueView.{CatalogueView}
 use Rattle.ownlock.specs.declared.known.ShelfStep.{ShelfStep}
 use Rattle.ownlock.specs.declared.known.ShelfStep.TheVariants.{Took, Put, Read, Raised}
 use Rattle.ownlock.specs.Seats.{tails_in}
-use Rattle.oplog.specs.Logs.{Log as LogView}
+use Rattle.oplog.specs.Logs.{Log as LogView, left_of, room_in}
 use Rattle.oplog.specs.History.{History}
 use Rattle.oplog.specs.Operations.{Operation}
 use Rattle.oplog.specs.Sessions.{IsSessionOf}
@@ -16,7 +16,7 @@ use Rattle.accounts.specs.Accounts.{Extends}
 use Rattle.accounts.specs.Agreement.{desk_place, log_place, replica_place}
 use Rattle.accounts.specs.Moves.{unplaced}
 use Rattle.node.specs.Answering.{answered_batch}
-use Rattle.node.specs.Following.{grown, may_answer, reclaimed, told}
+use Rattle.node.specs.Following.{grown, may_answer, may_rebase, reclaimed, told}
 use Rattle.node.specs.declared.following.NodeReplica.{NodeReplica}
 use Rattle.node.specs.declared.parts.NodeBatch.{NodeBatch}
 use Rattle.node.specs.declared.parts.NodeBatch.TheVariants.{Absent, Held, InLog}
@@ -31,65 +31,77 @@ use Rattle.store_steps.specs.Standing.{SessionKnown, Agrees, IsLogOf}
 abbrev pub sees : Progress CatalogueView → LogView → NodeReplica → NodeBatch → DeskView → Seen
 sees l g n b d = record { log = with_word l.completed g; own = n; batch = b; desk = d }
 
--- ---- the lists
+-- ---- how a node goes on
 
-abbrev pub if_any : Bool → List NodeStep → List NodeStep
-if_any true steps = steps
-if_any false steps = []
+-- how a replica catches up: it applies what it lacks of the log, or nothing; then what it has applied is completed, unless others have
+-- completed it
+pub data CatchUp : Type 0 where
+  Stayed : CatchUp
+  Applied : CatchUp
+  Completed : CatchUp
+  AppliedAndCompleted : CatchUp
 
--- the replica applies what it lacks, if anything, and that is completed, unless others have
-abbrev pub replay_steps : (next later : Bool) → List NodeStep
-replay_steps next later = if_any next (Replays ∷ []) ++ if_any later (Finishes ∷ [])
+-- how a session made room in the log g for so many records, of those that the history may still have; n is the replica of its node
+pub data RoomMade (want : ℕ) (g : LogView) (n : NodeReplica) : Type 0 where
+  -- there was room
+  HadRoom : min want (left_of g) ≤ room_in g → RoomMade want g n
+  -- another base was due: the replica caught up, and became the base
+  MovedBase : IsBaseDue want g n → CatchUp → RoomMade want g n
 
--- a replica below the log's base becomes the base; where another base is due, the replica applies all, completes it, and becomes the base
-abbrev pub room_steps : (low full next later : Bool) → List NodeStep
-room_steps low full next later = if_any low (Rebases ∷ []) ++ if_any full (replay_steps next later ++ Reclaims ∷ [])
+-- ---- the steps of that
 
--- room is made, and the batch appended
-abbrev pub append_steps : (low full next later : Bool) → List NodeStep
-append_steps low full next later = room_steps low full next later ++ Appends ∷ []
+-- a replica below the log's base becomes the base
+abbrev pub rebase_steps : LogView → NodeReplica → List NodeStep
+rebase_steps g n = cond (may_rebase g n) (Rebases ∷ []) []
 
--- which steps a combine has taken: the replica was below the log's base (low); another base was due (full), and what the replica lacked then was
--- applied (next), and completed (later); what it lacked of the batch was applied (more), and completed (ahead)
-pub record Course : Type 0 where
-  pub low : Bool
-  pub full : Bool
-  pub next : Bool
-  pub later : Bool
-  pub more : Bool
-  pub ahead : Bool
+abbrev pub catch_up_steps : CatchUp → List NodeStep
+catch_up_steps Stayed = []
+catch_up_steps Applied = Replays ∷ []
+catch_up_steps Completed = Finishes ∷ []
+catch_up_steps AppliedAndCompleted = Replays ∷ Finishes ∷ []
 
--- room is made, the batch is appended, and what was copied is applied and completed
-abbrev pub answer_steps : Course → List NodeStep
-answer_steps c = append_steps c.low c.full c.next c.later ++ replay_steps c.more c.ahead
+-- a replica below the base becomes the base, and catches up
+abbrev pub read_steps : LogView → NodeReplica → CatchUp → List NodeStep
+read_steps g n up = rebase_steps g n ++ catch_up_steps up
 
--- `answer_steps`, and then the answers are handed over
-abbrev pub combine_steps : Course → List NodeStep
-combine_steps c = append_steps c.low c.full c.next c.later ++ (replay_steps c.more c.ahead ++ Replies ∷ [])
+module _ {want : ℕ} {g : LogView} {n : NodeReplica} where
+  -- a replica below the base becomes the base; if another base was due, the replica catches up then, and becomes that base
+  abbrev pub room_steps : RoomMade want g n → List NodeStep
+  room_steps (HadRoom enough) = rebase_steps g n
+  room_steps (MovedBase due up) = read_steps g n up ++ Reclaims ∷ []
 
--- the replica comes up with the log
-abbrev pub read_steps : (low next later : Bool) → List NodeStep
-read_steps low next later = if_any low (Rebases ∷ []) ++ replay_steps next later
+  -- room is made, and the batch is appended
+  abbrev pub append_steps : RoomMade want g n → List NodeStep
+  append_steps room = room_steps room ++ Appends ∷ []
+
+  -- room is made, the batch is appended, and the replica catches up
+  abbrev pub answer_steps : RoomMade want g n → CatchUp → List NodeStep
+  answer_steps room up = append_steps room ++ catch_up_steps up
+
+  -- `answer_steps`, and then the answers are handed over
+  abbrev pub combine_steps : RoomMade want g n → CatchUp → List NodeStep
+  combine_steps room up = append_steps room ++ (catch_up_steps up ++ Replies ∷ [])
 
 -- ---- what is done on the shelf
 
--- the log g once there is room: where another base was due, it is the replica n
-abbrev pub with_room : (full : Bool) → NodeReplica → LogView → LogView
-with_room true n g = reclaimed n (told n g)
-with_room false n g = g
+module _ {want : ℕ} {g : LogView} {n : NodeReplica} where
+  -- the log once there is room: if another base was due, it is this replica
+  abbrev pub with_room : RoomMade want g n → NodeReplica → LogView
+  with_room (HadRoom enough) base = g
+  with_room (MovedBase due up) base = reclaimed base (told base g)
 
--- where one was due, what that replica has applied is completed first; the log is h then
-abbrev pub room_deeds : (full : Bool) → LogView → List (ShelfStep Part)
-room_deeds true h = Raised h.base ∷ []
-room_deeds false h = []
+  -- if another base was due, what that replica has applied is completed first; the log is h then
+  abbrev pub room_deeds : RoomMade want g n → LogView → List (ShelfStep Part)
+  room_deeds (HadRoom enough) h = []
+  room_deeds (MovedBase due up) h = Raised h.base ∷ []
 
--- the log is taken, and put back as h
-abbrev pub append_deeds : (full : Bool) → (g h : LogView) → List (ShelfStep Part)
-append_deeds full g h = Took log_place (ALog g) ∷ (room_deeds full h ++ Put log_place (ALog h) ∷ [])
+  -- the log is taken, and put back as h
+  abbrev pub append_deeds : RoomMade want g n → LogView → List (ShelfStep Part)
+  append_deeds room h = Took log_place (ALog g) ∷ (room_deeds room h ++ Put log_place (ALog h) ∷ [])
 
--- while the replica n of this place is held, the log is; then what the replica has applied is completed, and it is put back as m
-abbrev pub answer_deeds : ℕ → (full : Bool) → (g h : LogView) → (n m : NodeReplica) → List (ShelfStep Part)
-answer_deeds place full g h n m = Took place (AReplica n) ∷ (append_deeds full g h ++ Raised m.replica.tail ∷ Put place (AReplica m) ∷ [])
+  -- while the replica of this place is held, the log is; then what the replica has applied is completed, and it is put back as m
+  abbrev pub answer_deeds : ℕ → RoomMade want g n → (h : LogView) → (m : NodeReplica) → List (ShelfStep Part)
+  answer_deeds place room h m = Took place (AReplica n) ∷ (append_deeds room h ++ Raised m.replica.tail ∷ Put place (AReplica m) ∷ [])
 
 -- a replica that lacks something takes the log, and puts it back as it was; what it has applied is completed, once it is m
 abbrev pub follow_deeds : (lacks : Bool) → LogView → NodeReplica → List (ShelfStep Part)
@@ -124,29 +136,20 @@ pub record BetweenReplicas (k after : SessionKnown) : Type 0 where
 
 -- while it holds the log, the session has made room for so many records: g and n are h and m now
 pub record MakesRoom (want : ℕ) (k after : SessionKnown) (g h : LogView) (n m : NodeReplica) : Type 0 where
-  pub low : Bool
-  pub full : Bool
-  pub next : Bool
-  pub later : Bool
-  pub goes : (b : BatchView) (d : DeskView) → Goes k.progress.catalogue (sees k.progress g n (Held b) d) (room_steps low full next later) (sees after.progress h m (Held b) d)
-  pub due : full ≡ true → IsBaseDue want g n
-  pub is : h ≡ with_room full m g
-  pub did : Did k after (room_deeds full h)
+  pub room : RoomMade want g n
+  pub goes : (b : BatchView) (d : DeskView) → Goes k.progress.catalogue (sees k.progress g n (Held b) d) (room_steps room) (sees after.progress h m (Held b) d)
+  pub is : h ≡ with_room room m
+  pub did : Did k after (room_deeds room h)
 
 -- the session has taken the log, appended the batch, and put the log back
 pub record AppendsBy (k after : SessionKnown) (b : BatchView) (n m : NodeReplica) (kept : RepliesView) : Type 0 where
   pub logs : BetweenLogs k after
   pub open logs use *
-  pub low : Bool
-  pub full : Bool
-  pub next : Bool
-  pub later : Bool
-  pub goes : (d : DeskView) → Goes k.progress.catalogue (sees from log n (Held b) d) (append_steps low full next later)
-      (sees after.progress back m (InLog (record { batch = b; replies = kept })) d)
-  pub due : full ≡ true → IsBaseDue (length b.records) log n
+  pub room : RoomMade (length b.records) log n
+  pub goes : (d : DeskView) → Goes k.progress.catalogue (sees from log n (Held b) d) (append_steps room) (sees after.progress back m (InLog (record { batch = b; replies = kept })) d)
   pub base : NodeReplica
-  pub is : back ≡ grown b.records (with_room full base log)
-  pub did : Did k after (append_deeds full log back)
+  pub is : back ≡ grown b.records (with_room room base)
+  pub did : Did k after (append_deeds room back)
 
 -- so it has of any batch that has these records
 abbrev pub AppendsAny : SessionKnown → SessionKnown → History → (n m : NodeReplica) → RepliesView → Type 0
@@ -156,9 +159,8 @@ AppendsAny k after records n m kept = (batch : BatchView) → batch.records ≡ 
 pub record ReplaysBy (k after : SessionKnown) (g : LogView) (n m : NodeReplica) (old new : RepliesView) : Type 0 where
   pub log : LogView
   pub log_is : IsLogOf after.progress log
-  pub more : Bool
-  pub ahead : Bool
-  pub goes : (b : BatchView) (d : DeskView) → Goes k.progress.catalogue (sees k.progress g n (InLog (record { batch = b; replies = old })) d) (replay_steps more ahead)
+  pub up : CatchUp
+  pub goes : (b : BatchView) (d : DeskView) → Goes k.progress.catalogue (sees k.progress g n (InLog (record { batch = b; replies = old })) d) (catch_up_steps up)
       (sees after.progress log m (InLog (record { batch = b; replies = new })) d)
   pub did : Did k after (Raised m.replica.tail ∷ [])
 
@@ -182,10 +184,8 @@ pub record HandsOver (node : ℕ) (k after : SessionKnown) (b : BatchView) (kept
 pub record FollowsBy (lacks : Bool) (k after : SessionKnown) (n m : NodeReplica) : Type 0 where
   pub logs : BetweenLogs k after
   pub open logs use *
-  pub low : Bool
-  pub next : Bool
-  pub later : Bool
-  pub goes : (d : DeskView) → Goes k.progress.catalogue (sees from log n Absent d) (read_steps low next later) (sees after.progress back m Absent d)
+  pub up : CatchUp
+  pub goes : (d : DeskView) → Goes k.progress.catalogue (sees from log n Absent d) (read_steps log n up) (sees after.progress back m Absent d)
   pub did : Did k after (follow_deeds lacks log m)
 
 -- ---- what the whole calls do
@@ -194,13 +194,12 @@ pub record FollowsBy (lacks : Bool) (k after : SessionKnown) (n m : NodeReplica)
 pub record Combined (k after : SessionKnown) (b : BatchView) : Type 0 where
   pub ends : BetweenReplicas k after
   pub open ends use *
-  pub course : Course
-  pub open course use *
-  pub due : full ≡ true → IsBaseDue (length b.records) log own
+  pub room : RoomMade (length b.records) log own
+  pub up : CatchUp
   -- the log was put back with the batch, and with another base only if that was due
   pub base : NodeReplica
   pub put : LogView
-  pub put_is : put ≡ grown b.records (with_room full base log)
+  pub put_is : put ≡ grown b.records (with_room room base)
   -- the tries in vain of the session
   pub tries : List (ShelfStep Part)
   pub nothing : ChangesNothing tries
@@ -210,9 +209,9 @@ pub record Combined (k after : SessionKnown) (b : BatchView) : Type 0 where
 pub record AnswersBy (node : ℕ) (k after : SessionKnown) (b : BatchView) (kept : RepliesView) : Type 0 where
   pub combined : Combined k after b
   pub open combined use *
-  pub goes : (d : DeskView) → Goes k.progress.catalogue (sees from log own (Held b) d) (answer_steps course)
+  pub goes : (d : DeskView) → Goes k.progress.catalogue (sees from log own (Held b) d) (answer_steps room up)
       (sees after.progress back left (InLog (record { batch = b; replies = kept })) d)
-  pub did : Did k after (tries ++ answer_deeds (replica_place k.progress.config node) full log put own left)
+  pub did : Did k after (tries ++ answer_deeds (replica_place k.progress.config node) room put left)
 
 -- a combine of the batch b, whose requests the session had claimed: from the log and the replica as the session took them, to its answers at the
 -- desk of the session's own node, as it took that desk; just these requests are claimed there. Except for tries in vain the session took, put
@@ -226,8 +225,8 @@ pub record CombinesBy (k after : SessionKnown) (b answered : BatchView) : Type 0
   pub desk : DeskView
   pub mine : IsSessionOf k.progress.config desk.node k.session
   pub claimed : IsBatchOf desk b
-  pub goes : Goes k.progress.catalogue (sees from log own (Held b) desk) (combine_steps course) (sees after.progress back left Absent (replied (answered_batch kept b) desk))
-  pub did : Did k after (tries ++ (answer_deeds (replica_place k.progress.config desk.node) full log put own left
+  pub goes : Goes k.progress.catalogue (sees from log own (Held b) desk) (combine_steps room up) (sees after.progress back left Absent (replied (answered_batch kept b) desk))
+  pub did : Did k after (tries ++ (answer_deeds (replica_place k.progress.config desk.node) room put left
       ++ takes_and_puts (desk_place k.progress.config desk.node) (ADesk desk) (ADesk (replied (answered_batch kept b) desk))))
 
 -- of all completed tails that the session loaded in the meantime, `seen` is the first
@@ -254,10 +253,8 @@ pub record LooksBy (k after : SessionKnown) (point : ℕ) : Type 0 where
   pub ends : BetweenReplicas k after
   pub open ends use *
   pub begun : seen ≤ from.completed
-  pub low : Bool
-  pub next : Bool
-  pub later : Bool
-  pub goes : (d : DeskView) → Goes k.progress.catalogue (sees from log own Absent d) (read_steps low next later) (sees after.progress back left Absent d)
+  pub up : CatchUp
+  pub goes : (d : DeskView) → Goes k.progress.catalogue (sees from log own Absent d) (read_steps log own up) (sees after.progress back left Absent d)
   pub may : may_answer seen after.progress.completed left ≡ true
   pub at : point ≡ left.replica.tail
   pub shelf : LooksOnShelf k after log own left

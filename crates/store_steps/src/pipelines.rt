@@ -133,7 +133,7 @@ fn collect_each(
 
 // Each member posts its call in one hold of the desk, the last one first. The first one claims the requests of its node into the batch. If the desk is held,
 // or a session combines there, the members only look: the call answers a place to watch.
-fn try_post_each(
+pub(crate) fn try_post_each(
     shared: Shared<'_>,
     members: &mut [Member],
     calls: &[Question<'_>],
@@ -200,7 +200,7 @@ fn claim_first(
 
 // The first member answers the requests of its batch, by the outcomes that were kept of it, and each member collects its answer, all in one hold of the
 // desk. `None` if another session holds the desk: nothing has changed then.
-fn try_give_each(
+pub(crate) fn try_give_each(
     shared: Shared<'_>,
     members: &mut [Member],
     batch: &mut Batch,

@@ -12,7 +12,7 @@ loop-k-preserved c =
       records = ap (λ b. b.records) c.answer.ensures.set ∙ i.records;
       answers = ap (λ b. length b.answers) c.answer.ensures.set ∙ (length-set c.loop-k.batch.answers c.loop-k.k _ ∙ i.answers);
       set = λ j le. ap (λ b. slice_get b.answers j) c.answer.ensures.set
-          ∙ answers_turn c.args.replies.now c.args.batch.now c.loop-k.k c.loop-k.batch.answers c.answer_of-reply.result (omega (arith, lt, all)) i.answers c.requires.run c.answer_of-reply.ensures.placed c.answer_of-reply.ensures.ended i.set j le;
+          ∙ answers_turn c.args.replies.now c.args.batch.now c.loop-k.k c.loop-k.batch.answers c.reply_at-reply.result (omega (arith, lt, all)) i.answers c.requires.run c.reply_at-reply.ensures.placed c.reply_at-reply.ensures.ended i.set j le;
     }
 
 pub returns : goal.returns

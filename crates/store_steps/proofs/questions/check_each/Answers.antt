@@ -1,4 +1,4 @@
-use Rattle.std.proofs.Common.{◌≡◌, ◌+◌, ◌<◌, ◌≤◌, suc, ap, arith, drop, length, refl, subst, ◌∙◌}
+use Rattle.std.proofs.Common.{◌≡◌, ◌+◌, ◌≤◌, suc, ap, arith, drop, length, refl, subst, ◌∙◌}
 use Rattle.accounts.proofs.Export.{at_below}
 use Rattle.store_steps.specs.Questions.{first_refused_in, refused_or}
 use Rattle.store_steps.proofs.Numbered.{no_more, one_more, one_more_may}

@@ -96,7 +96,7 @@ returns-then-is_base_due-clause-goes c k after is now =
 pub returns-else-is_base_due-clause-goes : goal.returns-else-is_base_due-clause-goes
 returns-else-is_base_due-clause-goes c k after is now =
     let i = c.requires.holds in let r = c.rebase_if_behind in
-    let goes = none_goes i.0 _ _ _ i.2 r.new.node r.ensures.behind r.ensures.above c.copy.new.node c.copy.ensures.node c.args.want in
+    let goes = none_goes i.0 _ _ _ i.2 r.new.node r.ensures.behind r.ensures.above c.copy.new.node c.copy.ensures.node c.args.want (c.is_base_due.ensures.room c.if-is_base_due.false) in
     let there = caught_up c.args.shared.catalogue.now 0 c.copy.new.node in
     subst (λ q. MakesRoom c.args.want k q c.args.log.now c.args.log.now c.args.node.now there) (one_known c.args.seat.now k after is now)
     (subst (λ q. MakesRoom c.args.want q q c.args.log.now c.args.log.now c.args.node.now there) (one_known c.args.seat.now i.0 k i.1 is) goes)

@@ -1,0 +1,384 @@
+// Several sessions of one node that ask for their updates at once, and whose calls answer at once.
+
+ghost use Rattle.std.specs.Prelude.{◌≡◌, ℕ, ◌≤◌, ◌<◌, length, take, IfNone, IfSome, Ok};
+ghost use Rattle.ownlock.specs.Seats.{At};
+ghost use Rattle.verifier.specs.declared.refusal.Mode.TheVariants.{Update};
+ghost use Rattle.store_steps.specs.EachMember.{AscendEach};
+ghost use Rattle.store_steps.specs.Pipelines.{AreCalls, AreMembers, MayAskAt};
+ghost use Rattle.store_steps.specs.PollingEach.{AreIdle, AreOn, AreOut};
+ghost use Rattle.store_steps.specs.Questions.{first_refused_in};
+ghost use Rattle.store.specs.Looks.{IsRefused};
+ghost use Rattle.store.specs.Opening.{AreOf};
+ghost use Rattle.store.specs.Pipelines.{AreInOrder, EachGoesOn, MayUpdateEach, OthersStay};
+ghost use Rattle.store.specs.PolledPipelines.{AreWaiting, BeginsFirst, EachIsTold, FinishesFirst, LooksFirst, TellsListed, WaitsFirst};
+
+use crate::answers::Answer;
+use crate::pipeline::{Asking, Pipeline, say_each};
+use crate::session::Session;
+use crate::store::Store;
+use combiner::Reply;
+use loader::Installed;
+use replica::StoreRefused;
+use std::marker::Model;
+use store_steps::{
+    EachRoom, EachStage, Member, Question, QuestionRefused, Shared, check_each, go_on_each,
+    try_begin_each,
+};
+use verifier::Mode;
+
+/// A [`Pipeline`] whose calls wait for nobody: its sessions ask for as many updates at once. Each call answers at once, or says that another session held a
+/// place. Between two calls the sessions hold none.
+///
+/// It has no `Drop`. It becomes a pipeline again ([`into_pipeline`](PolledPipeline::into_pipeline)) once no session waits for an answer
+/// ([`waiting`](PolledPipeline::waiting)): a list that is on its way has claimed the requests of its node, which are answered only with it.
+///
+/// # Examples
+///
+/// ```
+/// use store::{Answer, Config, Pipeline, PolledPipeline, Question, Store, StoreRefused, load_manifest};
+///
+/// let manifest = "map array 8 16\nprogram five update 0 five.hex\n";
+/// let files = [("five.hex", "b7000000050000009500000000000000")]; // a program that replies 5
+/// let catalogue = load_manifest(rt.alloc(), manifest, &files)?;
+/// let config = Config { nodes: 1, slots: 2, window: 16, limit: 100, spare: 0 };
+/// let (store, sessions) = Store::open(rt.alloc(), config, catalogue)?;
+/// let pipeline = match Pipeline::of(rt.alloc(), &store, sessions) { Ok(pipeline) => pipeline, Err(_) => unreachable!() };
+/// let mut polled = PolledPipeline::new(pipeline);
+///
+/// let call = Question { program: 0, argument: &[] };
+/// let mut answers = [Err(StoreRefused::Ended); 2];
+/// let asked = polled.try_invoke_each(&store, &[call; 2]);
+/// let told = polled.poll(&store, &mut answers); // nobody else holds a place
+/// let _closed = match store.close(polled.into_pipeline().into_sessions()) { Ok(closed) => closed, Err(_) => unreachable!() };
+/// assert_eq!(rt; asked, Ok(Some(())));
+/// assert_eq!(rt; told, Some(()));
+/// assert_eq!(rt; answers, [Ok(Answer { index: 0, reply: 5 }), Ok(Answer { index: 1, reply: 5 })]);
+/// ```
+pub struct PolledPipeline {
+    // As the pipeline had them.
+    members: Vec<Member>,
+    rooms: Vec<Installed>,
+    emptied: Vec<Session>,
+    list: Listed,
+}
+
+impl Model for PolledPipeline {
+    ghost use Rattle.std.specs.Prelude.{◌≡◌, ◌≤◌, List, [], length, vec_capacity};
+    ghost use Rattle.std.specs.Coded.{coded_list};
+    ghost use Rattle.store_steps.specs.Views.{SessionView};
+    ghost use Rattle.store.specs.Codes.{session_code};
+    ghost use Rattle.store.specs.Pipelines.{views_of};
+    ghost use Rattle.store.specs.PolledPipelines.{AreListed};
+
+    ghost Value = { List SessionView };
+
+    ghost coded = { coded_list session_code };
+
+    ghost view = { λ p. views_of p.members.items };
+
+    ghost invariant = { λ p. AreListed p.members.items p.rooms.items p.list.posted p.list.room.combining.batch p.list.room.combining.replies p.list.stage × (p.emptied.items ≡ []) × (length p.members.items ≤ vec_capacity p.emptied) };
+}
+
+// A list of calls that is out, or room for one.
+#[derive(Drop)]
+struct Listed {
+    room: EachRoom,
+    stage: EachStage,
+    // How many sessions wait for an answer, which are the first ones.
+    posted: usize,
+}
+
+impl Listed {
+    // Has the first sessions post, as many as there are calls.
+    fn begin_first(
+        &mut self,
+        shared: Shared<'_>,
+        calls: &[Question<'_>],
+        members: &mut [Member],
+    ) -> Option<()>
+        requires some { 0 < length calls.now }
+        requires few { length calls.now ≤ length members.old }
+        requires members { AreMembers shared.shelf.now.id (take (length calls.now) members.old) }
+        requires may { (j : ℕ) → MayAskAt shared (take (length calls.now) members.old) j }
+        requires idle { AreIdle (take (length calls.now) members.old) }
+        requires calls { AreCalls shared.catalogue.now calls.now }
+        requires ascend { AscendEach (take (length calls.now) members.old) }
+        ensures looked { IfNone result (LooksFirst members.old members.new (length calls.now)) }
+        ensures stays { IfNone result (self.new.posted ≡ self.old.posted) }
+        ensures begun { IfSome result (λ _. BeginsFirst members.old members.new calls.now self.new.room.combining self.new.stage) }
+        ensures posted { IfSome result (λ _. self.new.posted ≡ length calls.now) }
+    {
+        let first = &mut members[..calls.len()];
+        let Some(()) = try_begin_each(shared, first, calls, &mut self.room, &mut self.stage) else {
+            return None;
+        };
+        self.posted = calls.len();
+        Some(())
+    }
+
+    // Has the first sessions go on with their list.
+    fn finish_first(
+        &mut self,
+        shared: Shared<'_>,
+        members: &mut [Member],
+        count: usize,
+        replies: &mut [Reply],
+    ) -> Option<()>
+        requires some { 0 < count }
+        requires few { count ≤ length members.old }
+        requires room { length replies.old ≡ count }
+        requires members { AreMembers shared.shelf.now.id (take count members.old) }
+        requires on { AreOn shared (take count members.old) }
+        requires out { AreOut (take count members.old) self.old.room.combining.batch self.old.room.combining.replies self.old.stage }
+        ensures room { length replies.new ≡ count }
+        ensures waits { IfNone result (WaitsFirst members.old members.new count self.new.room.combining self.new.stage) }
+        ensures stays { IfNone result (self.new.posted ≡ self.old.posted) }
+        ensures finished { IfSome result (λ _. FinishesFirst members.old members.new count self.new.room.combining replies.new) }
+        ensures posted { IfSome result (λ _. self.new.posted ≡ 0) }
+    {
+        let first = &mut members[..count];
+        let Some(()) = go_on_each(shared, first, &mut self.room, &mut self.stage, replies) else {
+            return None;
+        };
+        self.posted = 0;
+        Some(())
+    }
+}
+
+impl PolledPipeline {
+    /// The pipeline, whose calls wait for nobody from now on.
+    ///
+    /// # Examples
+    ///
+    /// ```
+    /// use store::{Config, Pipeline, PolledPipeline, Store, load_manifest};
+    ///
+    /// let catalogue = load_manifest(rt.alloc(), "map array 8 16\n", &[])?;
+    /// let config = Config { nodes: 1, slots: 2, window: 16, limit: 100, spare: 0 };
+    /// let (store, sessions) = Store::open(rt.alloc(), config, catalogue)?;
+    /// let pipeline = match Pipeline::of(rt.alloc(), &store, sessions) { Ok(pipeline) => pipeline, Err(_) => unreachable!() };
+    ///
+    /// let polled = PolledPipeline::new(pipeline);
+    /// let count = polled.len();
+    /// let _closed = match store.close(polled.into_pipeline().into_sessions()) { Ok(closed) => closed, Err(_) => unreachable!() };
+    /// assert_eq!(rt; count, 2);
+    /// ```
+    pub fn new(pipeline: Pipeline) -> PolledPipeline
+        ensures same { result ≡ pipeline }
+    {
+        let Pipeline {
+            members,
+            rooms,
+            emptied,
+            asking,
+        } = pipeline;
+        PolledPipeline {
+            members,
+            rooms,
+            emptied,
+            list: Listed {
+                room: asking.room,
+                stage: EachStage::Claimed,
+                posted: 0,
+            },
+        }
+    }
+
+    /// The pipeline, whose calls wait for others again. No session waits for an answer.
+    ///
+    /// # Examples
+    ///
+    /// ```
+    /// use store::{Config, Pipeline, PolledPipeline, Store, load_manifest};
+    ///
+    /// let catalogue = load_manifest(rt.alloc(), "map array 8 16\n", &[])?;
+    /// let config = Config { nodes: 1, slots: 2, window: 16, limit: 100, spare: 0 };
+    /// let (store, sessions) = Store::open(rt.alloc(), config, catalogue)?;
+    /// let pipeline = match Pipeline::of(rt.alloc(), &store, sessions) { Ok(pipeline) => pipeline, Err(_) => unreachable!() };
+    /// let polled = PolledPipeline::new(pipeline);
+    ///
+    /// let pipeline = polled.into_pipeline();
+    /// let count = pipeline.len();
+    /// let _closed = match store.close(pipeline.into_sessions()) { Ok(closed) => closed, Err(_) => unreachable!() };
+    /// assert_eq!(rt; count, 2);
+    /// ```
+    pub fn into_pipeline(self) -> Pipeline
+        requires idle { AreWaiting 0 self }
+        ensures same { result ≡ self }
+    {
+        let PolledPipeline {
+            members,
+            rooms,
+            emptied,
+            list,
+        } = self;
+        Pipeline {
+            members,
+            rooms,
+            emptied,
+            asking: Asking { room: list.room },
+        }
+    }
+
+    /// How many sessions it has: so many updates may be asked for at once.
+    ///
+    /// # Examples
+    ///
+    /// ```
+    /// use store::{Config, Pipeline, PolledPipeline, Store, load_manifest};
+    ///
+    /// let catalogue = load_manifest(rt.alloc(), "map array 8 16\n", &[])?;
+    /// let config = Config { nodes: 1, slots: 2, window: 16, limit: 100, spare: 0 };
+    /// let (store, sessions) = Store::open(rt.alloc(), config, catalogue)?;
+    /// let pipeline = match Pipeline::of(rt.alloc(), &store, sessions) { Ok(pipeline) => pipeline, Err(_) => unreachable!() };
+    /// let polled = PolledPipeline::new(pipeline);
+    ///
+    /// let count = polled.len();
+    /// let _closed = match store.close(polled.into_pipeline().into_sessions()) { Ok(closed) => closed, Err(_) => unreachable!() };
+    /// assert_eq!(rt; count, 2);
+    /// ```
+    pub fn len(&self) -> usize
+        ensures count { result ≡ length self.now }
+    {
+        self.members.len()
+    }
+
+    /// How many of its sessions wait for an answer: the first ones, as many as the list that is out has calls. 0 where none is out.
+    ///
+    /// # Examples
+    ///
+    /// ```
+    /// use store::{Config, Pipeline, PolledPipeline, Question, Store, StoreRefused, load_manifest};
+    ///
+    /// let manifest = "map array 8 16\nprogram five update 0 five.hex\n";
+    /// let files = [("five.hex", "b7000000050000009500000000000000")]; // a program that replies 5
+    /// let catalogue = load_manifest(rt.alloc(), manifest, &files)?;
+    /// let config = Config { nodes: 1, slots: 2, window: 16, limit: 100, spare: 0 };
+    /// let (store, sessions) = Store::open(rt.alloc(), config, catalogue)?;
+    /// let pipeline = match Pipeline::of(rt.alloc(), &store, sessions) { Ok(pipeline) => pipeline, Err(_) => unreachable!() };
+    /// let mut polled = PolledPipeline::new(pipeline);
+    ///
+    /// let asked = polled.try_invoke_each(&store, &[Question { program: 0, argument: &[] }]);
+    /// let out = polled.waiting(); // of two sessions
+    /// let mut answers = [Err(StoreRefused::Ended); 1];
+    /// let told = polled.poll(&store, &mut answers);
+    /// let then = polled.waiting();
+    /// let _closed = match store.close(polled.into_pipeline().into_sessions()) { Ok(closed) => closed, Err(_) => unreachable!() };
+    /// assert_eq!(rt; (asked, told), (Ok(Some(())), Some(())));
+    /// assert_eq!(rt; (out, then), (1, 0));
+    /// ```
+    pub fn waiting(&self) -> usize
+        ensures waiting { AreWaiting result self.now }
+        ensures few { result ≤ length self.now }
+    {
+        self.list.posted
+    }
+
+    /// Posts an update for each call, as [`Pipeline::invoke_each`] does, in one hold of the node's desk; the first session claims the requests of the node in
+    /// it. [`poll`](PolledPipeline::poll) goes on with them. `None` if another session holds the desk, or combines there: nothing is posted then, and the
+    /// sessions may have looked at the desk. No session waits for an answer. No memory is taken.
+    ///
+    /// # Errors
+    ///
+    /// The first call that [`invoke`](Session::invoke) refuses, by S1 to S3: nothing is done then. S4 is an answer.
+    ///
+    /// # Examples
+    ///
+    /// ```
+    /// use store::{Config, Pipeline, PolledPipeline, Question, QuestionRefused, Store, StoreRefused, load_manifest};
+    ///
+    /// let manifest = "map array 8 16\nprogram five update 0 five.hex\n";
+    /// let files = [("five.hex", "b7000000050000009500000000000000")]; // a program that replies 5
+    /// let catalogue = load_manifest(rt.alloc(), manifest, &files)?;
+    /// let config = Config { nodes: 1, slots: 2, window: 16, limit: 100, spare: 0 };
+    /// let (store, sessions) = Store::open(rt.alloc(), config, catalogue)?;
+    /// let pipeline = match Pipeline::of(rt.alloc(), &store, sessions) { Ok(pipeline) => pipeline, Err(_) => unreachable!() };
+    /// let mut polled = PolledPipeline::new(pipeline);
+    ///
+    /// let call = Question { program: 0, argument: &[] };
+    /// let long = Question { program: 0, argument: &[1] };
+    /// let refused = polled.try_invoke_each(&store, &[call, long]);
+    /// let out = polled.waiting();
+    /// let _closed = match store.close(polled.into_pipeline().into_sessions()) { Ok(closed) => closed, Err(_) => unreachable!() };
+    /// assert_eq!(rt; refused, Err(QuestionRefused { number: 1, refused: StoreRefused::ArgumentLength }));
+    /// assert_eq!(rt; out, 0); // the refused list has done nothing
+    /// ```
+    pub fn try_invoke_each(
+        &mut self,
+        store: &Store,
+        calls: &[Question<'_>],
+    ) -> Result<Option<()>, QuestionRefused>
+        requires own { AreOf store.now self.old }
+        requires idle { AreWaiting 0 self.old }
+        requires few { length calls.now ≤ length self.old }
+        ensures sessions { EachGoesOn store.now self.old self.new }
+        ensures early { IsRefused (first_refused_in Update store.now.catalogue 0 calls.now) result (self.new ≡ self.old) }
+        ensures asked { MayUpdateEach store.now calls.now → TellsListed self.old self.new calls.now result }
+        ensures others { OthersStay (length calls.now) self.old self.new }
+    {
+        let PolledPipeline { members, list, .. } = self;
+        check_each(store.catalogue(), Mode::Update, calls)?;
+        if calls.is_empty() {
+            return Ok(Some(()));
+        }
+        let Some(()) = list.begin_first(store.shared(), calls, members) else {
+            return Ok(None);
+        };
+        Ok(Some(()))
+    }
+
+    /// Goes on with the list that is out, as far as nobody holds a place that it takes. Where the answer is `Some`, each session that waited has its answer:
+    /// that of the first call is the first, and so on, and later answers have higher indexes. `None` where it is to be called again: each update is posted
+    /// then, once, and not answered. No memory is taken.
+    ///
+    /// # Errors
+    ///
+    /// S4 in an answer: the history has all its records, and this request has none.
+    ///
+    /// # Examples
+    ///
+    /// ```
+    /// use store::{Answer, Config, Pipeline, PolledPipeline, Question, Store, StoreRefused, load_manifest};
+    ///
+    /// let manifest = "map array 8 16\nprogram five update 0 five.hex\n";
+    /// let files = [("five.hex", "b7000000050000009500000000000000")]; // a program that replies 5
+    /// let catalogue = load_manifest(rt.alloc(), manifest, &files)?;
+    /// let config = Config { nodes: 1, slots: 2, window: 16, limit: 1, spare: 0 };
+    /// let (store, sessions) = Store::open(rt.alloc(), config, catalogue)?;
+    /// let pipeline = match Pipeline::of(rt.alloc(), &store, sessions) { Ok(pipeline) => pipeline, Err(_) => unreachable!() };
+    /// let mut polled = PolledPipeline::new(pipeline);
+    ///
+    /// let mut answers = [Err(StoreRefused::UnknownProgram); 2];
+    /// let asked = polled.try_invoke_each(&store, &[Question { program: 0, argument: &[] }; 2]);
+    /// let told = polled.poll(&store, &mut answers); // nobody else holds a place
+    /// let _closed = match store.close(polled.into_pipeline().into_sessions()) { Ok(closed) => closed, Err(_) => unreachable!() };
+    /// assert_eq!(rt; (asked, told), (Ok(Some(())), Some(())));
+    /// assert_eq!(rt; answers, [Ok(Answer { index: 0, reply: 5 }), Err(StoreRefused::Ended)]); // the history has one record at most
+    /// ```
+    pub fn poll(
+        &mut self,
+        store: &Store,
+        answers: &mut [Result<Answer, StoreRefused>],
+    ) -> Option<()>
+        requires own { AreOf store.now self.old }
+        requires few { length answers.old ≤ length self.old }
+        requires waiting { AreWaiting (length answers.old) self.old }
+        ensures sessions { EachGoesOn store.now self.old self.new }
+        ensures kept { IfNone result (answers.new ≡ answers.old) }
+        ensures answered { EachIsTold self.old self.new answers.new result }
+        ensures in_order { IfSome result (λ _. AreInOrder answers.new) }
+        ensures others { OthersStay (length answers.old) self.old self.new }
+    {
+        let PolledPipeline { members, list, .. } = self;
+        if answers.is_empty() {
+            return Some(());
+        }
+        let mut room = [Reply::Ended; 16];
+        let replies = &mut room[..answers.len()];
+        let Some(()) = list.finish_first(store.shared(), members, answers.len(), replies) else {
+            return None;
+        };
+        say_each(replies, answers);
+        Some(())
+    }
+}
