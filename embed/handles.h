@@ -89,7 +89,7 @@ static inline unsigned one_more(unsigned tries) {
     return tries < SPINS ? tries + 1 : tries;
 }
 
-// A state's handle is the raw one. Only the calls that say so change it.
+// A state's handle is the raw one. A dump has the state out of it, and puts it back before it returns.
 static inline struct nrbpf_raw_state *raw_state_of(const nrbpf_state *state) {
     return (struct nrbpf_raw_state *)state;
 }

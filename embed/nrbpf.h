@@ -67,7 +67,7 @@ typedef struct nrbpf_state nrbpf_state;
 // The major number changes if a host has to be changed or compiled again. The
 // minor number changes if something is added.
 #define NRBPF_VERSION_MAJOR 2u
-#define NRBPF_VERSION_MINOR 3u
+#define NRBPF_VERSION_MINOR 4u
 #define NRBPF_VERSION (NRBPF_VERSION_MAJOR * 1000u + NRBPF_VERSION_MINOR)
 
 // Answers the version of the library. [any]
@@ -675,11 +675,12 @@ NRBPF_MUST_LOOK nrbpf_status nrbpf_try_snapshot(
 typedef int nrbpf_writer(void *to, const char *bytes, size_t len);
 
 // Dumps a state as the text that `nrbpf run --dump` writes and `--load` takes.
-// Hands it to `write` in parts of at most 16,384 bytes. The whole text is made
-// before the first part. No store is blocked. `write` may make calls, but none
-// on this state. Refuses with E0 if there is no memory for the text, and with
-// H7. As soon as `write` does not answer 0, refuses with H10. [any], with no
-// other call on this state at the same time.
+// Hands it to `write` in parts of at most 16,384 bytes. Before the first part it
+// takes 4 bytes for each key of the state, and 40 KiB more. It never has the
+// whole text in memory. No store is blocked. `write` may make calls, but none on
+// this state. Refuses with E0 if there is no memory, and with H7. As soon as
+// `write` does not answer 0, refuses with H10. [any], with no other call on this
+// state at the same time.
 NRBPF_MUST_LOOK nrbpf_status nrbpf_state_dump(
     const nrbpf_state *state, nrbpf_writer *write, void *to);
 

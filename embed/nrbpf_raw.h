@@ -115,9 +115,9 @@ struct nrbpf_raw_state {
 /* ---- a text's handle: its size is that of nrbpf_raw_text_size; what comes after these words is not for the host */
 
 struct nrbpf_raw_text {
-    /* answered, by dump */
-    uint64_t status;        /* 0 if the handle has a text */
-    uint64_t length;        /* how many bytes it has; 0 if there is no text */
+    /* answered */
+    uint64_t status;        /* by dump: 0 if the handle has a text */
+    uint64_t length;        /* by part: how many bytes it gave */
 };
 
 /* ---- what is said of a map, of a program and of a store: memory of the host's, all of which is written before it is passed in */
@@ -231,16 +231,17 @@ void nrbpf_raw_read_each(struct nrbpf_raw_session *session, const struct nrbpf_r
  * the state's has no state. With any other status than 0 the state is as it was. The words of the state's handle stay. */
 void nrbpf_raw_snapshot(struct nrbpf_raw_session *session, struct nrbpf_raw_state *state);
 
-/* Makes the text of a state, as `nrbpf run --dump` writes it, and writes the text's handle into the room at `text`. The state stays as it is. The text's
- * handle gets the status: 0, H2 if the state's handle has no state, E0 if there is no memory. With H2 and E0 it has no text, and its memory is as good as
- * room. */
+/* Gives the text of a state, as `nrbpf run --dump` writes it, part by part. Writes the text's handle into the room at `text`. The text's handle gets the
+ * status: 0, H2 if the state's handle has no state, E0 if there is no memory. With 0 the text has the state, until nrbpf_raw_drop_text. With H2 and E0 it
+ * has no text, its memory is as good as room, and the state's handle stays as it is. Takes 4 bytes for each key; the parts take nothing. */
 void nrbpf_raw_dump(struct nrbpf_raw_state *state, struct nrbpf_raw_text *text);
 
-/* Copies bytes of a text from its byte `from` on, as many as there are and `out` has room for, and returns how many. The rest of `out` stays as it was. */
-size_t nrbpf_raw_part(struct nrbpf_raw_text *text, uint64_t from, uint8_t *out, size_t room);
+/* Puts the next bytes of a text at the front of `out`. The word `length` of the text's handle gets their number: 0 only at the end, or if `room` is below
+ * 32,931, which is the most that a line has. */
+void nrbpf_raw_part(struct nrbpf_raw_text *text, uint8_t *out, size_t room);
 
-/* Ends a text. Then its handle is room. */
-void nrbpf_raw_drop_text(struct nrbpf_raw_text *at);
+/* Ends a text, and gives its state to the state's handle. Then the text's handle is closed, and its memory is as good as room. */
+void nrbpf_raw_drop_text(struct nrbpf_raw_text *text, struct nrbpf_raw_state *state);
 
 /* Loads the state that a text describes, for stores of the opening's manifest with `spare` places, and writes its handle into the room at `state`. Of the
  * opening only manifest, files, `spare` and `limits` count. Statuses, in the state's handle: 0, H4, C1 to C6, O1 (of `spare` or `limits`), E0 to E9. With

@@ -2,7 +2,7 @@
 #include "handles.h"
 #include <stdlib.h>
 
-enum { MOST_WRITTEN = 16384 };
+enum { MOST_READ = 40960, MOST_WRITTEN = 16384 };  // a line of a dump has room in the first
 
 nrbpf_status nrbpf_state_new(nrbpf_store *store, nrbpf_state **out) {
     if (!store || !out) {
@@ -24,13 +24,12 @@ nrbpf_status nrbpf_state_new(nrbpf_store *store, nrbpf_state **out) {
     return status;
 }
 
-// Gives the writer all of a text, a part a call.
-static nrbpf_status written(struct nrbpf_raw_text *text, nrbpf_writer *write, void *to) {
-    uint8_t part[MOST_WRITTEN];
-    uint64_t from = 0;
-    while (from < text->length) {
-        const size_t count = nrbpf_raw_part(text, from, part, sizeof part);
-        if (write(to, (const char *)part, count) != 0) {
+// Gives the writer these bytes.
+static nrbpf_status written(const uint8_t *bytes, size_t length, nrbpf_writer *write, void *to) {
+    size_t from = 0;
+    while (from < length) {
+        const size_t rest = length - from, count = rest < MOST_WRITTEN ? rest : (size_t)MOST_WRITTEN;
+        if (write(to, (const char *)bytes + from, count) != 0) {
             return NRBPF_H10;
         }
         from += count;
@@ -38,19 +37,30 @@ static nrbpf_status written(struct nrbpf_raw_text *text, nrbpf_writer *write, vo
     return NRBPF_OK;
 }
 
+// Gives the writer all of a text, which is read through this room of MOST_READ bytes.
+static nrbpf_status all_written(struct nrbpf_raw_text *text, uint8_t *room, nrbpf_writer *write, void *to) {
+    nrbpf_status status;
+    do {
+        nrbpf_raw_part(text, room, MOST_READ);
+        status = written(room, (size_t)text->length, write, to);
+    } while (status == NRBPF_OK && text->length > 0);
+    return status;
+}
+
 nrbpf_status nrbpf_state_dump(const nrbpf_state *state, nrbpf_writer *write, void *to) {
     if (!state || !write) {
         return NRBPF_H7;
     }
-    struct nrbpf_raw_text *text = (struct nrbpf_raw_text *)malloc(nrbpf_raw_text_size());
+    const size_t size = nrbpf_raw_text_size();
+    struct nrbpf_raw_text *text = (struct nrbpf_raw_text *)malloc(size + MOST_READ);
     if (!text) {
         return NRBPF_E0;
     }
     nrbpf_raw_dump(raw_state_of(state), text);
     nrbpf_status status = (nrbpf_status)text->status;
     if (status == NRBPF_OK) {
-        status = written(text, write, to);
-        nrbpf_raw_drop_text(text);
+        status = all_written(text, (uint8_t *)text + size, write, to);
+        nrbpf_raw_drop_text(text, raw_state_of(state));
     }
     free(text);
     return status;

@@ -1,5 +1,5 @@
 // dumps.c: states as text. A store's state is dumped and loaded, stores go on from it, and the dump of what they end in is what was counted there; the
-// texts that are refused, each with its line; and a file that `nrbpf --dump` wrote, which is loaded and dumped to the byte.
+// texts that are refused, each with its line; a text of many parts; and a file that `nrbpf --dump` wrote, which is loaded and dumped to the byte.
 //
 //     dumps [MANIFEST FILE..] STATE      loads STATE with this manifest and these program files in place of the counter's, and dumps it to
 //                                        standard output
@@ -141,6 +141,39 @@ static void wrong_calls(void) {
     nrbpf_state_free(state);
 }
 
+// ---- Many parts
+
+enum { ENTRIES = 3000, LINE = 36 };
+
+// What a dump has to be, how much of it has come, and from where on that is enough.
+typedef struct wanted {
+    const char *text;
+    size_t len, enough;
+} wanted;
+
+static int compare(void *to, const char *bytes, size_t len) {
+    wanted *it = (wanted *)to;
+    EXPECT(len > 0 && len <= 16384 && it->len + len <= ENTRIES * LINE && memcmp(it->text + it->len, bytes, len) == 0);
+    it->len += len;
+    return it->len >= it->enough;
+}
+
+// A text of many parts comes as it was loaded, also after a writer that had enough in the middle of it.
+static void many_parts(void) {
+    static char text[ENTRIES * LINE + 1];
+    const nrbpf_config config = config_of(0);
+    const char *const manifest = "map hash 8 8 3000\n";
+    nrbpf_state *state = NULL;
+    wanted half = {text, 0, ENTRIES * LINE / 2}, whole = {text, 0, SIZE_MAX};
+    for (unsigned i = 0; i < ENTRIES; i++) sprintf(text + i * LINE, "0 %016x %016x\n", i, 7 * i);
+    EXPECT_STATUS(nrbpf_state_load(&config, manifest, strlen(manifest), NULL, 0, text, ENTRIES * LINE, &state, NULL), NRBPF_OK);
+    EXPECT_STATUS(nrbpf_state_dump(state, compare, &half), NRBPF_H10);
+    EXPECT(half.len >= half.enough && half.len < half.enough + 16384);
+    EXPECT_STATUS(nrbpf_state_dump(state, compare, &whole), NRBPF_OK);
+    EXPECT(whole.len == ENTRIES * LINE);
+    nrbpf_state_free(state);
+}
+
 // ---- A file
 
 static int print(void *to, const char *bytes, size_t len) {
@@ -176,6 +209,7 @@ int main(int count, char **words) {
     bad_lines();
     too_many_keys();
     wrong_calls();
+    many_parts();
     give_back(&files);
     printf("two stores went on from dumps, and %d texts and calls were refused\n", refused);
     return 0;

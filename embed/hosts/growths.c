@@ -1,6 +1,6 @@
 // growths.c: refuses each call that takes memory each growth of it in turn, once alone and once with all behind it. Opening answers C6 or O2 then,
 // closing and a new state O2, a dump E0, loading C6, E0 or O2; nothing is left of what was to be made, and a store that was to be closed goes on. The
-// other calls ask for no memory at all.
+// other calls ask for no memory at all. A dump asks for no more than nrbpf.h says.
 //
 // It is linked with -Wl,--wrap=malloc,--wrap=calloc,--wrap=realloc,--wrap=aligned_alloc,--wrap=free, so that these come here first.
 #include "fixture.h"
@@ -11,10 +11,12 @@ void *__wrap_malloc(size_t), *__wrap_calloc(size_t, size_t), *__wrap_realloc(voi
 void __wrap_free(void *);
 
 static long growths, blocks;                    // how many were asked for, and how many are not given back
+static size_t asked_bytes;                      // how many bytes were asked for
 static long from, to;                           // the growths that are refused, counted from 1
 
-static int is_refused(void) {
+static int is_refused(size_t n) {
     growths++;
+    asked_bytes += n;
     return from <= growths && growths < to;
 }
 
@@ -23,12 +25,12 @@ static void *grown(void *block) {
     return block;
 }
 
-void *__wrap_malloc(size_t n) { return is_refused() ? NULL : grown(__real_malloc(n)); }
-void *__wrap_calloc(size_t n, size_t each) { return is_refused() ? NULL : grown(__real_calloc(n, each)); }
-void *__wrap_aligned_alloc(size_t to_what, size_t n) { return is_refused() ? NULL : grown(__real_aligned_alloc(to_what, n)); }
+void *__wrap_malloc(size_t n) { return is_refused(n) ? NULL : grown(__real_malloc(n)); }
+void *__wrap_calloc(size_t n, size_t each) { return is_refused(n * each) ? NULL : grown(__real_calloc(n, each)); }
+void *__wrap_aligned_alloc(size_t to_what, size_t n) { return is_refused(n) ? NULL : grown(__real_aligned_alloc(to_what, n)); }
 
 void *__wrap_realloc(void *block, size_t n) {
-    if (is_refused()) return NULL;
+    if (is_refused(n)) return NULL;
     void *moved = __real_realloc(block, n);
     return block ? moved : grown(moved);
 }
@@ -41,6 +43,7 @@ void __wrap_free(void *block) {
 // From now on these are refused. How many are asked for is counted anew.
 static void refuse(long first, long behind) {
     growths = 0;
+    asked_bytes = 0;
     from = first;
     to = behind;
 }
@@ -157,6 +160,28 @@ static nrbpf_status loaded_with(long first, long behind) {
     return told;
 }
 
+static int count_bytes(void *to, const char *bytes, size_t len) {
+    (void)bytes;
+    *(size_t *)to += len;
+    return 0;
+}
+
+// A dump takes 4 bytes for each key, and 40 KiB and a little more.
+static void dumped_in_little(void) {
+    enum { ENTRIES = 4096, LINE = 36, LITTLE = 4096 };
+    static char lines[ENTRIES * LINE + 1];
+    const nrbpf_config config = two_by_two();
+    const char *const manifest = "map hash 8 8 4096\n";
+    nrbpf_state *state = NULL;
+    size_t written = 0;
+    for (unsigned i = 0; i < ENTRIES; i++) sprintf(lines + i * LINE, "0 %016x %016x\n", i, i);
+    EXPECT_STATUS(nrbpf_state_load(&config, manifest, strlen(manifest), NULL, 0, lines, ENTRIES * LINE, &state, NULL), NRBPF_OK);
+    refuse(0, 0);
+    EXPECT_STATUS(nrbpf_state_dump(state, count_bytes, &written), NRBPF_OK);
+    EXPECT(written == ENTRIES * LINE && asked_bytes < 4 * ENTRIES + 40960 + LITTLE);
+    nrbpf_state_free(state);
+}
+
 // ---- Each in turn
 
 // Refuses a call each of its growths in turn, and writes how often it answered what.
@@ -226,6 +251,7 @@ int main(void) {
     EXPECT(strcmp(text.text, "0 03000000 0100000000000000\n") == 0);
     refused_in_turn("nrbpf_state_dump", dumped_with);
     refused_in_turn("nrbpf_state_load", loaded_with);
+    dumped_in_little();
     nrbpf_state_free(on);
     counted_once = opened(&config);
     counts(counted_once, 1);

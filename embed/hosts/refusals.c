@@ -350,6 +350,9 @@ static void states(void) {
     EXPECT(point == 1);
     REFUSE(nrbpf_state_dump(state, stops, &written), NRBPF_STOPPED);
     EXPECT(written == strlen("0 03000000 0100000000000000\n"));
+    static dump whole;
+    dump_state(state, &whole);                  // the state is as it was
+    EXPECT(strcmp(whole.text, "0 03000000 0100000000000000\n") == 0);
     REFUSE(nrbpf_state_dump(NULL, stops, &written), NRBPF_H7);
     REFUSE(nrbpf_state_dump(state, NULL, &written), NRBPF_H7);
     nrbpf_state_free(state);

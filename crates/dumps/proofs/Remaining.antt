@@ -8,7 +8,8 @@ use Rattle.std.proofs.lemmas.Option.{slice_get-map, unwrap_or-slice_get}
 use Rattle.maps.specs.Maps.{MapState}
 use Rattle.maps.specs.MapSets.{Contents, Stored, entries_of, map_of, maps_of, stored_shapes}
 use Rattle.maps.proofs.Export.{stored_there}
-use Rattle.loader.specs.StoreState.{StoreState}
+use Rattle.loader.specs.Installed.{InstalledView}
+use Rattle.loader.specs.StoreState.{state_of}
 use Rattle.dumps.specs.Dumping.{dump}
 use Rattle.dumps.specs.Written.{entries_at, kept_text, map_text, maps_text, place_text, program_line_text}
 use Rattle.dumps.specs.Pieces.{HaveLines, left_in, left_text, rest_count, rest_of, row_count, row_text, rows_left, rows_of, tables_text}
@@ -125,11 +126,11 @@ pushed_more c m tables new t is low sorted h = subst (HaveLines c (m + 1)) (sym 
 
 -- ---- the text
 
-pub state_text : (c : Contents) (tables : List (List ℕ)) (lines : List ℕ) (s : StoreState) → HaveLines c (length (stored_shapes c)) tables → maps_of c ≡ s.maps → lines ≡ flat_map program_line_text s.programs
-    → left_text c tables lines (record { map = 0; row = 0; byte = 0 }) ≡ dump s
-state_text c tables lines s h maps programs =
+pub parts_text : (c : Contents) (tables : List (List ℕ)) (lines : List ℕ) (v : InstalledView) → HaveLines c (length (stored_shapes c)) tables → lines ≡ flat_map program_line_text v.programs
+    → left_text c tables lines (record { map = 0; row = 0; byte = 0 }) ≡ dump (state_of (maps_of c) v)
+parts_text c tables lines v h programs =
     let whole = maps_end c (length (stored_shapes c)) (tables_text c 0 tables) (maps_text 0 (maps_of c)) (le_refl _) h.1 in
-    ap (λ u. u ++ lines) (first_rows c 0 tables ∙ whole) ∙ ap₂ (λ ms ls. maps_text 0 ms ++ ls) maps programs ∙ dumped s
+    ap (λ u. u ++ lines) (first_rows c 0 tables ∙ whole) ∙ ap (λ ls. maps_text 0 (maps_of c) ++ ls) programs ∙ dumped (state_of (maps_of c) v)
 
 -- a row that was written
 pub row_read : (all t u x a b d e : List ℕ) → all ≡ t ++ (a ++ d) → a ≡ x ++ b → u ≡ t ++ x → e ≡ d → all ≡ u ++ (b ++ e)

@@ -42,3 +42,12 @@ lines_of s = map Entry (entries_of s.maps) ++ map (λ c. Program (program_line c
 -- a state as text
 unfoldable pub dump : StoreState → List ℕ
 dump s = flat_map (λ l. text_of l ++ codes "\n") (lines_of s)
+
+-- a state, and what is left of its text
+pub record StateText : Type 0 where
+  pub state : StoreState
+  pub left : List ℕ
+
+-- all of its text is left
+abbrev pub whole_text : StoreState → StateText
+whole_text s = record { state = s; left = dump s }

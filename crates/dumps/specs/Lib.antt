@@ -12,3 +12,4 @@ pub mod FirstBad
 pub mod Shown
 pub mod Written
 pub mod Pieces
+pub mod Codes

@@ -1,8 +1,13 @@
 -- The text that is left of a state, by the tables of the places of its keys. No clause of a call cites this module.
-use Rattle.std.specs.Prelude.{◌≡◌, ℕ, ◌+◌, ◌-◌, ◌<◌, List, [], ◌∷◌, ◌++◌, drop, length, map, slice_get, Vec}
+use Rattle.std.specs.Prelude.{◌≡◌, ℕ, ◌+◌, ◌-◌, ◌<◌, ◌≤◌, List, [], ◌∷◌, ◌++◌, drop, length, map, slice_get, Vec}
 use Rattle.std.specs.List.{flat_map}
 use Rattle.std.specs.Option.{option_map_or}
-use Rattle.maps.specs.MapSets.{Contents, maps_of}
+use Rattle.maps.specs.Shapes.{AreShapesSupported}
+use Rattle.maps.specs.MapSets.{Contents, maps_of, stored_shapes}
+use Rattle.loader.specs.Installed.{InstalledView}
+use Rattle.loader.specs.StoreState.{state_of}
+use Rattle.dumps.specs.Dumping.{dump}
+use Rattle.dumps.specs.declared.pieces.Left.{Left}
 use Rattle.dumps.specs.declared.pieces.Next.{Next}
 use Rattle.dumps.specs.declared.pieces.Row.{Row}
 use Rattle.dumps.specs.Written.{maps_text, place_text}
@@ -62,3 +67,14 @@ HaveLines c m tables = (length tables ≡ m) × (tables_text c 0 tables ++ maps_
 
 abbrev pub rows_of : {X : Type 0} → List (Vec ℕ X) → List (List ℕ)
 rows_of tables = map (λ t. t.items) tables
+
+abbrev pub left_of : Contents → Left → List ℕ
+left_of c l = left_text c (rows_of l.tables.items) l.lines.items l.next
+
+-- a store may have these maps, no more tables are left than there are maps, and the programs' lines go on at one of their bytes
+abbrev pub IsLeftOf : Contents → Left → Type 0
+IsLeftOf c l = AreShapesSupported (stored_shapes c) × (length l.tables.items ≤ length (stored_shapes c)) × (l.next.byte ≤ length l.lines.items)
+
+-- all of the text of maps and programs is left
+abbrev pub IsWhole : Contents → InstalledView → Left → Type 0
+IsWhole c programs l = IsLeftOf c l × (left_of c l ≡ dump (state_of (maps_of c) programs))

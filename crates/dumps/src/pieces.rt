@@ -1,19 +1,20 @@
 // A state as text, piece by piece.
 
-ghost use Rattle.std.specs.Prelude.{◌≡◌, ◌++◌, ◌+◌, ◌*◌, ◌≤◌, ◌<◌, [], IfOk, IfSome, IfNone, codes, drop, length, take};
+ghost use Rattle.std.specs.Prelude.{◌≡◌, ◌++◌, ◌+◌, ◌*◌, ◌≤◌, ◌<◌, [], IfErr, IfOk, IfSome, IfNone, codes, drop, length, take};
 ghost use Rattle.hex.specs.Hex.{encode_lower};
+ghost use Rattle.maps.specs.Maps.{HasShapes, shapes_of};
 ghost use Rattle.maps.specs.Shapes.{AreShapesSupported};
-ghost use Rattle.maps.specs.MapSets.{Contents, stored_shapes};
-ghost use Rattle.dumps.specs.Dumping.{dump, entry_text};
+ghost use Rattle.maps.specs.MapSets.{Contents, maps_of, stored_shapes};
+ghost use Rattle.dumps.specs.Dumping.{dump, entry_text, whole_text};
 ghost use Rattle.dumps.specs.Written.{entry_line};
-ghost use Rattle.dumps.specs.Pieces.{Gives, GivesRow, HasFewer, HaveLines, left_in, left_text, row_text, rows_of};
+ghost use Rattle.dumps.specs.Pieces.{Gives, GivesRow, HasFewer, HaveLines, IsWhole, left_in, left_text, row_text, rows_of};
 
 use crate::dumping::put_programs;
 use crate::lines::DUMP_LINE_BYTES;
 use crate::loading::is_left_out;
 use crate::sorting::{KEY_ROOM, read_key, sorted_places};
 use itoa::Buffer;
-use loader::StoreState;
+use loader::{Installed, StoreState};
 use maps::MapSet;
 use std::alloc::{AllocError, Global};
 use std::marker::Model;
@@ -168,18 +169,6 @@ fn read_next(
     at
 }
 
-/// The text of a state, piece by piece: what is left of it. It needs four bytes for each key of the maps, which it
-/// takes when it is made, and no more.
-#[derive(Drop)]
-pub struct Dumping<'a> {
-    maps: &'a MapSet,
-    // Of each map the places of its keys, in the order of the keys.
-    tables: Vec<Vec<u32>>,
-    // The lines of the programs.
-    lines: Vec<u8>,
-    next: Next,
-}
-
 // The tables of all maps.
 fn sorted_tables(alloc: Global, maps: &MapSet) -> Result<Vec<Vec<u32>>, AllocError>
     requires shapes { AreShapesSupported (stored_shapes maps.now) }
@@ -193,18 +182,51 @@ fn sorted_tables(alloc: Global, maps: &MapSet) -> Result<Vec<Vec<u32>>, AllocErr
     Ok(tables)
 }
 
+// What is left of the text of maps and programs. It stays good while these stay as they are.
+#[derive(Drop)]
+struct Left {
+    // Of each map the places of its keys, in the order of the keys.
+    tables: Vec<Vec<u32>>,
+    // The lines of the programs.
+    lines: Vec<u8>,
+    next: Next,
+}
+
+// All of the text of maps and programs.
+fn whole(alloc: Global, maps: &MapSet, programs: &Installed) -> Result<Left, AllocError>
+    requires programs { programs.now.shapes ≡ shapes_of (maps_of maps.now) }
+    ensures { IfOk result (IsWhole maps.now programs.now) }
+{
+    // (that a store may have these maps: the proof takes it from this call)
+    let _places = programs.places();
+    let tables = sorted_tables(alloc, maps)?;
+    let mut lines = Vec::new(alloc);
+    put_programs(alloc, &mut lines, programs)?;
+    Ok(Left {
+        tables,
+        lines,
+        next: first(),
+    })
+}
+
+/// The text of a state, piece by piece: what is left of it. It needs four bytes for each key of the maps, which it
+/// takes when it is made, and no more.
+#[derive(Drop)]
+pub struct Dumping<'a> {
+    maps: &'a MapSet,
+    left: Left,
+}
+
 impl<'a> Model for Dumping<'a> {
-    ghost use Rattle.std.specs.Prelude.{ℕ, List, ◌≤◌, length};
-    ghost use Rattle.maps.specs.Shapes.{AreShapesSupported};
-    ghost use Rattle.maps.specs.MapSets.{stored_shapes};
+    ghost use Rattle.std.specs.Prelude.{ℕ, List};
 
     ghost Value = { List ℕ };
 
-    ghost use Rattle.dumps.specs.Pieces.{left_text, rows_of};
+    ghost use Rattle.dumps.specs.Pieces.{IsLeftOf, left_of};
 
-    ghost view = { λ d. left_text d.maps.now (rows_of d.tables.items) d.lines.items d.next };
+    ghost view = { λ d. left_of d.maps.now d.left };
 
-    ghost invariant = { λ d. AreShapesSupported (stored_shapes d.maps.now) × (length d.tables.items ≤ length (stored_shapes d.maps.now)) × (d.next.byte ≤ length d.lines.items) };
+    ghost invariant = { λ d. IsLeftOf d.maps.now d.left };
 }
 
 impl<'a> Dumping<'a> {
@@ -217,18 +239,8 @@ impl<'a> Dumping<'a> {
         ensures { IfOk result (λ d. d ≡ dump state.now) }
     {
         let maps = state.maps();
-        let programs = state.programs();
-        // (that a store may have these maps: the proof takes it from this call)
-        let _places = programs.places();
-        let tables = sorted_tables(alloc, maps)?;
-        let mut lines = Vec::new(alloc);
-        put_programs(alloc, &mut lines, programs)?;
-        Ok(Dumping {
-            maps,
-            tables,
-            lines,
-            next: first(),
-        })
+        let left = whole(alloc, maps, state.programs())?;
+        Ok(Dumping { maps, left })
     }
 
     /// Writes the next bytes of the text to the front of room, and says how many: none only at the end.
@@ -238,6 +250,81 @@ impl<'a> Dumping<'a> {
         ensures end { result ≡ 0 → self.old ≡ [] }
         ensures bound { result ≤ length room.new }
     {
-        read_next(self.maps, &self.tables, &self.lines, &mut self.next, room)
+        let left = &mut self.left;
+        read_next(self.maps, &left.tables, &left.lines, &mut left.next, room)
+    }
+}
+
+/// A state, and what is left of its text: a [`Dumping`] that has the state itself, and gives it back.
+#[derive(Drop)]
+pub struct StateText {
+    maps: MapSet,
+    programs: Installed,
+    left: Left,
+}
+
+impl Model for StateText {
+    ghost use Rattle.std.specs.Prelude.{◌≡◌};
+    ghost use Rattle.maps.specs.Maps.{HasShapes, shapes_of};
+    ghost use Rattle.maps.specs.MapSets.{maps_of};
+    ghost use Rattle.loader.specs.StoreState.{state_of};
+    ghost use Rattle.dumps.specs.Dumping.{StateText as Text};
+
+    ghost Value = { Text };
+
+    ghost use Rattle.dumps.specs.Codes.{text_code};
+    ghost use Rattle.dumps.specs.Pieces.{IsLeftOf, left_of};
+
+    ghost coded = { text_code };
+
+    ghost view = { λ t. record { state = state_of (maps_of t.maps) t.programs; left = left_of t.maps t.left } };
+
+    // The programs are for the maps.
+    ghost invariant = { λ t. HasShapes (shapes_of (maps_of t.maps)) (maps_of t.maps) × (t.programs.shapes ≡ shapes_of (maps_of t.maps)) × IsLeftOf t.maps t.left };
+}
+
+impl StateText {
+    /// Takes a state. All of its text is left.
+    ///
+    /// # Errors
+    ///
+    /// The system has no memory left: then the state comes back.
+    pub fn new(alloc: Global, state: StoreState) -> Result<StateText, StoreState>
+        ensures text { IfOk result (λ t. t ≡ whole_text state) }
+        ensures state { IfErr result (λ s. s ≡ state) }
+    {
+        let (maps, programs) = state.into_parts();
+        match whole(alloc, &maps, &programs) {
+            Ok(left) => Ok(StateText {
+                maps,
+                programs,
+                left,
+            }),
+            Err(_) => Err(StoreState::of(maps, programs)),
+        }
+    }
+
+    /// Writes the next bytes of the text to the front of room, and says how many: none only at the end.
+    pub fn read(&mut self, room: &mut [u8]) -> usize
+        requires room { DUMP_LINE_BYTES ≤ length room.old }
+        ensures state { self.new.state ≡ self.old.state }
+        ensures read { self.old.left ≡ take result room.new ++ self.new.left }
+        ensures end { result ≡ 0 → self.old.left ≡ [] }
+        ensures bound { result ≤ length room.new }
+    {
+        let left = &mut self.left;
+        read_next(&self.maps, &left.tables, &left.lines, &mut left.next, room)
+    }
+
+    /// Gives the state back.
+    pub fn into_state(self) -> StoreState
+        ensures state { result ≡ self.state }
+    {
+        let StateText {
+            maps,
+            programs,
+            left: _,
+        } = self;
+        StoreState::of(maps, programs)
     }
 }

@@ -14,7 +14,7 @@ ghost use Rattle.host_calls.specs.Loadings.{IsLoaded};
 ghost use Rattle.host_calls.specs.Looks.{Answers, Gets, Scans, Snaps};
 ghost use Rattle.host_calls.specs.Describing.{DescribesMap, DescribesProgram, DescribesStore};
 ghost use Rattle.host_calls.specs.Measuring.{Measures};
-ghost use Rattle.host_calls.specs.States.{IsDumped, IsPart, Makes, bytes_in};
+ghost use Rattle.host_calls.specs.States.{Dumps, GivesPart, Makes, Returns};
 ghost use Rattle.host_calls.specs.Rooms.{holds_facts, holds_map, holds_program, holds_session, holds_state, holds_stats, holds_store, holds_text};
 ghost use Rattle.host_calls.specs.contracts.handles.SessionHandle.{the_row as the_session};
 ghost use Rattle.host_calls.specs.contracts.handles.StateHandle.{the_row as the_state};
@@ -246,12 +246,13 @@ pub unsafe extern "C" fn nrbpf_raw_snapshot(at: *mut u8, state: *mut u8)
     );
 }
 
-/// Writes the handle of a state's text. That has none where there is none.
+/// Writes the handle of a state's text. It has the state until `nrbpf_raw_drop_text` gives that back. The handle has no text, and the state stays, where
+/// the call is refused.
 #[unsafe(no_mangle)]
 pub unsafe extern "C" fn nrbpf_raw_dump(alloc: Global, state: *mut u8, room: *mut u8)
     ghost value: { StateHandle }
     requires* { sem 𝓛 (holds_state state value) ∗ sem 𝓛 (room_at the_text room) }
-    ensures* { ∃ₛ (λ given. sem 𝓛 (holds_state state value) ∗ sem 𝓛 (holds_text room given) ∗ ⌜ IsDumped value.own given ⌝) }
+    ensures* { ∃ₛ (λ after. ∃ₛ (λ given. sem 𝓛 (holds_state state after) ∗ sem 𝓛 (holds_text room given) ∗ ⌜ Dumps value after given ⌝)) }
 {
     std::ptr::write(
         room as *mut TextHandle,
@@ -259,24 +260,27 @@ pub unsafe extern "C" fn nrbpf_raw_dump(alloc: Global, state: *mut u8, room: *mu
     );
 }
 
-/// Copies bytes of a text from a place on, and returns how many.
+/// Puts the next bytes of a text into `out`, and their number into the text's words: 0 only at the end, or if a line has no room in `out`.
 #[unsafe(no_mangle)]
-pub unsafe extern "C" fn nrbpf_raw_part(text: *mut u8, from: u64, out: &mut [u8]) -> usize
+pub unsafe extern "C" fn nrbpf_raw_part(text: *mut u8, out: &mut [u8])
     ghost value: { TextHandle }
     requires* { sem 𝓛 (holds_text text value) }
-    ensures* { sem 𝓛 (holds_text text value) ∗ ⌜ IsPart (bytes_in value.own) from out.old out.new result ⌝ }
+    ensures* { ∃ₛ (λ after. sem 𝓛 (holds_text text after) ∗ ⌜ GivesPart value after out.new ⌝) }
 {
-    part(&mut *(text as *mut TextHandle), from, out)
+    part(&mut *(text as *mut TextHandle), out);
 }
 
-/// Gives a text up. Its handle is room then.
+/// Ends a text. Its handle is closed then, and the state's handle has the state again.
 #[unsafe(no_mangle)]
-pub unsafe extern "C" fn nrbpf_raw_drop_text(at: *mut u8)
-    ghost value: { TextHandle }
-    requires* { sem 𝓛 (holds_text at value) }
-    ensures* { sem 𝓛 (room_at the_text at) }
+pub unsafe extern "C" fn nrbpf_raw_drop_text(text: *mut u8, state: *mut u8)
+    ghost values: { TextHandle × StateHandle }
+    requires* { sem 𝓛 (holds_text text values.0) ∗ sem 𝓛 (holds_state state values.1) }
+    ensures* { ∃ₛ (λ after. ∃ₛ (λ left. sem 𝓛 (holds_text text after) ∗ sem 𝓛 (holds_state state left) ∗ ⌜ Returns values.0 after values.1 left ⌝)) }
 {
-    drop_text(&mut *(at as *mut TextHandle));
+    drop_text(
+        &mut *(text as *mut TextHandle),
+        &mut *(state as *mut StateHandle),
+    );
 }
 
 /// Loads a text as a state, and writes its handle. That has none where the text or the manifest is refused.

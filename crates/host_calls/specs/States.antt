@@ -1,11 +1,11 @@
 -- States that are made beside a store, and their texts.
-use Rattle.std.specs.Prelude.{◌≡◌, ℕ, min, List, [], ◌++◌, length, take, drop, None, Some, Option, MatchOption}
+use Rattle.std.specs.Prelude.{◌≡◌, ℕ, ◌≤◌, List, [], ◌++◌, length, take, None, Some, Option, MatchOption}
+use Rattle.std.specs.Option.{option_map}
 use Rattle.std.specs.Arc.{arc_value}
-use Rattle.std.specs.declared.alloc.Global.{Global}
-use Rattle.std.specs.declared.vec.Vec.{Vec}
 use Rattle.loader.specs.CatalogueView.{sizes_for}
 use Rattle.loader.specs.StoreState.{StoreState, opened_state}
-use Rattle.dumps.specs.Dumping.{dump}
+use Rattle.dumps.specs.Dumping.{StateText, whole_text}
+use Rattle.dumps.specs.declared.lines.TheConstants.{DUMP_LINE_BYTES}
 use Rattle.store.specs.Sessions.{StoreView}
 use Rattle.host_calls.specs.declared.handles.StateHandle.{StateHandle}
 use Rattle.host_calls.specs.declared.handles.StoreHandle.{StoreHandle}
@@ -30,22 +30,38 @@ pub record Makes (before after : StoreHandle) (given : StateHandle) : Type 0 whe
   pub makes : MatchOption before.own ((given.own ≡ None) × (after.answered.status ≡ not_open))
       (λ b. MatchOption given.own (after.answered.status ≡ no_memory) (λ s. (s ≡ new_state_of (arc_value b.value.store)) × (after.answered.status ≡ done)))
 
--- ---- the text of a state
+-- ---- the text of a state: its handle has the state until the text ends
 
 abbrev pub text_words : (status length : ℕ) → TextAnswered
 text_words status length = record { status = status; length = length }
 
--- of a handle's state the dump, and how long it is, or none for want of memory; or the handle has no state
-abbrev pub IsDumped : Option StoreState → TextHandle → Type 0
-IsDumped state given =
-    MatchOption state ((given.own ≡ None) × (given.answered ≡ text_words not_open 0))
-    (λ s. MatchOption given.own (given.answered ≡ text_words no_text_room 0) (λ v. (v.items ≡ dump s) × (given.answered ≡ text_words done (length (dump s)))))
+-- the state of which a handle has the text
+abbrev pub state_in : Option StateText → Option StoreState
+state_in text = option_map (λ t. t.state) text
 
--- the bytes of a handle's text; where it has none, no bytes
-abbrev pub bytes_in : Option (Vec ℕ Global) → List ℕ
-bytes_in None = []
-bytes_in (Some v) = v.items
+-- what is left of that text; where there is none, no bytes
+abbrev pub left_in : Option StateText → List ℕ
+left_in None = []
+left_in (Some t) = t.left
 
--- the first n bytes are those from this place on, as many as there are and there is room for; the others stay
-abbrev pub IsPart : (bytes : List ℕ) → (from : ℕ) → (before after : List ℕ) → (n : ℕ) → Type 0
-IsPart bytes from before after n = (n ≡ min (length (drop from bytes)) (length before)) × (after ≡ take n (drop from bytes) ++ drop n before)
+-- a state goes to a text's handle, and all of its text is left. Where there is no memory for that, it stays; or the handle has no state
+pub record Dumps (before after : StateHandle) (given : TextHandle) : Type 0 where
+  pub answered : after.answered ≡ before.answered
+  pub dumps : MatchOption before.own ((given.own ≡ None) × (after.own ≡ None) × (given.answered ≡ text_words not_open 0))
+      (λ s. MatchOption given.own ((after.own ≡ Some s) × (given.answered ≡ text_words no_text_room 0))
+      (λ t. (t ≡ whole_text s) × (after.own ≡ None) × (given.answered ≡ text_words done 0)))
+
+-- the first bytes of the room are the next ones of what was left, and the rest of it is left now. There are none only at the end, or where a line has no
+-- room. The state stays
+pub record GivesPart (before after : TextHandle) (room : List ℕ) : Type 0 where
+  pub state : state_in after.own ≡ state_in before.own
+  pub status : after.answered.status ≡ before.answered.status
+  pub bound : after.answered.length ≤ length room
+  pub part : left_in before.own ≡ take after.answered.length room ++ left_in after.own
+  pub end : after.answered.length ≡ 0 → DUMP_LINE_BYTES ≤ length room → left_in before.own ≡ []
+
+-- the text ends, and its state goes back to a handle, which else stays as it is
+pub record Returns (before after : TextHandle) (held left : StateHandle) : Type 0 where
+  pub closed : after.own ≡ None
+  pub answered : left.answered ≡ held.answered
+  pub returns : MatchOption before.own (left.own ≡ held.own) (λ t. left.own ≡ Some t.state)

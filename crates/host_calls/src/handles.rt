@@ -4,6 +4,7 @@ ghost use Rattle.std.specs.Prelude.{◌≡◌};
 
 use crate::attached::Attached;
 use crate::pool::Pool;
+use dumps::StateText;
 use store::{MapLimits, StoreState};
 
 /// How many bytes the name of a program may have.
@@ -169,23 +170,23 @@ pub struct StateHandle {
     pub own: Option<StoreState>,
 }
 
-/// What is answered where a text is written.
+/// What is answered at a text's handle.
 #[repr(C)]
 #[derive(Clone, Copy)]
 pub struct TextAnswered {
-    /// What became of the call.
+    /// `dump`: what became of the call.
     pub status: u64,
-    /// How many bytes the text has; 0 where there is none.
+    /// `part`: how many bytes it gave; 0 before the first.
     pub length: u64,
 }
 
-/// What lies at a text's handle. The last field is not for the host, and empty where there is no text.
+/// What is at a text's handle. The last field is not for the host. It has the state whose text it is, and is empty if there is none.
 #[repr(C)]
 #[derive(Drop)]
 pub struct TextHandle {
     /// What the host is answered.
     pub answered: TextAnswered,
-    pub own: Option<Vec<u8>>,
+    pub own: Option<StateText>,
 }
 
 fn crosses<T: Send + Drop>(value: T) {
@@ -259,12 +260,12 @@ impl StateHandle {
 }
 
 impl TextHandle {
-    /// A handle with this text, of so many bytes.
-    pub fn new(own: Option<Vec<u8>>, status: u64, length: u64) -> TextHandle
+    /// A handle with this text, and this status.
+    pub fn new(own: Option<StateText>, status: u64) -> TextHandle
         ensures own { result.own ≡ own }
-        ensures answered { result.answered ≡ record { status = status; length = length } }
+        ensures answered { result.answered ≡ record { status = status; length = 0 } }
     {
-        let answered = TextAnswered { status, length };
+        let answered = TextAnswered { status, length: 0 };
         TextHandle { answered, own }
     }
 }

@@ -1,11 +1,10 @@
 // States beside a store, and their texts.
 
-ghost use Rattle.std.specs.Prelude.{◌≡◌, None};
-ghost use Rattle.host_calls.specs.States.{IsDumped, IsPart, Makes, bytes_in};
+ghost use Rattle.host_calls.specs.States.{Dumps, GivesPart, Makes, Returns};
 
 use crate::handles::{StateAnswered, StateHandle, StoreHandle, TextHandle};
 use crate::statuses::{DONE, NO_MEMORY, NO_TEXT_ROOM, NOT_OPEN};
-use dumps::dump;
+use dumps::{DUMP_LINE_BYTES, StateText};
 use std::alloc::Global;
 
 /// A new state of the store's sizes.
@@ -28,41 +27,42 @@ pub fn make_state(alloc: Global, handle: &mut StoreHandle) -> StateHandle
     }
 }
 
-/// A state as text.
+/// The text of a state, part by part. The state goes to the text's handle, until [`drop_text`] gives it back. It takes four bytes for each key of
+/// the maps, and the parts take no more.
 pub fn dump_state(alloc: Global, state: &mut StateHandle) -> TextHandle
-    ensures dumped { (state.new ≡ state.old) × IsDumped state.old.own result }
+    ensures dumped { Dumps state.old state.new result }
 {
-    let Some(state) = &state.own else {
-        return TextHandle::new(None, NOT_OPEN, 0);
+    let Some(held) = state.own.take() else {
+        return TextHandle::new(None, NOT_OPEN);
     };
-    match dump(alloc, state) {
-        Ok(text) => {
-            let length = text.len() as u64;
-            TextHandle::new(Some(text), DONE, length)
+    match StateText::new(alloc, held) {
+        Ok(text) => TextHandle::new(Some(text), DONE),
+        Err(held) => {
+            state.own = Some(held);
+            TextHandle::new(None, NO_TEXT_ROOM)
         }
-        Err(_) => TextHandle::new(None, NO_TEXT_ROOM, 0),
     }
 }
 
-/// Copies bytes of a text from a place on, and answers how many.
-pub fn part(text: &mut TextHandle, from: u64, out: &mut [u8]) -> usize
-    ensures part { (text.new ≡ text.old) × IsPart (bytes_in text.old.own) from out.old out.new result }
+/// Puts the next bytes of a text at the front of `out`, and answers how many: none only at the end, or if `out` is shorter than
+/// [`DUMP_LINE_BYTES`].
+pub fn part(text: &mut TextHandle, out: &mut [u8])
+    ensures part { GivesPart text.old text.new out.new }
 {
-    let Some(bytes) = &text.own else {
-        return 0;
-    };
-    if from >= bytes.len() as u64 {
-        return 0;
+    text.answered.length = 0;
+    if out.len() < DUMP_LINE_BYTES {
+        return;
     }
-    let rest = &bytes[from as usize..];
-    let count = rest.len().min(out.len());
-    out[..count].copy_from_slice(&rest[..count]);
-    count
+    if let Some(own) = &mut text.own {
+        text.answered.length = own.read(out) as u64;
+    }
 }
 
-/// Gives a text up.
-pub fn drop_text(handle: &mut TextHandle)
-    ensures { handle.new.own ≡ None }
+/// Ends a text. Its state goes back to the state's handle.
+pub fn drop_text(text: &mut TextHandle, state: &mut StateHandle)
+    ensures returned { Returns text.old text.new state.old state.new }
 {
-    handle.own = None;
+    if let Some(own) = text.own.take() {
+        state.own = Some(own.into_state());
+    }
 }

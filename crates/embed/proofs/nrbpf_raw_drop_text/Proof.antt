@@ -1,16 +1,14 @@
--- `nrbpf_raw_drop_text` lends the text to `drop_text`.
-use Rattle.std.proofs.Common.{◌≡◌, None, refl}
-use Rattle.host_calls.specs.contracts.handles.TextHandle.{the_row as R}
+-- `nrbpf_raw_drop_text` lends both handles to `drop_text`.
+use Rattle.host_calls.specs.States.{Returns}
+use Rattle.host_calls.specs.contracts.handles.TextHandle.{the_row as S}
+use Rattle.host_calls.specs.contracts.handles.StateHandle.{the_row as R}
 use Rattle.host_calls.specs.contracts.states.drop_text as g
 use Rattle.host_calls.proofs.states.drop_text.Met.{met}
 use Rattle.embed.specs.contracts.nrbpf_raw_drop_text as f
 use Rattle.embed.proofs.nrbpf_raw_drop_text.Statement.{statement}
 use Rattle.embed.proofs.nrbpf_raw_drop_text.Code as code
-use Rattle.embed.proofs.Left.{is_room}
-use Rattle.embed.proofs.Lending.{lends}
-use Rattle.embed.proofs.Steps.{sem, room_at}
+use Rattle.embed.proofs.LendingBoth.{lends_both}
 
 pub nrbpf_raw_drop_text_spec : {M : Type 1} → statement M
 nrbpf_raw_drop_text_spec 𝓤 𝓛 𝓜 𝓡 wired =
-    lends 𝓛 R 𝓜 𝓡 (λ value last. last.own ≡ None) f.Key.name g.Key.name (λ at value. sem 𝓛 (room_at R at)) (code.unfolded 𝓤 𝓛.H 𝓜 𝓡 wired)
-    (met 𝓤 𝓛 𝓜 𝓡 (code.calls-host_calls::states::drop_text 𝓡.env wired)) (λ b o value last gone. is_room 𝓛 R refl b o last)
+    lends_both 𝓛 S R 𝓜 𝓡 Returns f.Key.name g.Key.name (code.unfolded 𝓤 𝓛.H 𝓜 𝓡 wired) (met 𝓤 𝓛 𝓜 𝓡 (code.calls-host_calls::states::drop_text 𝓡.env wired))

@@ -1,10 +1,8 @@
 -- `nrbpf_raw_dump` lends the state to `dump_state`, and writes the handle that this gives into the room.
-use Rattle.embed.proofs.Steps.{[], ◌∷◌, ◌++◌, refl, proved, full_share, id⊢, ex, ex_i, sep, emp, fact, fact_i, ftrue, flft, vunit, tables, WpFn, ‵, raw, ◌⊛◌, some, later, prop, ◌$◌, ◌∵◌, !, qed, done, move, keep, drop, use0, use1, use2, use3, split, join, fsplit, feq_i, pick, await, regoal, suffices, group, sem, enter, of_opd, unit_lit, addr, init, stop, no_more, and_then, assigns, returns, alloc_all, pass_all, free_all, look_at, get, through, sets, lands_as, lft_end, part_in, yes, ref_back, mem, Ptr, RawPtr, block_ptr, lies_at, room_at, in_a_block, rawptr_vals, rawptr_Tells, mut_vals, plain, nothing, heard, calls_at, lasts, triple_of, Stays, walk_of, stay_dropped, Goes-dropped, ends_at, framed}
+use Rattle.embed.proofs.Steps.{[], ◌∷◌, ◌++◌, refl, proved, full_share, id⊢, ex, ex_i, sep, emp, fact, fact_i, ftrue, flft, vunit, tables, WpFn, ‵, raw, ◌⊛◌, some, later, prop, ◌$◌, ◌∵◌, !, qed, done, move, keep, drop, use0, use1, use2, use3, split, join, fsplit, feq_i, pick, await, regoal, suffices, group, sem, enter, of_opd, unit_lit, addr, init, stop, no_more, and_then, assigns, returns, alloc_all, pass_all, free_all, look_at, get, through, sets, lands_as, lft_end, part_in, yes, ref_back, Ptr, RawPtr, block_ptr, lies_at, room_at, in_a_block, rawptr_vals, rawptr_Tells, mut_vals, plain, nothing, heard, calls_at, lasts, triple_of, Stays, walk_of, stay_dropped, Goes-dropped, ends_at, framed}
 use Rattle.embed.proofs.Lending.{lend, loan, is_typed}
-use Rattle.embed.proofs.Steps.{ent, alive, ftrue, val, tells}
-use Rattle.std.proofs.Common.{◌≡◌, subst}
-use Rattle.host_calls.specs.States.{IsDumped}
-use Rattle.host_calls.specs.declared.handles.StateHandle.{StateHandle}
+use Rattle.embed.proofs.Steps.{alive, ftrue, val, tells}
+use Rattle.host_calls.specs.States.{Dumps}
 use Rattle.std.specs.contracts.alloc.Global.{the_row as A, the_type as global}
 use Rattle.std.proofs.alloc.Global.TheLaws as global_laws
 use Rattle.host_calls.specs.contracts.handles.TextHandle.{the_row as R}
@@ -51,21 +49,21 @@ nrbpf_raw_dump_spec 𝓤 𝓛 𝓜 𝓡 wired =
     calls_at ! (framed 𝓤 𝓛.H 𝓜 (tables 𝓤 𝓛.H 𝓜 𝓡 𝓡.env)) G (met 𝓤 𝓛 𝓜 𝓡 (code.calls-host_calls::states::dump_state 𝓡.env wired)) z
     (and_then ! (get ! refl) (and_then ! (get ! refl) (no_more !))) (λ v.
     use1 𝓛 (later (some (λ (text : R.Denot). ((‵ (flft (α ∷ []) full_share) ⊛ ‵ ftrue) ⊛ ‵ (R.own_val text (v ∷ []))) ⊛
-    some (λ (ends : Unit {0} × (S.Denot × Unit {0})). ‵ (lasts g.ended z.0.0 z.0.3 ends) ⊛ raw (fact 𝓤 ((ends.1.0 ≡ state) × IsDumped state.own text)))))) (id⊢ 𝓤 _) $
+    some (λ (ends : Unit {0} × (S.Denot × Unit {0})). ‵ (lasts g.ended z.0.0 z.0.3 ends) ⊛ raw (fact 𝓤 (Dumps state ends.1.0 text)))))) (id⊢ 𝓤 _) $
     await ! tt $ pick ! (λ text. split ! $ split ! $ split ! $ lft_end ! tt $ move ! (2 ∷ []) $
     is_typed ! R ((laws.the_row_laws).lawful 𝓛) text (v ∷ []) (λ typed.
     lands_as ! refl refl typed.0 $
     -- [what the text owns; α is over; nothing; what the call tells; the lender's part; the room; the locals]
     assigns ! (of_opd ! (get ! refl)) (through ! refl (stop !)) (init ! 5 refl typed.0) $
     sets ! (of_opd ! (unit_lit !)) refl (tt, tt) $
-    move ! (3 ∷ []) $ pick ! (λ ends. split ! $ move ! (1 ∷ []) $ heard ! ((ends.1.0 ≡ state) × IsDumped state.own text) (λ told. fsplit ! $ drop ! $ fsplit ! $ fsplit ! $
-    -- [the loan's last value; its borrow; nothing; what the text owns; α is over; nothing; the lender's part; the cell; the locals]
+    move ! (3 ∷ []) $ pick ! (λ ends. split ! $ move ! (1 ∷ []) $ heard ! (Dumps state ends.1.0 text) (λ told. fsplit ! $ drop ! $ fsplit ! $ fsplit ! $
+    -- [the loan's last state; its borrow; nothing; what the text owns; α is over; nothing; the lender's part; the cell; the locals]
     move ! (4 ∷ 6 ∷ 0 ∷ []) $ use3 𝓛 (later (‵ (lies_at S full_share (block_ptr b o) ends.1.0))) (ref_back 𝓛 S (α ∷ []) γ ends.1.0 b o) $ await ! tt $
-    use1 𝓛 (‵ (lies_at S full_share (block_ptr b o) state)) (subst (λ (w : StateHandle). ent 𝓤 (sem 𝓛 (lies_at S full_share (block_ptr b o) ends.1.0)) (sem 𝓛 (lies_at S full_share (block_ptr b o) w))) told.0 (id⊢ 𝓤 _)) $
     returns ! (look_at ! 0 refl) $ free_all ! refl $ keep ! (5 ∷ 3 ∷ 0 ∷ []) $
     use2 𝓛 (‵ (lies_at R full_share (block_ptr b' o') text)) (part_in 𝓛 R refl full_share text b' o' v) $
-    use0 𝓛 (raw (fact 𝓤 (IsDumped state.own text))) (fact_i 𝓤 (IsDumped state.own text) (emp 𝓤) told.1) $ move ! (1 ∷ 0 ∷ []) $ join ! $ move ! (1 ∷ 0 ∷ []) $ join ! $
-    let Left = λ (x : R.Denot). sep 𝓤 (sem 𝓛 (lies_at S full_share (block_ptr b o) state)) (sep 𝓤 (sem 𝓛 (lies_at R full_share (block_ptr b' o') x)) (fact 𝓤 (IsDumped state.own x))) in
-    use1 𝓛 (raw (ex 𝓤 Left)) (ex_i 𝓤 Left text) $
+    use0 𝓛 (raw (fact 𝓤 (Dumps state ends.1.0 text))) (fact_i 𝓤 (Dumps state ends.1.0 text) (emp 𝓤) told) $ move ! (1 ∷ 0 ∷ []) $ join ! $ move ! (1 ∷ 0 ∷ []) $ join ! $
+    let Left = λ (x : S.Denot) (given : R.Denot). sep 𝓤 (sem 𝓛 (lies_at S full_share (block_ptr b o) x)) (sep 𝓤 (sem 𝓛 (lies_at R full_share (block_ptr b' o') given)) (fact 𝓤 (Dumps state x given))) in
+    use1 𝓛 (raw (ex 𝓤 (λ (given : R.Denot). Left ends.1.0 given))) (ex_i 𝓤 (λ (given : R.Denot). Left ends.1.0 given) text) $
+    use1 𝓛 (raw (ex 𝓤 (λ (x : S.Denot). ex 𝓤 (λ (given : R.Denot). Left x given)))) (ex_i 𝓤 (λ (x : S.Denot). ex 𝓤 (λ (given : R.Denot). Left x given)) ends.1.0) $
     suffices ! _ (ends_at 𝓛 f.ended stayed c (y (block_ptr b o) (block_ptr b' o')) vunit tt (tt, (tt, (tt, tt))) (tt, (tt, (tt, tt)))) $
     feq_i ! _ (vunit ∷ []) _ refl $ nothing ! $ nothing ! $ join ! $ nothing ! $ join ! $ nothing ! $ join ! $ nothing ! $ group ! 3 $ done !))))))))))
