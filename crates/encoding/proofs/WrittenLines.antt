@@ -1,8 +1,10 @@
 -- Line N of the script is what becomes of line N of the text.
-use Rattle.std.proofs.Common.{append_assoc, inl, inr, ◌≡◌, ℕ, zero, suc, ◌/◌, ◌%◌, Bool, true, false, not, cond, List, [], ◌∷◌, ◌++◌, get_or, codes, Result, Ok, Err, refl, sym, ap, ◌∙◌, subst, arith}
-use Rattle.std.specs.Prelude.{◌==◌}
+use Rattle.std.proofs.Common.{append_assoc, inl, inr, ◌≡◌, ◌⊎◌, ℕ, zero, suc, ◌/◌, ◌%◌, Bool, true, false, not, cond, List, [], ◌∷◌, ◌++◌, get_or, codes, Result, Ok, Err, refl, sym, ap, ◌∙◌, subst, arith}
+use Rattle.std.specs.Prelude.{◌==◌, nat_lt, IsAscii}
 use Rattle.std.specs.List.{AllZip, list_all, onto_first}
-use Rattle.std.proofs.lemmas.Bool.{and_parts, and_from, eq-eqb}
+use Rattle.std.specs.Str.{is_utf8}
+use Rattle.std.proofs.lemmas.Str.{IsUtf8-from_ascii, is_utf8-from_IsUtf8}
+use Rattle.std.proofs.lemmas.Bool.{and_parts, and_from, eq-eqb, ltb-true}
 use Rattle.std.proofs.lemmas.Bool.Decides.{nat_tests}
 use Rattle.hex.specs.Hex.{IsBytes, encode_lower, encode_with, lower_digits}
 use Rattle.text.specs.declared.lines.LineKind.{LineKind}
@@ -13,16 +15,16 @@ use Rattle.text.proofs.Export.{HasNoFeed, lines_of-cut}
 use Rattle.encoding.specs.declared.faults.LineFault.{LineFault}
 use Rattle.encoding.specs.declared.faults.EncodeRefusal.{EncodeRefusal}
 use Rattle.encoding.specs.Calls.{IsWrittenAs, LinesAreWritten}
-use Rattle.encoding.specs.Encoded.{behind, call_line, digits_of, encoded, encoded_by, encoded_from, encoded_text}
+use Rattle.encoding.specs.Encoded.{behind, call_line, digits_of, encoded, encoded_by, encoded_from, encoded_text, script_line}
 use Rattle.encoding.proofs.ArgumentBytes.{are, are_to, bytes_of_lines, calls_are_written}
 use Rattle.encoding.proofs.Calls as Calls
 use Rattle.encoding.proofs.Calls.{name_parts}
 
 -- no byte is a line feed
-abbrev is_feedless : List ℕ → Bool
+abbrev pub is_feedless : List ℕ → Bool
 is_feedless text = list_all (λ c. not (c == 10)) text
 
-no_feed : (xs : List ℕ) → is_feedless xs ≡ true → HasNoFeed xs
+pub no_feed : (xs : List ℕ) → is_feedless xs ≡ true → HasNoFeed xs
 no_feed [] h i lt = absurd (omega (arith, lt))
 no_feed (x ∷ xs) h zero lt = λ e. both (x == 10) (and_parts (not (x == 10)) (is_feedless xs) h).0 (eq-eqb x 10 e)
   where
@@ -31,12 +33,6 @@ no_feed (x ∷ xs) h zero lt = λ e. both (x == 10) (and_parts (not (x == 10)) (
     both false n y = cc
 no_feed (x ∷ xs) h (suc i) lt = no_feed xs (and_parts (not (x == 10)) (is_feedless xs) h).1 i (omega (arith, lt))
 
-joined_feedless : (xs ys : List ℕ) → is_feedless xs ≡ true → is_feedless ys ≡ true → is_feedless (xs ++ ys) ≡ true
-joined_feedless [] ys p q = q
-joined_feedless (x ∷ xs) ys p q =
-    let parts = and_parts (not (x == 10)) (is_feedless xs) p in
-    and_from (not (x == 10)) (is_feedless (xs ++ ys)) parts.0 (joined_feedless xs ys parts.1 q)
-
 -- the lines of a text have none
 first_feedless : (c : ℕ) (lines : List (List ℕ)) → not (c == 10) ≡ true → list_all is_feedless lines ≡ true → list_all is_feedless (onto_first c lines) ≡ true
 first_feedless c [] other all = and_from (is_feedless (c ∷ [])) true (and_from (not (c == 10)) true other refl) refl
@@ -44,7 +40,7 @@ first_feedless c (line ∷ lines) other all =
     let parts = and_parts (is_feedless line) (list_all is_feedless lines) all in
     and_from (is_feedless (c ∷ line)) (list_all is_feedless lines) (and_from (not (c == 10)) (is_feedless line) other parts.0) parts.1
 
-lines_feedless : (text : List ℕ) → list_all is_feedless (lines_of text) ≡ true
+pub lines_feedless : (text : List ℕ) → list_all is_feedless (lines_of text) ≡ true
 lines_feedless [] = refl
 lines_feedless (c ∷ cs) = by (c == 10) refl (lines_feedless cs)
   where
@@ -52,42 +48,85 @@ lines_feedless (c ∷ cs) = by (c == 10) refl (lines_feedless cs)
     by true e rest = rest
     by false e rest = first_feedless c (lines_of cs) (rw e refl) rest
 
--- nor has a call
-name_feedless : (name : List ℕ) → list_all is_name_byte name ≡ true → is_feedless name ≡ true
-name_feedless [] h = refl
-name_feedless (c ∷ cs) h =
-    let parts = and_parts (is_name_byte c) (list_all is_name_byte cs) h in
-    and_from (not (c == 10)) (is_feedless cs) (other c parts.0) (name_feedless cs parts.1)
+-- what is so of each byte that a name has, of a space, of - and of each hexadecimal digit is so of each byte of a call
+module _ (p : ℕ → Bool) (in_name : (c : ℕ) → is_name_byte c ≡ true → p c ≡ true) (none : p 0 ≡ true) (space : p 32 ≡ true) (dash : p 45 ≡ true) (table : list_all p lower_digits ≡ true) where
+  all_joined : (xs ys : List ℕ) → list_all p xs ≡ true → list_all p ys ≡ true → list_all p (xs ++ ys) ≡ true
+  all_joined [] ys h k = k
+  all_joined (x ∷ xs) ys h k =
+      let parts = and_parts (p x) (list_all p xs) h in
+      and_from (p x) (list_all p (xs ++ ys)) parts.0 (all_joined xs ys parts.1 k)
+
+  name_all : (name : List ℕ) → list_all is_name_byte name ≡ true → list_all p name ≡ true
+  name_all [] h = refl
+  name_all (c ∷ cs) h =
+      let parts = and_parts (is_name_byte c) (list_all is_name_byte cs) h in
+      and_from (p c) (list_all p cs) (in_name c parts.0) (name_all cs parts.1)
+
+  in_table : (digits : List ℕ) (k : ℕ) → list_all p digits ≡ true → p (get_or digits k 0) ≡ true
+  in_table [] k h = none
+  in_table (c ∷ cs) zero h = (and_parts (p c) (list_all p cs) h).0
+  in_table (c ∷ cs) (suc k) h = in_table cs k (and_parts (p c) (list_all p cs) h).1
+
+  hex_all : (bytes : List ℕ) → list_all p (encode_lower bytes) ≡ true
+  unfolding encode_with
+  hex_all [] = refl
+  hex_all (b ∷ bytes) =
+      and_from (p (get_or lower_digits (b / 16) 0)) (list_all p (get_or lower_digits (b % 16) 0 ∷ encode_lower bytes)) (in_table lower_digits (b / 16) table)
+      (and_from (p (get_or lower_digits (b % 16) 0)) (list_all p (encode_lower bytes)) (in_table lower_digits (b % 16) table) (hex_all bytes))
+
+  digits_all : (bytes : List ℕ) → list_all p (digits_of bytes) ≡ true
+  digits_all [] = and_from (p 45) true dash refl
+  digits_all (b ∷ bytes) = hex_all (b ∷ bytes)
+
+  call_all : (line written : List ℕ) → call_line line ≡ Ok written → list_all p written ≡ true
+  call_all line written h =
+      let call = Calls.calls_are_written line written h in
+      let name = (name_parts call.0 call.2.good_name).each in
+      rw call.3 (all_joined call.0 (32 ∷ digits_of call.1) (name_all call.0 name) (and_from (p 32) (list_all p (digits_of call.1)) space (digits_all call.1)))
+
+-- so a call has no line feed
+call_feedless : (line written : List ℕ) → call_line line ≡ Ok written → is_feedless written ≡ true
+call_feedless = call_all (λ c. not (c == 10)) other refl refl refl refl
   where
     other : (c : ℕ) → is_name_byte c ≡ true → not (c == 10) ≡ true
     other c h = grind (arith, nat_tests)
 
-table_feedless : (k : ℕ) → not (get_or lower_digits k 0 == 10) ≡ true
-table_feedless k = by lower_digits k refl
+-- and is ASCII
+abbrev is_low : ℕ → Bool
+is_low c = nat_lt c 128
+
+low_ascii : (xs : List ℕ) → list_all is_low xs ≡ true → IsAscii xs
+low_ascii [] h i = omega arith
+low_ascii (x ∷ xs) h zero = ltb-true x 128 (and_parts (is_low x) (list_all is_low xs) h).0
+low_ascii (x ∷ xs) h (suc i) = low_ascii xs (and_parts (is_low x) (list_all is_low xs) h).1 i
+
+call_text : (line written : List ℕ) → call_line line ≡ Ok written → is_utf8 written ≡ true
+call_text line written h = is_utf8-from_IsUtf8 written (IsUtf8-from_ascii written (low_ascii written (call_all is_low low refl refl refl refl line written h)))
   where
-    by : (table : List ℕ) (k : ℕ) → is_feedless table ≡ true → not (get_or table k 0 == 10) ≡ true
-    by [] k h = refl
-    by (c ∷ cs) zero h = (and_parts (not (c == 10)) (is_feedless cs) h).0
-    by (c ∷ cs) (suc k) h = by cs k (and_parts (not (c == 10)) (is_feedless cs) h).1
+    low : (c : ℕ) → is_name_byte c ≡ true → is_low c ≡ true
+    low c h = grind (arith, nat_tests)
 
-hex_feedless : (bytes : List ℕ) → is_feedless (encode_lower bytes) ≡ true
-unfolding encode_with
-hex_feedless [] = refl
-hex_feedless (b ∷ bytes) =
-    and_from (not (get_or lower_digits (b / 16) 0 == 10)) (is_feedless (get_or lower_digits (b % 16) 0 ∷ encode_lower bytes)) (table_feedless (b / 16))
-    (and_from (not (get_or lower_digits (b % 16) 0 == 10)) (is_feedless (encode_lower bytes)) (table_feedless (b % 16)) (hex_feedless bytes))
+-- the line of a script is the line itself or a call
+pub line_or_call : (line written : List ℕ) → encoded line ≡ Ok written → (written ≡ line) ⊎ ((name : List ℕ) × (argument : List ℕ) × (written ≡ script_line name argument))
+unfolding encoded
+line_or_call line written h = by (kind_of line) h
+  where
+    by : (kind : LineKind) → encoded_by line kind ≡ Ok written → (written ≡ line) ⊎ ((name : List ℕ) × (argument : List ℕ) × (written ≡ script_line name argument))
+    by line_kinds.TooLong h = absurd cc
+    by line_kinds.Comment h = let same : line ≡ written = cc in inl (sym same)
+    by line_kinds.Words h = let call = Calls.calls_are_written line written h in inr (call.0, call.1, call.3)
 
-digits_feedless : (bytes : List ℕ) → is_feedless (digits_of bytes) ≡ true
-digits_feedless [] = refl
-digits_feedless (b ∷ bytes) = hex_feedless (b ∷ bytes)
+-- the line of a script is UTF-8 if the line is
+pub line_text : (line written : List ℕ) → is_utf8 line ≡ true → encoded line ≡ Ok written → is_utf8 written ≡ true
+unfolding encoded
+line_text line written text h = by (kind_of line) h
+  where
+    by : (kind : LineKind) → encoded_by line kind ≡ Ok written → is_utf8 written ≡ true
+    by line_kinds.TooLong h = absurd cc
+    by line_kinds.Comment h = let same : line ≡ written = cc in subst (λ x. is_utf8 x ≡ true) same text
+    by line_kinds.Words h = call_text line written h
 
-call_feedless : (line written : List ℕ) → call_line line ≡ Ok written → is_feedless written ≡ true
-call_feedless line written h =
-    let call = Calls.calls_are_written line written h in
-    let name = (name_parts call.0 call.2.good_name).each in
-    rw call.3 (joined_feedless call.0 (32 ∷ digits_of call.1) (name_feedless call.0 name) (digits_feedless call.1))
-
-line_feedless : (line written : List ℕ) → is_feedless line ≡ true → encoded line ≡ Ok written → is_feedless written ≡ true
+pub line_feedless : (line written : List ℕ) → is_feedless line ≡ true → encoded line ≡ Ok written → is_feedless written ≡ true
 unfolding encoded
 line_feedless line written feedless h = by (kind_of line) h
   where
@@ -98,7 +137,7 @@ line_feedless line written feedless h = by (kind_of line) h
 
 -- ---- all lines
 
-split_behind : (n : ℕ) (r : Result (List ℕ) LineFault) (later : Result (List ℕ) EncodeRefusal) (script : List ℕ) → behind n r later ≡ Ok script
+pub split_behind : (n : ℕ) (r : Result (List ℕ) LineFault) (later : Result (List ℕ) EncodeRefusal) (script : List ℕ) → behind n r later ≡ Ok script
     → (written : List ℕ) × (rest : List ℕ) × (r ≡ Ok written) × (later ≡ Ok rest) × (script ≡ written ++ 10 ∷ rest)
 split_behind n (Err why) later script h = absurd cc
 split_behind n (Ok written) (Err e) script h = absurd cc

@@ -26,4 +26,4 @@ pub use laws::{
     limits, lines_are_calls, numbers_are_read_back, numbers_are_spelled, values_are_of_their_bytes,
     values_are_read_back,
 };
-pub use lines::encode;
+pub use lines::{encode, encode_line};

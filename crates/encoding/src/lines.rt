@@ -1,6 +1,6 @@
 // Texts of calls into scripts.
 
-ghost use Rattle.std.specs.Prelude.{◌≡◌, ◌≤◌, ◌++◌, [], length, codes, Ok, OnOk, MatchResult, string_bytes};
+ghost use Rattle.std.specs.Prelude.{◌≡◌, ◌≤◌, ◌++◌, [], length, codes, Err, IfOk, Ok, OnOk, MatchResult, string_bytes};
 ghost use Rattle.encoding.specs.declared.faults.Wanted.TheVariants as wanted;
 ghost use Rattle.encoding.specs.Faults.{fault, Fails};
 ghost use Rattle.encoding.specs.Words.{words_of};
@@ -109,15 +109,40 @@ fn put_call(alloc: Global, out: &mut String, call: &Call<'_>) -> Result<(), Allo
     put_digits(alloc, out, call.argument.as_slice())
 }
 
+// Adds the script's line for one that says this, without a line feed.
+fn put_said(alloc: Global, out: &mut String, text: &str, line: &Line<'_>) -> Result<(), AllocError>
+    ensures { OnOk result (string_bytes out.new ≡ string_bytes out.old ++ line_text text.now line.now) }
+{
+    match line {
+        Line::Silent => out.push_str(text),
+        Line::Call(call) => put_call(alloc, out, call),
+    }
+}
+
 // Adds the script's line for one that says this.
 fn put_line(alloc: Global, out: &mut String, text: &str, line: &Line<'_>) -> Result<(), AllocError>
     ensures { OnOk result (string_bytes out.new ≡ string_bytes out.old ++ (line_text text.now line.now ++ codes "\n")) }
 {
-    match line {
-        Line::Silent => out.push_str(text)?,
-        Line::Call(call) => put_call(alloc, out, call)?,
-    }
+    put_said(alloc, out, text, line)?;
     out.push_str("\n")
+}
+
+/// The line of a script that a line of calls says, or where it is wrong. Neither has a line feed. An empty line and a comment stay.
+///
+/// # Errors
+///
+/// The system has no memory left.
+pub fn encode_line(alloc: Global, line: &str) -> Result<Result<String, LineFault>, AllocError>
+    ensures encoded { IfOk result (λ r. MatchResult r (λ v. encoded line.now ≡ Ok (string_bytes v)) (λ e. encoded line.now ≡ Err e)) }
+{
+    match read_line(line) {
+        Ok(said) => {
+            let mut out = String::new(alloc);
+            put_said(alloc, &mut out, line, &said)?;
+            Ok(Ok(out))
+        }
+        Err(fault) => Ok(Err(fault)),
+    }
 }
 
 /// The script that a text of calls says, or the first place that is wrong. Memory may run out.

@@ -2,6 +2,8 @@
 use Rattle.std.specs.Prelude.{ℕ, List, [], ◌++◌, Option, Some, None, option_map}
 use Rattle.engine.specs.declared.parted.Destination.{Destination}
 use Rattle.engine.specs.declared.parted.Destination.TheVariants as destinations
+use Rattle.engine.specs.declared.parted.Handed.{Handed}
+use Rattle.engine.specs.declared.parted.Handed.TheVariants.{Text, State}
 use Rattle.engine.specs.declared.parted.Parted.{Parted}
 use Rattle.engine.specs.Answer.{Answer}
 use Rattle.engine.specs.Report.{answer_of}
@@ -27,5 +29,10 @@ sent_to destinations.Elsewhere a text = record { answer = a; elsewhere = Some te
 
 -- ---- by code
 
+-- the text that is handed on: of a state all that is left of its text
+abbrev pub handed_text : Handed → List ℕ
+handed_text (Text bytes) = bytes.items
+handed_text (State text) = text.left
+
 abbrev pub parted_of : Parted → PartedAnswer
-parted_of p = record { answer = answer_of p.reply; elsewhere = option_map (λ v. v.items) p.elsewhere }
+parted_of p = record { answer = answer_of p.reply; elsewhere = option_map handed_text p.elsewhere }

@@ -13,7 +13,7 @@ mod transfer;
 
 pub use in_memory::{Held, HeldFiles, Page};
 pub use opening::{Loaded, Opened, load_texts, open_texts, places_within};
-pub use parted::{Destination, Parted};
+pub use parted::{Destination, Handed, Parted};
 pub use performing::{
     Command, Performed, hand_back, perform, perform_kept, prepare, report, write_text,
 };

@@ -1,10 +1,13 @@
 // What a command makes of which a part goes elsewhere than to its writer.
 
 ghost use Rattle.std.specs.Prelude.{◌≡◌, IfOk};
+ghost use Rattle.dumps.specs.Dumping.{dump};
 ghost use Rattle.engine.specs.Parted.{apart, parted_of, sent_to, whole};
 ghost use Rattle.engine.specs.Report.{answer_of};
 
 use crate::replies::{Answering, Reply, Verdict};
+use dumps::{StateText, dump};
+use loader::StoreState;
 use std::alloc::{AllocError, Global};
 
 /// Where a text goes that a command makes besides its answer.
@@ -18,13 +21,22 @@ pub enum Destination {
     Elsewhere,
 }
 
+/// A text that goes elsewhere.
+#[derive(Drop)]
+pub enum Handed {
+    /// The whole text.
+    Text(Vec<u8>),
+    /// A state, whose text is read piece by piece.
+    State(StateText),
+}
+
 /// An answer, and a text that goes elsewhere.
 #[derive(Drop)]
 pub struct Parted {
     /// What is written.
     pub reply: Reply,
     /// What goes elsewhere, where something does.
-    pub elsewhere: Option<Vec<u8>>,
+    pub elsewhere: Option<Handed>,
 }
 
 impl Answering for Parted {
@@ -60,7 +72,7 @@ impl Parted {
                 text: Vec::new(alloc),
                 verdict,
             },
-            elsewhere: Some(text),
+            elsewhere: Some(Handed::Text(text)),
         }
     }
 
@@ -84,8 +96,34 @@ impl Parted {
             }
             Destination::Elsewhere => Ok(Parted {
                 reply,
-                elsewhere: Some(text),
+                elsewhere: Some(Handed::Text(text)),
             }),
+        }
+    }
+
+    /// An answer, and the text of a state, which goes to this destination. Elsewhere it goes piece by piece.
+    ///
+    /// # Errors
+    ///
+    /// The system has no memory left.
+    pub fn with_state(
+        alloc: Global,
+        reply: Reply,
+        state: StoreState,
+        to: Destination,
+    ) -> Result<Parted, AllocError>
+        ensures { IfOk result (λ p. parted_of p ≡ sent_to to (answer_of reply) (dump state)) }
+    {
+        match to {
+            Destination::Nowhere => Ok(Parted::whole(reply)),
+            Destination::Writer => Parted::with(reply, dump(alloc, &state)?, to),
+            Destination::Elsewhere => match StateText::new(alloc, state) {
+                Ok(text) => Ok(Parted {
+                    reply,
+                    elsewhere: Some(Handed::State(text)),
+                }),
+                Err(_) => Err(AllocError),
+            },
         }
     }
 }

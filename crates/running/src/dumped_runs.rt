@@ -15,7 +15,7 @@ fn dumped(alloc: Global, kept: Kept, to: Destination) -> Result<Parted, AllocErr
     let Kept { reply, state } = kept;
     match (to, state) {
         (Destination::Nowhere, _) | (_, None) => Ok(Parted::whole(reply)),
-        (_, Some(state)) => Parted::with(reply, dumps::dump(alloc, &state)?, to),
+        (_, Some(state)) => Parted::with_state(alloc, reply, state, to),
     }
 }
 

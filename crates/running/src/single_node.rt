@@ -2,8 +2,10 @@
 
 ghost use Rattle.std.specs.Prelude.{◌≡◌, ◌<◌, ◌≤◌, [], true, length, Some, IfOk, IfSome, IfNone};
 ghost use Rattle.maps.specs.declared.shapes.TheConstants.{MAX_ARG_LEN};
+ghost use Rattle.maps.specs.MapSets.{maps_of};
 ghost use Rattle.verifier.specs.declared.refusal.Mode.TheVariants.{Update, Read};
 ghost use Rattle.loader.specs.CatalogueView.{OpensOn};
+ghost use Rattle.loader.specs.StoreState.{installed_in};
 ghost use Rattle.oplog.specs.Limits.{IsLimit};
 ghost use Rattle.oplog.specs.Logs.{tail_of, room_in};
 ghost use Rattle.oplog.specs.declared.records.Op.TheVariants.{Run, Install};
@@ -14,6 +16,7 @@ ghost use Rattle.running.specs.Running.{IsSteady, Follows, IsUpdated, HasEnded};
 
 use loader::{Catalogue, Installed, StoreState};
 use machine::Outcome;
+use maps::MapSet;
 use node::{NodeReplica, append, finish, reclaim, replay};
 use oplog::{Hand, LogState, MAX_WINDOW, NewProgram, Op, Record};
 use replica::{Replica, Replies, StoreRefused, check_install};
@@ -93,6 +96,20 @@ impl SingleNode {
         ensures { result ≡ tail_of self.now.log }
     {
         self.log.tail()
+    }
+
+    /// The maps after all updates so far.
+    pub fn maps(&self) -> &MapSet
+        ensures maps { maps_of result.now ≡ self.now.own.replica.state.maps }
+    {
+        self.own.replica.maps()
+    }
+
+    /// The programs that were installed so far.
+    pub fn programs(&self) -> &Installed
+        ensures programs { result.now ≡ installed_in self.now.own.replica.state }
+    {
+        self.own.replica.programs()
     }
 
     // Makes the replica's maps and programs the log's base where the log has no room for a record.

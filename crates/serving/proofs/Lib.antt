@@ -1,6 +1,9 @@
 pub mod Served
 pub mod KeptLines
 pub mod LineTurns
+pub mod StoreTexts
 pub mod Turned
 pub mod ServedAll
+pub mod ServedLines
 pub mod ServedRuns
+pub mod ServedValues

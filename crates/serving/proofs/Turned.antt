@@ -1,5 +1,5 @@
 -- Turn after turn: what was read, and what was written.
-use Rattle.std.proofs.Common.{◌≡◌, inl, inr, ℕ, ◌+◌, ◌<◌, List, [], ◌++◌, length, take, Option, Some, None, Result, Ok, Err, refl, sym, ap, subst, ◌∙◌, append_assoc, min}
+use Rattle.std.proofs.Common.{◌≡◌, inl, inr, ℕ, ◌+◌, ◌<◌, Bool, List, [], ◌++◌, length, take, Option, Some, None, Result, Ok, Err, refl, sym, ap, subst, ◌∙◌, append_assoc, min}
 use Rattle.std.proofs.Math.Seq.{take-append-add, take-length}
 use Rattle.std.proofs.lemmas.List.{append-nil, take-append-le, take_min}
 use Rattle.std.proofs.Math.Nat.{min-le_right}
@@ -22,8 +22,8 @@ use Rattle.serving.specs.Serving.{Stands, TakesBytes, Turns, Going}
 use Rattle.serving.proofs.Served.{served_parts, none_served}
 
 -- the state that the lines of an input leave which are answered
-abbrev pub state_served : CatalogueView → List ℕ → StoreState
-state_served c bytes = state_of c (served c nothing_served bytes).serving.history
+abbrev pub state_served : Bool → CatalogueView → List ℕ → StoreState
+state_served v c bytes = state_of c (served c (nothing_served v) bytes).serving.history
 
 -- a reader and a writer of which this is known
 abbrev pub between : (given left old new : Option (List ℕ)) → Ports
@@ -134,20 +134,20 @@ module _ (c : CatalogueView) (s : Serving) (service : Service) (given left : Opt
 
 -- ---- turn after turn
 
-module _ (c : CatalogueView) (before : List ℕ) where
+module _ (v : Bool) (c : CatalogueView) (before : List ℕ) where
   abbrev here : Serving
-  here = (served c nothing_served before).serving
+  here = (served c (nothing_served v) before).serving
 
-  text_both : (bytes : List ℕ) → served_text c before ++ (served c here bytes).text ≡ served_text c (before ++ bytes)
-  text_both bytes = sym (ap (λ (t : Served). t.text) (served_parts c nothing_served before bytes))
+  text_both : (bytes : List ℕ) → served_text v c before ++ (served c here bytes).text ≡ served_text v c (before ++ bytes)
+  text_both bytes = sym (ap (λ (t : Served). t.text) (served_parts c (nothing_served v) before bytes))
 
-  take_both : (bytes : List ℕ) (k : ℕ) → served_text c before ++ ((served c here (take k bytes)).text ++ no_memory_line) ≡ served_text c (take (length before + k) (before ++ bytes)) ++ no_memory_line
+  take_both : (bytes : List ℕ) (k : ℕ) → served_text v c before ++ ((served c here (take k bytes)).text ++ no_memory_line) ≡ served_text v c (take (length before + k) (before ++ bytes)) ++ no_memory_line
   take_both bytes k =
-      sym (append_assoc (served_text c before) (served c here (take k bytes)).text no_memory_line)
-      ∙ ap (λ (t : List ℕ). t ++ no_memory_line) (text_both (take k bytes) ∙ ap (served_text c) (sym (take-append-add before bytes k)))
+      sym (append_assoc (served_text v c before) (served c here (take k bytes)).text no_memory_line)
+      ∙ ap (λ (t : List ℕ). t ++ no_memory_line) (text_both (take k bytes) ∙ ap (served_text v c) (sym (take-append-add before bytes k)))
 
-  module _ (old now new : Option (List ℕ)) (bytes : List ℕ) (so_far : Appends old now (served_text c before)) where
-    pub answers_both : (status : Status) → AnswersBytes now new status (λ b. (served c here b).text) bytes → AnswersBytes old new status (served_text c) (before ++ bytes)
+  module _ (old now new : Option (List ℕ)) (bytes : List ℕ) (so_far : Appends old now (served_text v c before)) where
+    pub answers_both : (status : Status) → AnswersBytes now new status (λ b. (served c here b).text) bytes → AnswersBytes old new status (served_text v c) (before ++ bytes)
     answers_both statuses.Good a = subst (λ (t : List ℕ). Appends old new t) (text_both bytes) (appends_both old now new _ _ so_far a)
     answers_both statuses.CannotRead a = subst (λ (t : List ℕ). Appends old new t) (text_both bytes) (appends_both old now new _ _ so_far a)
     answers_both statuses.NoMemory a = (length before + a.0, subst (λ (t : List ℕ). Appends old new t) (take_both bytes a.0) (appends_both old now new _ _ so_far a.1))
@@ -158,40 +158,40 @@ module _ (c : CatalogueView) (before : List ℕ) where
     answers_both statuses.Differs a = a
 
 -- nothing was read yet
-pub going_first : (c : CatalogueView) (service : Service) (given old : Option (List ℕ)) → Stands nothing_served service → Going c service (between given given old old)
-going_first c service given old stands =
+pub going_first : (v : Bool) (c : CatalogueView) (service : Service) (given old : Option (List ℕ)) → Stands (nothing_served v) service → Going v c service (between given given old old)
+going_first v c service given old stands =
     record {
       bytes = [];
       read = consumes_none given;
-      answers = subst (λ (t : Served). Appends old old t.text) (sym (none_served c nothing_served)) (appends_none old);
-      stands = subst (λ (t : Served). Stands t.serving service) (sym (none_served c nothing_served)) stands;
+      answers = subst (λ (t : Served). Appends old old t.text) (sym (none_served c (nothing_served v))) (appends_none old);
+      stands = subst (λ (t : Served). Stands t.serving service) (sym (none_served c (nothing_served v))) stands;
     }
 
-module _ (c at_turn : CatalogueView) (same : at_turn ≡ c) (service after : Service) (given left rest old now new : Option (List ℕ)) (going : Going c service (between given left old now)) where
-  pub goes_on : ((s : Serving) → Stands s service → Turns at_turn s after (between left rest now new) None) → Going c after (between given rest old new)
+module _ (v : Bool) (c at_turn : CatalogueView) (same : at_turn ≡ c) (service after : Service) (given left rest old now new : Option (List ℕ)) (going : Going v c service (between given left old now)) where
+  pub goes_on : ((s : Serving) → Stands s service → Turns at_turn s after (between left rest now new) None) → Going v c after (between given rest old new)
   goes_on turns =
-      let turn : Turns c (served c nothing_served going.bytes).serving after (between left rest now new) None =
-      subst (λ (x : CatalogueView). Turns x (served c nothing_served going.bytes).serving after (between left rest now new) None) same (turns _ going.stands) in
+      let turn : Turns c (served c (nothing_served v) going.bytes).serving after (between left rest now new) None =
+      subst (λ (x : CatalogueView). Turns x (served c (nothing_served v) going.bytes).serving after (between left rest now new) None) same (turns _ going.stands) in
       record {
         bytes = going.bytes ++ turn.bytes;
         read = consumes_both given left rest going.bytes turn.bytes going.read turn.read;
-        answers = subst (λ (t : List ℕ). Appends old new t) (text_both c going.bytes turn.bytes) (appends_both old now new _ _ going.answers turn.answers.0);
-        stands = subst (λ (t : Served). Stands t.serving after) (sym (served_parts c nothing_served going.bytes turn.bytes)) turn.answers.1;
+        answers = subst (λ (t : List ℕ). Appends old new t) (text_both v c going.bytes turn.bytes) (appends_both old now new _ _ going.answers turn.answers.0);
+        stands = subst (λ (t : Served). Stands t.serving after) (sym (served_parts c (nothing_served v) going.bytes turn.bytes)) turn.answers.1;
       }
 
   -- the state that it stands behind
-  stands_at : service.catalogue ≡ c → service.node.own.replica.state ≡ state_served c going.bytes
+  stands_at : service.catalogue ≡ c → service.node.own.replica.state ≡ state_served v c going.bytes
   stands_at at =
-      let history = (served c nothing_served going.bytes).serving.history in
+      let history = (served c (nothing_served v) going.bytes).serving.history in
       subst (λ (x : CatalogueView). service.node.own.replica.state ≡ state_of x history) at (sym (run_turns.here ENDLESS service.catalogue history service.node going.stands.follows))
 
   -- is given back, since nothing was read where all is well
   back : (status : Status) (bytes : List ℕ) (state : Option StoreState) → service.catalogue ≡ c → (status ≡ statuses.Good → after ≡ service) → (status ≡ statuses.Good → bytes ≡ [])
-      → state ≡ given_back status after.node.own.replica.state → state ≡ given_back status (state_served c (going.bytes ++ bytes))
+      → state ≡ given_back status after.node.own.replica.state → state ≡ given_back status (state_served v c (going.bytes ++ bytes))
   back statuses.Good bytes state at kept none is =
       is ∙ ap (λ (x : Service). Some x.node.own.replica.state) (kept refl)
       ∙ ap (λ (x : StoreState). Some x) (stands_at at)
-      ∙ ap (λ (x : List ℕ). Some (state_served c x)) (sym (append-nil going.bytes) ∙ ap (λ (x : List ℕ). going.bytes ++ x) (sym (none refl)))
+      ∙ ap (λ (x : List ℕ). Some (state_served v c x)) (sym (append-nil going.bytes) ∙ ap (λ (x : List ℕ). going.bytes ++ x) (sym (none refl)))
   back statuses.Refused bytes state at kept none is = is
   back statuses.NoMemory bytes state at kept none is = is
   back statuses.CannotRead bytes state at kept none is = is
@@ -199,29 +199,29 @@ module _ (c at_turn : CatalogueView) (same : at_turn ≡ c) (service after : Ser
   back statuses.Differs bytes state at kept none is = is
 
   pub ends_so : (status : Status) (ended : ServeEnd) → ended.status ≡ status → service.catalogue ≡ c → (Some status ≡ Some statuses.Good → after ≡ service)
-      → ended.state ≡ given_back status after.node.own.replica.state → ((s : Serving) → Stands s service → Turns at_turn s after (between left rest now new) (Some status)) → Serves c (between given rest old new) ended
+      → ended.state ≡ given_back status after.node.own.replica.state → ((s : Serving) → Stands s service → Turns at_turn s after (between left rest now new) (Some status)) → Serves v c (between given rest old new) ended
   ends_so status ended told at kept given_state turns =
-      let turn : Turns c (served c nothing_served going.bytes).serving after (between left rest now new) (Some status) =
-      subst (λ (x : CatalogueView). Turns x (served c nothing_served going.bytes).serving after (between left rest now new) (Some status)) same (turns _ going.stands) in
-      subst (λ (x : Status). Serves c (between given rest old new) (record { status = x; state = ended.state })) (sym told)
+      let turn : Turns c (served c (nothing_served v) going.bytes).serving after (between left rest now new) (Some status) =
+      subst (λ (x : CatalogueView). Turns x (served c (nothing_served v) going.bytes).serving after (between left rest now new) (Some status)) same (turns _ going.stands) in
+      subst (λ (x : Status). Serves v c (between given rest old new) (record { status = x; state = ended.state })) (sym told)
       (record {
         bytes = going.bytes ++ turn.bytes;
         read = consumes_both given left rest going.bytes turn.bytes going.read turn.read;
         whole = λ good. (turn.whole (ap (λ (x : Status). Some x) good)).0;
-        answers = answers_both c going.bytes old now new turn.bytes going.answers status turn.answers;
+        answers = answers_both v c going.bytes old now new turn.bytes going.answers status turn.answers;
         state = back status turn.bytes ended.state at (λ good. kept (ap (λ (x : Status). Some x) good)) (λ good. (turn.whole (ap (λ (x : Status). Some x) good)).1) given_state;
       })
 
 -- past the last turn
-pub ends_last : (c : CatalogueView) (service : Service) (given left old now new : Option (List ℕ)) (got : Status) (ended : ServeEnd) → ended ≡ record { status = got; state = None }
-    → Going c service (between given left old now) → Sends now new got no_memory_line statuses.NoMemory → Serves c (between given left old new) ended
-ends_last c service given left old now new got ended told going sends =
-    subst (λ (x : ServeEnd). Serves c (between given left old new) x) (sym told)
+pub ends_last : (v : Bool) (c : CatalogueView) (service : Service) (given left old now new : Option (List ℕ)) (got : Status) (ended : ServeEnd) → ended ≡ record { status = got; state = None }
+    → Going v c service (between given left old now) → Sends now new got no_memory_line statuses.NoMemory → Serves v c (between given left old new) ended
+ends_last v c service given left old now new got ended told going sends =
+    subst (λ (x : ServeEnd). Serves v c (between given left old new) x) (sym told)
     record {
       bytes = going.bytes;
       read = going.read;
       whole = λ good. absurd (never_good now new got sends good);
-      answers = no_memory_at old now new got (served_text c) going.bytes (length going.bytes)
-          (subst (λ (x : List ℕ). Appends old now (served_text c x)) (sym (take-length going.bytes)) going.answers) sends;
-      state = none_given now new got (state_served c going.bytes) sends;
+      answers = no_memory_at old now new got (served_text v c) going.bytes (length going.bytes)
+          (subst (λ (x : List ℕ). Appends old now (served_text v c x)) (sym (take-length going.bytes)) going.answers) sends;
+      state = none_given now new got (state_served v c going.bytes) sends;
     }

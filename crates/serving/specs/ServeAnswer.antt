@@ -1,19 +1,23 @@
 -- What `serve` writes: the answer of each line as soon as it ends, as `run` writes it; a bad line is answered too, and does not end it. And the
 -- state that it leaves.
-use Rattle.std.specs.Prelude.{◌≡◌, ◌⊎◌, ℕ, List, [], ◌∷◌, ◌++◌, take, Option, Some, None, unwrap_or, Result, Err, MatchResult, ◌==◌, if◌then◌else◌}
+use Rattle.std.specs.Prelude.{◌≡◌, ◌⊎◌, ℕ, Bool, true, false, List, [], ◌∷◌, ◌++◌, length, take, Option, Some, None, option_and_then, unwrap_or, Result, Err, MatchResult, ◌==◌, if◌then◌else◌}
+use Rattle.std.specs.Result.{result_ok}
 use Rattle.std.specs.Str.{is_utf8}
 use Rattle.std.specs.Io.KnownBytes.{Appends, Consumes, IsAtEnd}
 use Rattle.text.specs.Lines.{next_line}
+use Rattle.encoding.specs.Encoded.{encoded}
 use Rattle.loader.specs.StoreState.{StoreState}
 use Rattle.loader.specs.CatalogueView.{CatalogueView}
 use Rattle.oplog.specs.declared.configuration.TheConstants.{ENDLESS}
 use Rattle.oplog.specs.History.{History}
 use Rattle.serving.specs.declared.turns.ServeEnd.{ServeEnd}
+use Rattle.serving.specs.declared.turns.ServeOptions.{ServeOptions}
 use Rattle.engine.specs.declared.replies.Status.{Status}
 use Rattle.engine.specs.declared.replies.Status.TheVariants as statuses
 use Rattle.engine.specs.Texts.{no_memory_line}
 use Rattle.engine.specs.Answer.{Answer, not_text}
 use Rattle.running.specs.RunAnswer.{Turn, bad_line, line_turn, state_of}
+use Rattle.serving.specs.StoreText.{asks, store_text}
 use Rattle.engine.specs.Reading.{Given, TextsRead, read}
 use Rattle.engine.specs.Opening.{opening, places_within}
 use Rattle.engine.specs.Transfer.{AppendsBeginning}
@@ -22,26 +26,39 @@ use Rattle.engine.specs.Engine.{Reports}
 
 -- ---- lines as they end
 
--- what stands between two bytes: the number of the line at hand, the history behind it, and what came of it so far
+-- what is known between two bytes: whether calls have values, the number of the line at hand, the history before it, and what came of it so far
 pub record Serving : Type 0 where
+  pub has_values : Bool
   pub number : ℕ
   pub history : History
   pub left : List ℕ
 
-abbrev pub nothing_served : Serving
-nothing_served = record { number = 1; history = []; left = [] }
+abbrev pub nothing_served : Bool → Serving
+nothing_served has_values = record { has_values = has_values; number = 1; history = []; left = [] }
 
--- a service has no end; a line that is not UTF-8 is bad
-abbrev pub text_turn : CatalogueView → History → List ℕ → Option Turn
-text_turn c history line = if is_utf8 line then line_turn ENDLESS c history line else None
+-- the line of a script that a line says: the line itself, or if calls have values the one that `encode` makes of it
+abbrev pub said_line : Bool → List ℕ → Option (List ℕ)
+said_line false line = Some line
+said_line true line = result_ok (encoded line)
+
+-- what a line that asks what the store has gets; the history stays
+abbrev pub asking_turn : CatalogueView → History → Turn
+asking_turn c history = record { text = store_text (length history) c (state_of c history); history = history }
+
+-- a service has no end; a line that asks is none of a script; a line that is not UTF-8 is bad
+abbrev pub text_turn : Bool → CatalogueView → History → List ℕ → Option Turn
+text_turn has_values c history line =
+    if asks line then Some (asking_turn c history)
+    else if is_utf8 line then option_and_then (line_turn ENDLESS c history) (said_line has_values line)
+    else None
 
 -- the turn of the line at hand, when it ends; a bad line writes that it is, and the history stays
 abbrev pub turn_at : CatalogueView → Serving → Turn
-turn_at c s = unwrap_or (text_turn c s.history s.left) (record { text = (bad_line s.number).text; history = s.history })
+turn_at c s = unwrap_or (text_turn s.has_values c s.history s.left) (record { text = (bad_line s.number).text; history = s.history })
 
 -- the line behind it is at hand then
 abbrev pub behind_line : CatalogueView → Serving → Serving
-behind_line c s = record { number = next_line s.number; history = (turn_at c s).history; left = [] }
+behind_line c s = record s { number = next_line s.number; history = (turn_at c s).history; left = [] }
 
 -- what bytes make a service write, and what stands behind them
 pub record Served : Type 0 where
@@ -57,9 +74,9 @@ unfoldable pub served : CatalogueView → Serving → List ℕ → Served
 served c s [] = record { text = []; serving = s }
 served c s (b ∷ bs) = if b == 10 then served_behind (turn_at c s).text (served c (behind_line c s) bs) else served c (record s { left = s.left ++ b ∷ [] }) bs
 
--- what a catalogue's programs answer to an input
-abbrev pub served_text : CatalogueView → List ℕ → List ℕ
-served_text c bytes = (served c nothing_served bytes).text
+-- what a catalogue's programs answer to an input of script lines, or of calls with values
+abbrev pub served_text : Bool → CatalogueView → List ℕ → List ℕ
+served_text has_values c bytes = (served c (nothing_served has_values) bytes).text
 
 -- ---- what was read and written
 
@@ -95,12 +112,12 @@ given_back statuses.Differs s = None
 
 -- the programs of a catalogue were served an input, from what it had to what it has left, and to its end where all is well; the state that its
 -- lines leave is given back then
-pub record Serves (c : CatalogueView) (at : Ports) (ended : ServeEnd) : Type 0 where
+pub record Serves (has_values : Bool) (c : CatalogueView) (at : Ports) (ended : ServeEnd) : Type 0 where
   pub bytes : List ℕ
   pub read : Consumes at.given at.left bytes
   pub whole : ended.status ≡ statuses.Good → IsAtEnd at.left
-  pub answers : AnswersBytes at.old at.new ended.status (served_text c) bytes
-  pub state : ended.state ≡ given_back ended.status (state_of c (served c nothing_served bytes).serving.history)
+  pub answers : AnswersBytes at.old at.new ended.status (served_text has_values c) bytes
+  pub state : ended.state ≡ given_back ended.status (state_of c (served c (nothing_served has_values) bytes).serving.history)
 
 -- ---- the command
 
@@ -110,10 +127,14 @@ service spare None = Err not_text
 service spare (Some t) = opening (places_within spare) t
 
 -- what `serve` did; what is answered in its place leaves no state, and nothing of the input is read then
-abbrev pub ServesAll : Ports → ServeEnd → Result CatalogueView Answer → Type 0
-ServesAll at ended opening =
-    MatchResult opening (λ c. Serves c at ended) (λ a. Reports answer_of (λ r. answer_of r ≡ a) at.old at.new ended.status × (ended.state ≡ None) × (at.left ≡ at.given))
+abbrev pub ServesAll : Bool → Ports → ServeEnd → Result CatalogueView Answer → Type 0
+ServesAll has_values at ended opening =
+    MatchResult opening (λ c. Serves has_values c at ended) (λ a. Reports answer_of (λ r. answer_of r ≡ a) at.old at.new ended.status × (ended.state ≡ None) × (at.left ≡ at.given))
 
--- `ServesAll` of what there was to read before
-abbrev pub ServesGiven : ℕ → Ports → ServeEnd → Given → Type 0
-ServesGiven spare at ended g = ServesAll at ended (service spare (read g))
+-- `ServesAll` of what was read
+abbrev pub ServesRead : ServeOptions → Ports → ServeEnd → Option TextsRead → Type 0
+ServesRead how at ended t = ServesAll how.has_values at ended (service how.spare t)
+
+-- of what there was to read before
+abbrev pub ServesGiven : ServeOptions → Ports → ServeEnd → Given → Type 0
+ServesGiven how at ended g = ServesRead how at ended (read g)

@@ -1,8 +1,9 @@
 -- What is kept while an input is served. Clauses of private functions alone cite this.
-use Rattle.std.specs.Prelude.{◌≡◌, ℕ, Bool, List, [], ◌∷◌, ◌++◌, take, Option, Some, None, Result, Ok, Err, IfOk}
+use Rattle.std.specs.Prelude.{◌≡◌, ℕ, Bool, List, [], ◌∷◌, ◌++◌, take, Option, Some, None, option_and_then, Result, Ok, Err, IfOk}
 use Rattle.std.specs.Io.KnownBytes.{Appends, Consumes, IsAtEnd}
 use Rattle.loader.specs.CatalogueView.{CatalogueView}
 use Rattle.oplog.specs.declared.configuration.TheConstants.{ENDLESS}
+use Rattle.oplog.specs.History.{History}
 use Rattle.engine.specs.declared.replies.Status.{Status}
 use Rattle.engine.specs.declared.replies.Status.TheVariants as statuses
 use Rattle.engine.specs.declared.opening.Opened.{Opened}
@@ -10,9 +11,11 @@ use Rattle.engine.specs.Answer.{Answer}
 use Rattle.engine.specs.Opening.{on_which}
 use Rattle.serving.specs.declared.service.TheConstants.{KEPT_BYTES}
 use Rattle.serving.specs.declared.service.Service.{Service}
-use Rattle.running.specs.RunAnswer.{Turn}
+use Rattle.serving.specs.declared.turns.ServeEnd.{ServeEnd}
+use Rattle.running.specs.declared.single_node.SingleNode.{SingleNode}
+use Rattle.running.specs.RunAnswer.{Turn, line_turn}
 use Rattle.running.specs.Running.{Follows, LineTaken}
-use Rattle.serving.specs.ServeAnswer.{Serving, Ports, nothing_served, text_turn, served, served_text, AnswersBytes}
+use Rattle.serving.specs.ServeAnswer.{Serves, Serving, Ports, nothing_served, text_turn, served, served_text, AnswersBytes}
 
 -- one more byte of the line at hand
 abbrev pub with_byte : Serving → ℕ → Serving
@@ -24,20 +27,36 @@ IfOpened opened P = (on : Result CatalogueView Answer) → IfOk opened (λ o. on
 
 -- of a line that is longer than any good one, its first bytes are enough
 pub record Stands (s : Serving) (service : Service) : Type 0 where
+  pub has_values : service.has_values ≡ s.has_values
   pub number : service.number ≡ s.number
   pub follows : Follows ENDLESS service.catalogue s.history service.node
   pub left : service.left.items ≡ take KEPT_BYTES s.left
 
+-- it serves this catalogue, script lines or calls with values
+pub record IsServiceOf (has_values : Bool) (c : CatalogueView) (service : Service) : Type 0 where
+  pub mode : service.has_values ≡ has_values
+  pub catalogue : service.catalogue ≡ c
+
+-- where it was opened, what it serves is as `Serves` says
+abbrev pub ServesOpened : {E : Type 0} → Result Service E → Ports → ServeEnd → Type 0
+ServesOpened service at ended = (has_values : Bool) (c : CatalogueView) → IfOk service (IsServiceOf has_values c) → Serves has_values c at ended
+
 -- the same line is at hand
 pub record IsSameLine (old new : Service) : Type 0 where
   pub catalogue : new.catalogue ≡ old.catalogue
+  pub has_values : new.has_values ≡ old.has_values
   pub number : new.number ≡ old.number
   pub left : new.left ≡ old.left
+
+-- what a line of a script does was done, from any history of the node, unless memory runs out; if there is no line, nothing was
+abbrev pub TakesSaid : {E : Type 0} → CatalogueView → Option (List ℕ) → SingleNode → SingleNode → List ℕ → List ℕ → Result Bool E → Type 0
+TakesSaid c said node after old new r =
+    (limit : ℕ) (h : History) → Follows limit c h node → IfOk r (λ good. LineTaken limit c (option_and_then (line_turn limit c h) said) good after old new)
 
 -- what the line at hand does was done, unless memory runs out
 abbrev pub TakesLeft : {E : Type 0} → Service → Service → Serving → Result Bool E → Type 0
 TakesLeft old new s r =
-    IfOk r (λ good. LineTaken ENDLESS old.catalogue (text_turn old.catalogue s.history s.left) good new.node old.answer.items new.answer.items)
+    IfOk r (λ good. LineTaken ENDLESS old.catalogue (text_turn s.has_values old.catalogue s.history s.left) good new.node old.answer.items new.answer.items)
 
 -- the text that these bytes are served with is put behind what was there
 abbrev pub AddsServed : CatalogueView → Serving → List ℕ → List ℕ → List ℕ → Type 0
@@ -74,8 +93,8 @@ abbrev pub TakesTurns : Ports → Service → Service → Option Status → Type
 TakesTurns at old new ended = (s : Serving) → Stands s old → Turns old.catalogue s new at ended
 
 -- turns were taken, and the service stands behind all that they read
-pub record Going (c : CatalogueView) (service : Service) (at : Ports) : Type 0 where
+pub record Going (has_values : Bool) (c : CatalogueView) (service : Service) (at : Ports) : Type 0 where
   pub bytes : List ℕ
   pub read : Consumes at.given at.left bytes
-  pub answers : Appends at.old at.new (served_text c bytes)
-  pub stands : Stands (served c nothing_served bytes).serving service
+  pub answers : Appends at.old at.new (served_text has_values c bytes)
+  pub stands : Stands (served c (nothing_served has_values) bytes).serving service

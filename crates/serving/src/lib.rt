@@ -3,7 +3,8 @@
 
 mod laws;
 mod service;
+mod store_texts;
 mod turns;
 
-pub use laws::{served_in_parts, served_is_run};
-pub use turns::{ServeEnd, serve};
+pub use laws::{served_in_parts, served_is_encoded, served_is_run};
+pub use turns::{ServeEnd, ServeOptions, serve};

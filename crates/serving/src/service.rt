@@ -1,13 +1,17 @@
 // Lines that are answered as they end.
 
+ghost use Rattle.std.specs.Result.{result_ok};
 ghost use Rattle.std.specs.Prelude.{◌≡◌, ◌∷◌, ◌++◌, [], false, Ok, IfOk, OnOk, OnErr};
 ghost use Rattle.engine.specs.declared.opening.Opened.TheVariants.{On};
 ghost use Rattle.engine.specs.Opening.{IsOpened};
+ghost use Rattle.encoding.specs.Encoded.{encoded};
 ghost use Rattle.running.specs.Running.{IsSteady};
 ghost use Rattle.serving.specs.ServeAnswer.{Serving, nothing_served, turn_at, behind_line, served};
-ghost use Rattle.serving.specs.Serving.{with_byte, AddsServed, Stands, IsSameLine, TakesLeft, IsAnswered, GoesOn, TakesBytes};
+ghost use Rattle.serving.specs.Serving.{with_byte, AddsServed, Stands, IsSameLine, TakesLeft, TakesSaid, IsAnswered, GoesOn, TakesBytes};
 
+use crate::store_texts::{asks, put_store};
 use arrayvec::ArrayVec;
+use encoding::encode_line;
 use loader::{Catalogue, StoreState};
 use oplog::ENDLESS;
 use running::{SingleNode, put_bad_line, take_line};
@@ -21,8 +25,11 @@ const KEPT_BYTES: usize = 513;
 // One node and what has come of the line at hand.
 #[derive(Drop)]
 pub(crate) struct Service {
+    alloc: Global,
     catalogue: Catalogue,
     node: SingleNode,
+    // Whether the arguments of calls are values.
+    has_values: bool,
     // The number of the line at hand.
     number: u32,
     // The first bytes of the line.
@@ -31,23 +38,48 @@ pub(crate) struct Service {
     answer: Vec<u8>,
 }
 
+// Does what the line of a script says that `encode` makes of a line, and tells whether the line is good.
+fn answer_values(
+    alloc: Global,
+    node: &mut SingleNode,
+    catalogue: &Catalogue,
+    line: &str,
+    out: &mut Vec<u8>,
+) -> Result<bool, AllocError>
+    requires steady { IsSteady catalogue.now node.old }
+    ensures steady { IsSteady catalogue.now node.new }
+    ensures kept { result ≡ Ok false → node.new ≡ node.old }
+    ensures taken { TakesSaid catalogue.now (result_ok (encoded line.now)) node.old node.new out.old.items out.new.items result }
+{
+    match encode_line(alloc, line)? {
+        Ok(script) => {
+            let mut room = [0; FIELD_BYTES];
+            take_line(node, catalogue, script.as_str(), &mut room, out)
+        }
+        Err(_) => Ok(false),
+    }
+}
+
 impl Service {
     // A store for the maps and the programs of a catalogue, on a copy of the state that it opens on, which is let go, or on a new one.
     #[tactic(auto, using(engine::proofs::Openings::opens_on))]
     pub(crate) fn open(
         alloc: Global,
+        has_values: bool,
         catalogue: Catalogue,
         opening: Option<StoreState>,
     ) -> Result<Service, AllocError>
         requires opened { IsOpened (On catalogue opening) }
         ensures catalogue { IfOk result (λ s. s.catalogue ≡ catalogue) }
         ensures steady { IfOk result (λ s. IsSteady s.catalogue s.node) }
-        ensures stands { IfOk result (λ s. Stands nothing_served s) }
+        ensures stands { IfOk result (λ s. Stands (nothing_served has_values) s) }
     {
         let node = SingleNode::open(alloc, &catalogue, opening.as_ref(), ENDLESS as usize)?;
         Ok(Service {
+            alloc,
             catalogue,
             node,
+            has_values,
             number: 1,
             left: ArrayVec::new(),
             answer: Vec::new(alloc),
@@ -73,18 +105,20 @@ impl Service {
         ensures kept { result ≡ Ok false → self.new.node ≡ self.old.node }
         ensures taken { (s : Serving) → Stands s self.old → TakesLeft self.old self.new s result }
     {
-        match str::from_utf8(self.left.as_slice()) {
-            Ok(line) => {
-                let mut room = [0; FIELD_BYTES];
-                take_line(
-                    &mut self.node,
-                    &self.catalogue,
-                    line,
-                    &mut room,
-                    &mut self.answer,
-                )
-            }
-            Err(_) => Ok(false),
+        let kept = self.left.as_slice();
+        if asks(kept) {
+            put_store(&mut self.answer, &self.catalogue, &self.node)?;
+            return Ok(true);
+        }
+        let Ok(line) = str::from_utf8(kept) else {
+            return Ok(false);
+        };
+        let node = &mut self.node;
+        if self.has_values {
+            answer_values(self.alloc, node, &self.catalogue, line, &mut self.answer)
+        } else {
+            let mut room = [0; FIELD_BYTES];
+            take_line(node, &self.catalogue, line, &mut room, &mut self.answer)
         }
     }
 

@@ -5,12 +5,12 @@ ghost use Rattle.engine.specs.declared.replies.Status.TheVariants as statuses;
 ghost use Rattle.engine.specs.declared.transfer.ReadFault.TheVariants as faults;
 ghost use Rattle.engine.specs.declared.opening.Opened.TheVariants.{On};
 ghost use Rattle.engine.specs.Opening.{IsOpened, on_which};
-ghost use Rattle.engine.specs.Reading.{FailedInTurn, IfGiven, TextsRead};
+ghost use Rattle.engine.specs.Reading.{FailedInTurn, IfGiven, StopsAtStranger, TextsRead};
 ghost use Rattle.engine.specs.Report.{Failed, Sends, answer_of};
 ghost use Rattle.engine.specs.Texts.{no_memory_line};
 ghost use Rattle.running.specs.Running.{IsSteady};
-ghost use Rattle.serving.specs.ServeAnswer.{Serves, ServesAll, ServesGiven, given_back, nothing_served, ports, service};
-ghost use Rattle.serving.specs.Serving.{IfOpened, Stands, TakesTurns};
+ghost use Rattle.serving.specs.ServeAnswer.{Serves, ServesAll, ServesGiven, ServesRead, given_back, nothing_served, ports, service};
+ghost use Rattle.serving.specs.Serving.{IfOpened, ServesOpened, Stands, TakesTurns};
 
 use crate::service::Service;
 use engine::texts::no_memory;
@@ -31,6 +31,15 @@ pub struct ServeEnd {
     pub status: Status,
     /// The state after all lines that were answered, where it ended well.
     pub state: Option<StoreState>,
+}
+
+/// What a service offers.
+#[derive(Clone, Copy, PartialEq, Eq, Debug)]
+pub struct ServeOptions {
+    /// How many places for installed programs come after those of the manifest, 0 to 16.
+    pub spare: u32,
+    /// Whether the arguments of calls are values, as [`encoding::encode`] takes them.
+    pub has_values: bool,
 }
 
 // An end that leaves no state.
@@ -106,8 +115,8 @@ fn serve_input<R: Feed, W: Sink>(
     writer: &mut W,
 ) -> ServeEnd
     requires steady { IsSteady service.catalogue service.node }
-    requires nothing { Stands nothing_served service }
-    ensures served { Serves service.catalogue (ports R.remaining reader.old reader.new W.contents writer.old writer.new) result }
+    requires nothing { Stands (nothing_served service.has_values) service }
+    ensures served { Serves service.has_values service.catalogue (ports R.remaining reader.old reader.new W.contents writer.old writer.new) result }
     ensures failed { Failed result.status (R.has_failed reader.new) (W.has_failed writer.new) }
 {
     let mut room = [0u8; ROOM_BYTES];
@@ -121,19 +130,18 @@ fn serve_input<R: Feed, W: Sink>(
     without_state(end_without_memory(writer))
 }
 
-// Serves the programs of a catalogue, on a copy of the state that it opens on, or on a new one.
+// Serves on a store that was opened, unless memory ran out.
 fn serve_on<R: Feed, W: Sink>(
     alloc: Global,
-    catalogue: Catalogue,
-    state: Option<StoreState>,
+    service: Result<Service, AllocError>,
     reader: &mut R,
     writer: &mut W,
 ) -> ServeEnd
-    requires opened { IsOpened (On catalogue state) }
-    ensures served { Serves catalogue (ports R.remaining reader.old reader.new W.contents writer.old writer.new) result }
+    requires opened { IfOk service (λ s. IsSteady s.catalogue s.node × Stands (nothing_served s.has_values) s) }
+    ensures served { ServesOpened service (ports R.remaining reader.old reader.new W.contents writer.old writer.new) result }
     ensures failed { Failed result.status (R.has_failed reader.new) (W.has_failed writer.new) }
 {
-    match Service::open(alloc, catalogue, state) {
+    match service {
         Ok(service) => serve_input(alloc, service, reader, writer),
         Err(_) => without_state(end_without_memory(writer)),
     }
@@ -142,17 +150,19 @@ fn serve_on<R: Feed, W: Sink>(
 // Serves what was opened, or writes what is answered in its place.
 fn serve_opened<R: Feed, W: Sink>(
     alloc: Global,
+    has_values: bool,
     opened: Result<Opened, ReadFault>,
     reader: &mut R,
     writer: &mut W,
 ) -> ServeEnd
     requires opened { IfOk opened IsOpened }
-    ensures served { IfOpened opened (ServesAll (ports R.remaining reader.old reader.new W.contents writer.old writer.new) result) }
+    ensures served { IfOpened opened (ServesAll has_values (ports R.remaining reader.old reader.new W.contents writer.old writer.new) result) }
     ensures failed { Failed result.status ((opened ≡ Err faults.CannotRead) ⊎ R.has_failed reader.new) (W.has_failed writer.new) }
 {
     let instead: Result<Reply, ReadFault> = match opened {
         Ok(Opened::On(catalogue, state)) => {
-            return serve_on(alloc, catalogue, state, reader, writer);
+            let service = Service::open(alloc, has_values, catalogue, state);
+            return serve_on(alloc, service, reader, writer);
         }
         Ok(Opened::Refused(reply)) => Ok(reply),
         Err(fault) => Err(fault),
@@ -186,29 +196,34 @@ impl Command for Opening {
 
 /// Answers the lines of a script as they come in, on a store with the maps and the programs of a manifest, and so many places behind
 /// these: one log, which has no end ([`oplog::ENDLESS`]), and one replica, on one thread. The store opens on the state that a text says, as
-/// [`dumps::dump`] writes one; without a text it is a new one.
+/// [`dumps::dump`] writes one; without a text it is a new one. If calls have values, a line is answered as the line of a script that
+/// [`encoding::encode`] makes of it.
 ///
 /// Writes for each line what `run` writes for it. A line that is bad writes `line N bad`, changes nothing, and the service goes on; so does
-/// one that is not UTF-8. What a read brings is answered, and all that was answered is written, before the next read. A last line
-/// that has no line feed is not answered. A refused manifest writes only its refusal, more than 16 places `refused O1`, and a refused state
-/// `line N: En`; then nothing of the input is read. Says how it ended: at the end of input well, and then gives the state that the answered
-/// lines leave. Where memory runs out, `no memory` stands behind the answers so far.
+/// one that is not UTF-8, and one that `encode` refuses. A line `?` writes what the store has, and changes nothing. What a read brings is
+/// answered, and all that was answered is written, before the next read. A last line that has no line feed is not answered. A refused manifest
+/// writes only its refusal, more than 16 places `refused O1`, and a refused state `line N: En`; then nothing of the input is read. Says how it
+/// ended: at the end of input well, and then gives the state that the answered lines leave. Where memory runs out, `no memory` stands behind the
+/// answers so far.
 pub fn serve<F: Folder, S: Source + Drop, R: Feed, W: Sink>(
     alloc: Global,
-    spare: u32,
+    how: ServeOptions,
     inputs: &mut Inputs<'_, F, S>,
     reader: &mut R,
     writer: &mut W,
 ) -> ServeEnd
     // Where the readers and the folder tell their bytes, those are served.
-    ensures written { IfGiven F.holds S.remaining inputs.old (ServesGiven spare (ports R.remaining reader.old reader.new W.contents writer.old writer.new) result) }
+    ensures written { IfGiven F.holds S.remaining inputs.old (ServesGiven how (ports R.remaining reader.old reader.new W.contents writer.old writer.new) result) }
     // The status says that a read failed only after one of the input did, or of a text after texts that are all UTF-8.
     ensures read { result.status ≡ statuses.CannotRead → FailedInTurn F.holds F.can_fail S.remaining S.has_failed inputs.old inputs.new ⊎ R.has_failed reader.new }
     // The status says that a write failed only after one did.
     ensures wrote { result.status ≡ statuses.CannotWrite → W.has_failed writer.new }
     // Whatever they give, or where they fail.
-    ensures ended { (t : Option TextsRead) × ServesAll (ports R.remaining reader.old reader.new W.contents writer.old writer.new) result (service spare t) }
+    ensures ended { (t : Option TextsRead) × ServesRead how (ports R.remaining reader.old reader.new W.contents writer.old writer.new) result t }
+    // However it ends, a text is read only if all texts before it are UTF-8.
+    ensures stops { IfGiven F.holds S.remaining inputs.old (StopsAtStranger inputs.old inputs.new) }
 {
+    let ServeOptions { spare, has_values } = how;
     let opened = prepare(alloc, &Opening { spare }, inputs, &mut Notes::none(alloc));
-    serve_opened(alloc, opened, reader, writer)
+    serve_opened(alloc, has_values, opened, reader, writer)
 }

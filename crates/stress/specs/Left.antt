@@ -4,7 +4,7 @@ use Rattle.std.specs.Option.{option_map_or}
 use Rattle.dumps.specs.Dumping.{dump}
 use Rattle.engine.specs.declared.parted.Destination.{Destination}
 use Rattle.engine.specs.Answer.{Answer}
-use Rattle.engine.specs.Parted.{PartedAnswer, sent_to}
+use Rattle.engine.specs.Parted.{PartedAnswer, handed_text, sent_to}
 use Rattle.engine.specs.Reading.{TextsRead}
 use Rattle.engine.specs.Report.{answer_of}
 use Rattle.stress.specs.declared.command.Stress.{Stress}
@@ -36,7 +36,7 @@ answer_left l = answer_of l.reply
 -- the texts are those of what was made
 abbrev pub IsLeft : Leaving → Stressed → LeftTexts → Type 0
 IsLeft to s l =
-    (record { answer = answer_left l; times = option_map (λ v. v.items) l.times; state = option_map (λ v. v.items) l.state } ≡ left_by to s) × (l.counts ≡ s.counts)
+    (record { answer = answer_left l; times = option_map handed_text l.times; state = option_map handed_text l.state } ≡ left_by to s) × (l.counts ≡ s.counts)
 
 -- what this command may leave of what was read
 abbrev pub MayLeave : {R G C : Type 0} → Stress R G C → Leaving → Option TextsRead → LeftTexts → Type 0

@@ -5,7 +5,7 @@ ghost use Rattle.stress.specs.Left.{IsLeft, answer_left};
 
 use crate::stressed::Stressed;
 use crate::watching::Counts;
-use engine::{Answering, Destination, Parted, Reply, Verdict};
+use engine::{Answering, Destination, Handed, Parted, Reply, Verdict};
 use std::alloc::{AllocError, Global};
 
 /// Where to write what a run leaves besides its transcript.
@@ -23,9 +23,9 @@ pub struct LeftTexts {
     /// What is written.
     pub reply: Reply,
     /// The times of its calls, where they go elsewhere.
-    pub times: Option<Vec<u8>>,
+    pub times: Option<Handed>,
     /// The text of the state, as [`dumps::dump`] writes it, where that goes elsewhere.
-    pub state: Option<Vec<u8>>,
+    pub state: Option<Handed>,
     /// How many calls were made, how long they took, and in which batches.
     pub counts: Counts,
 }
@@ -67,7 +67,7 @@ pub(crate) fn left_texts(
     let with_times = Parted::with(reply, history, to.times)?;
     let with_state = match to.state {
         Destination::Nowhere => Parted::whole(with_times.reply),
-        state_to => Parted::with(with_times.reply, dumps::dump(alloc, &state)?, state_to)?,
+        state_to => Parted::with_state(alloc, with_times.reply, state, state_to)?,
     };
     Ok(LeftTexts {
         reply: with_state.reply,
