@@ -3,3 +3,4 @@ pub mod Uncolumned
 pub mod MapLines
 pub mod Checked
 pub mod Graphs
+pub mod Strangers

@@ -6,9 +6,11 @@ mod decoding;
 mod laws;
 mod manifests;
 mod map_lines;
+mod objects;
 
 pub use assembly::{Assemble, Disassemble, Encode};
 pub use decoding::Decode;
 pub use laws::{check_writes, slots_are_columns};
 pub use manifests::{Check, Draw, Explain};
 pub use map_lines::CheckMaps;
+pub use objects::Find;

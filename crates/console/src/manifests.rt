@@ -47,7 +47,7 @@ pub struct Draw<'a> {
 }
 
 // What `check` answers to what was read.
-fn checked(alloc: Global, read: &Gathered) -> Result<Reply, AllocError>
+pub(crate) fn checked(alloc: Global, read: &Gathered) -> Result<Reply, AllocError>
     ensures { IfOk result (λ r. answer_of r ≡ check_answer (texts_in read.now)) }
 {
     let Ok(texts) = read else {
@@ -80,21 +80,31 @@ impl Command for Check {
     }
 }
 
+// The bytes of a file that is not UTF-8. One that cannot be read is passed over: what `check` answers stands already.
+pub(crate) fn strange_bytes<F: Folder>(
+    alloc: Global,
+    folder: &F,
+    name: &str,
+) -> Result<Option<Vec<u8>>, AllocError> {
+    let Some(mut file) = folder.open(name) else {
+        return Ok(None);
+    };
+    match file.read_whole(alloc) {
+        Ok(bytes) if str::from_utf8(&bytes).is_err() => Ok(Some(bytes)),
+        Ok(_) | Err(ReadFault::CannotRead) => Ok(None),
+        Err(ReadFault::NoMemory) => Err(AllocError),
+    }
+}
+
 impl<F: Folder> Explain<'_, F> {
-    // Adds what a file is, where it is no text. One that cannot be read is passed over: what `check` answers stands already.
+    // Adds what a file is, if it is not UTF-8.
     fn tell_file(&self, told: &mut Vec<u8>, name: &str) -> Result<(), AllocError> {
         let alloc = *told.allocator();
-        let Some(mut file) = self.folder.open(name) else {
+        let Some(bytes) = strange_bytes(alloc, self.folder, name)? else {
             return Ok(());
         };
-        match file.read_whole(alloc) {
-            Ok(bytes) if str::from_utf8(&bytes).is_err() => {
-                let text = explain_stranger(alloc, name, &bytes)?;
-                told.extend_from_slice(text.as_str().as_bytes())
-            }
-            Ok(_) | Err(ReadFault::CannotRead) => Ok(()),
-            Err(ReadFault::NoMemory) => Err(AllocError),
-        }
+        let text = explain_stranger(alloc, name, &bytes)?;
+        told.extend_from_slice(text.as_str().as_bytes())
     }
 
     // Explains the first text that is not UTF-8, and each file that the manifest names after it that is not UTF-8 either.

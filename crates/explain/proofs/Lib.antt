@@ -5,5 +5,6 @@ pub mod MapLines
 pub mod Judged
 pub mod Manifests
 pub mod FirstFault
+pub mod Export
 pub mod Lines
 pub mod Slots

@@ -12,12 +12,12 @@ pub use assembly::explain_assembly;
 pub use faults::explain_stranger;
 pub use graph::graph_manifest;
 use insn::{DecodeError, Insn, decode};
-pub use manifest::explain_manifest;
+pub use manifest::{explain_manifest, has_program};
 use std::alloc::{AllocError, Global};
 
-// The text of the first file of this name.
-fn text_of<'a>(files: &[(&'a str, &'a str)], name: &str) -> Option<&'a str>
-    ensures { option_map (λ t. t.now) result ≡ file_named (files_of files.now) name.now }
+/// The text of the first file of this name.
+pub fn text_of<'a>(files: &[(&'a str, &'a str)], name: &str) -> Option<&'a str>
+    ensures text { option_map (λ t. t.now) result ≡ file_named (files_of files.now) name.now }
 {
     for file in files {
         if file.0 == name {

@@ -9,6 +9,9 @@ mod programs;
 mod refusals;
 mod sentences;
 
-pub use files::{explain_assembly, explain_manifest, explain_stranger, graph_manifest};
+pub use files::{
+    explain_assembly, explain_manifest, explain_stranger, graph_manifest, has_program, text_of,
+};
 pub use laws::{refusal_is_told, rules_are_shared};
-pub use programs::{Subject, explain_program};
+pub use programs::{Subject, explain_program, explain_refusal};
+pub use refusals::Reason;

@@ -18,7 +18,7 @@ use crate::sentences::{Written, put};
 use helpers::Helper;
 use insn::Operation::Mov;
 use insn::{Condition, Edge, Form, Insn, MAX_SLOTS, Source};
-pub use listing::explain_program;
+pub use listing::{explain_program, explain_refusal};
 use maps::{MAX_ARG_LEN, MapLimits, Shape, ShapeFault, shapes_within};
 use regkind::{Cell, Frame, Kind};
 use std::alloc::{AllocError, Global};
@@ -453,6 +453,16 @@ impl<'a> Way<'a> {
             }
         }
         found
+    }
+
+    // Its slots, in order.
+    pub(crate) fn slots(&self) -> Result<Vec<usize>, AllocError> {
+        let mut slots = Vec::new(self.study.alloc);
+        for step in &self.steps {
+            slots.push(step.from)?;
+        }
+        slots.push(self.end)?;
+        Ok(slots)
     }
 
     // Adds its slots, and of a long way those between which nothing is left out: the first and the last of each piece without a jump.

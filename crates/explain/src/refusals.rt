@@ -1,6 +1,6 @@
 // Why a program is refused, in words: what broke, and what to do about it.
 
-ghost use Rattle.std.specs.Prelude.{◌≡◌, ◌++◌, ℕ, List, OnOk};
+ghost use Rattle.std.specs.Prelude.{◌≡◌, ◌++◌, ℕ, List, IfOk, OnOk};
 ghost use Rattle.std.specs.String.{string_bytes};
 ghost use Rattle.explain.specs.Listing.{refusal_text, IsReason};
 
@@ -9,7 +9,7 @@ mod registers;
 
 use crate::programs::{Lack, Study, Way, jump_target, reads, successor};
 use crate::sentences::Word::{Count, Fault, Field, Nothing, Number, Register, Small};
-use crate::sentences::{Told, Word, Written, put_all, put_numbers, say};
+use crate::sentences::{Advice, Word, Written, put_all, put_numbers, say};
 use insn::{Edge, Form};
 use regkind::Kind;
 use std::alloc::AllocError;
@@ -48,7 +48,7 @@ fn lack_at(study: &Study<'_>, refused: Refused) -> Option<Lack> {
 }
 
 // Why kinds are refused at the end of a way, where more is to be said than by which rule.
-fn broken_kinds(way: &Way<'_>, why: VerifyFault) -> Option<Told<'static>> {
+fn broken_kinds(way: &Way<'_>, why: VerifyFault) -> Option<Advice<'static>> {
     let line = Field(u64::from(way.study.subject.line));
     match why {
         VerifyFault::UnreadableRegister => way.unreadable_register(),
@@ -113,7 +113,7 @@ fn jump_text(why: VerifyFault, is_loop: bool, is_at_end: bool) -> &'static str {
 }
 
 // Says why a jump is refused: the text of `jump_text`, with the words for its gaps.
-fn wrong_jump(study: &Study<'_>, refused: Refused) -> Result<Told<'static>, AllocError> {
+fn wrong_jump(study: &Study<'_>, refused: Refused) -> Result<Advice<'static>, AllocError> {
     let (slot, slots) = (refused.slot as usize, study.slots());
     let target = study.form_at(slot).and_then(|form| jump_target(form, slot));
     let target = target.unwrap_or(i64::from(refused.slot));
@@ -128,7 +128,7 @@ fn wrong_jump(study: &Study<'_>, refused: Refused) -> Result<Told<'static>, Allo
 }
 
 // Why nothing leads to the instruction at a slot.
-fn unreached_reason(study: &Study<'_>, slot: usize) -> Told<'static> {
+fn unreached_reason(study: &Study<'_>, slot: usize) -> Advice<'static> {
     // The slot above this one at which the answer of a lookup is used without a test.
     let kinds = study.known.kinds.filter(|kinds| kinds.why == UncheckedNull);
     let used = kinds.map(|kinds| kinds.slot as usize);
@@ -152,7 +152,7 @@ fn unreached_reason(study: &Study<'_>, slot: usize) -> Told<'static> {
 }
 
 // Why the program runs off its end.
-fn end_reason(study: &Study<'_>, slot: usize) -> Told<'static> {
+fn end_reason(study: &Study<'_>, slot: usize) -> Advice<'static> {
     let text = match study.form_at(slot) {
         None => "The program has no instruction.|The shortest program is `mov64 r0, 0` and `exit`.",
         Some(_) if study.known.frames.is_empty() =>
@@ -169,7 +169,7 @@ fn end_reason(study: &Study<'_>, slot: usize) -> Told<'static> {
 pub(crate) fn broken_structure(
     study: &Study<'_>,
     refused: Refused,
-) -> Result<Option<Told<'static>>, AllocError> {
+) -> Result<Option<Advice<'static>>, AllocError> {
     let slot = refused.slot as usize;
     Ok(match refused.why {
         TargetOutside | TargetNotForward | TargetInsideWide => Some(wrong_jump(study, refused)?),
@@ -188,20 +188,29 @@ fn put_number(out: &mut String, refused: Refused) -> Written
     put_all(out, &["."])
 }
 
+// The way to a refusal by kinds.
+fn way_to<'a>(study: &'a Study<'a>, refused: Refused) -> Result<Way<'a>, AllocError> {
+    let lack = lack_at(study, refused).unwrap_or(Lack::Nothing);
+    Way::to(study, refused.slot as usize, lack)
+}
+
+// What is told of a refusal by kinds at the end of a way.
+fn advice_on(way: &Way<'_>, why: VerifyFault) -> Advice<'static> {
+    let rule = say("{0}.|REFUSALS has more of it.", &[Fault(why)]);
+    broken_kinds(way, why).unwrap_or(rule)
+}
+
 // Adds the way to a refusal by kinds, and what is told of it.
 fn put_way(out: &mut String, study: &Study<'_>, refused: Refused) -> Written {
-    let lack = lack_at(study, refused).unwrap_or(Lack::Nothing);
-    let way = Way::to(study, refused.slot as usize, lack)?;
+    let way = way_to(study, refused)?;
     out.push_str(" The way: ")?;
     way.put(out)?;
     out.push_str(".\n      ")?;
-    let rule = say("{0}.|REFUSALS has more of it.", &[Fault(refused.why)]);
-    let told = broken_kinds(&way, refused.why).unwrap_or(rule);
-    told.put(out, TO_DO)
+    advice_on(&way, refused.why).put(out, TO_DO)
 }
 
 // What is told of a refusal behind its number: where it is by structure, also that by kinds, as far as these are known.
-fn reason(study: &Study<'_>, refused: Refused) -> Result<String, AllocError> {
+fn reason_text(study: &Study<'_>, refused: Refused) -> Result<String, AllocError> {
     let mut out = String::new(study.alloc);
     let Some(told) = broken_structure(study, refused)? else {
         put_way(&mut out, study, refused)?;
@@ -216,6 +225,41 @@ fn reason(study: &Study<'_>, refused: Refused) -> Result<String, AllocError> {
     Ok(out)
 }
 
+/// Why a program is refused.
+#[derive(Drop)]
+pub struct Reason {
+    /// The rule, and the slot.
+    pub refused: Refused,
+    /// The slots of a way from the entry to that slot, in order; none where the rule is of the structure (V1 to V5).
+    pub way: Vec<usize>,
+    /// What is wrong, in words.
+    pub wrong: String,
+    /// What to do about it, in words.
+    pub to_do: String,
+}
+
+impl Reason {
+    // The reason of a refusal, in parts.
+    pub(crate) fn of(study: &Study<'_>, refused: Refused) -> Result<Reason, AllocError>
+        ensures { IfOk result (λ r. r.refused ≡ refused) }
+    {
+        let (way, advice) = match broken_structure(study, refused)? {
+            Some(advice) => (Vec::new(study.alloc), advice),
+            None => {
+                let way = way_to(study, refused)?;
+                (way.slots()?, advice_on(&way, refused.why))
+            }
+        };
+        let (wrong, to_do) = advice.parts(study.alloc)?;
+        Ok(Reason {
+            refused,
+            way,
+            wrong,
+            to_do,
+        })
+    }
+}
+
 // Adds why the program is refused, if it is.
 pub(crate) fn put_refusal(out: &mut String, study: &Study<'_>) -> Written
     ensures { OnOk result ((text : List ℕ) × (string_bytes out.new ≡ string_bytes out.old ++ text) × IsReason study.now.known.refused text) }
@@ -223,7 +267,7 @@ pub(crate) fn put_refusal(out: &mut String, study: &Study<'_>) -> Written
     let Some(refused) = study.known.refused else {
         return Ok(());
     };
-    let reason = reason(study, refused)?;
+    let reason = reason_text(study, refused)?;
     put_number(out, refused)?;
     out.push_str(reason.as_str())
 }

@@ -124,7 +124,7 @@ impl Word<'_> {
 
 // What is wrong and what to do about it.
 #[derive(Clone, Copy)]
-pub(crate) struct Told<'a> {
+pub(crate) struct Advice<'a> {
     // One behind the other. Their gaps are `{0}`, `{1}` and so on, and a bar stands before what to do.
     texts: [&'a str; 2],
     // What stands in the gaps, in order.
@@ -132,17 +132,17 @@ pub(crate) struct Told<'a> {
 }
 
 // What is told in a text with these words in its gaps, of which there are eleven at most.
-pub(crate) fn say<'a>(text: &'a str, words: &[Word<'a>]) -> Told<'a> {
+pub(crate) fn say<'a>(text: &'a str, words: &[Word<'a>]) -> Advice<'a> {
     say_both([text, ""], words)
 }
 
 // What is told in two texts.
-pub(crate) fn say_both<'a>(texts: [&'a str; 2], words: &[Word<'a>]) -> Told<'a> {
+pub(crate) fn say_both<'a>(texts: [&'a str; 2], words: &[Word<'a>]) -> Advice<'a> {
     let mut all = [Word::Nothing; 11];
     for k in 0..words.len().min(11) {
         all[k] = words[k];
     }
-    Told { texts, words: all }
+    Advice { texts, words: all }
 }
 
 // Adds a text with what stands in its gaps.
@@ -158,17 +158,28 @@ pub(crate) fn put(out: &mut String, text: &str, words: &[Word<'_>]) -> Written {
     Ok(())
 }
 
-impl<'a> Told<'a> {
+impl<'a> Advice<'a> {
     // With this in place of the second text.
-    pub(crate) fn and(self, text: &'a str) -> Told<'a> {
-        let Told {
+    pub(crate) fn and(self, text: &'a str) -> Advice<'a> {
+        let Advice {
             texts: [first, _],
             words,
         } = self;
-        Told {
+        Advice {
             texts: [first, text],
             words,
         }
+    }
+
+    // What is wrong, and what to do about it, as two texts.
+    pub(crate) fn parts(&self, alloc: Global) -> Result<(String, String), AllocError> {
+        let (mut wrong, mut to_do) = (String::new(alloc), String::new(alloc));
+        for text in &self.texts {
+            let (what, fix) = text.split_once('|').unwrap_or((*text, ""));
+            put(&mut wrong, what, &self.words)?;
+            put(&mut to_do, fix, &self.words)?;
+        }
+        Ok((wrong, to_do))
     }
 
     // `put`, but into a new text.

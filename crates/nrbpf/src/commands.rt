@@ -125,7 +125,7 @@ pub fn perform<
             inputs,
             writer,
         ),
-        Task::Serve(spare) => serve_command::perform(rt, spare, call.output, inputs, writer),
+        Task::Serve(options) => { serve_command::perform(rt, options, call.output, inputs, writer) }
         Task::Stress(config) => stress_command::perform(rt, config, call, inputs, writer),
     }
 }

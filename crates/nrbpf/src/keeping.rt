@@ -3,11 +3,13 @@
 ghost use Rattle.std.specs.Prelude.{◌≡◌, codes, option_and_then, option_map, bytes_eq, if◌then◌else◌};
 ghost use Rattle.std.specs.Option.{option_map_or};
 ghost use Rattle.engine.specs.declared.parted.Destination.TheVariants as destinations;
-ghost use Rattle.engine.specs.Parted.{parted_of};
+ghost use Rattle.engine.specs.Parted.{parted_of, handed_text};
 
 use crate::disk::DASH;
 use crate::output::say_text;
-use engine::{Answering, Command, Destination, Folder, Inputs, Notes, Parted, Status, Telling};
+use engine::{
+    Answering, Command, Destination, Folder, Handed, Inputs, Notes, Parted, Status, Telling,
+};
 use std::io::{Eprint, Read, Write};
 
 /// Does a command, and says its notes on standard error.
@@ -39,8 +41,8 @@ pub fn destination_of(path: Option<&str>) -> Destination
 }
 
 /// The text that a command made for a file, if there is one.
-pub fn elsewhere(made: Option<Parted>) -> Option<Vec<u8>>
-    ensures { option_map (λ v. v.items) result ≡ option_and_then (λ p. (parted_of p).elsewhere) made }
+pub fn elsewhere(made: Option<Parted>) -> Option<Handed>
+    ensures { option_map handed_text result ≡ option_and_then (λ p. (parted_of p).elsewhere) made }
 {
     match made {
         Some(made) => made.elsewhere,

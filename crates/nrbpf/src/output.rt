@@ -1,11 +1,15 @@
 // Where a command writes: standard output, standard error and files.
 
-use crate::disk::{DASH, say};
-use engine::{ReadFault, Reply, Sink, Status, report};
+use crate::disk::say;
+use dumps::StateText;
+use engine::{Handed, ReadFault, Reply, Sink, Status, report};
 use std::alloc::{AllocError, Global};
 use std::io::{Eprint, ErrorKind, Write};
 use std::rt::Files;
 use std::{fs, io};
+
+// How many bytes of a state's text are written at once. A line has room in them.
+const PIECE_BYTES: usize = 40_960;
 
 /// Standard output. If a write fails, standard error says why, except for a pipe that nobody reads any more.
 #[derive(Drop)]
@@ -69,10 +73,10 @@ impl<'a> Target<'a> {
     }
 
     // Writes a file next to that of the path, and then renames it to the path.
-    fn replace<R: Files>(&self, rt: &R, text: &[u8]) -> io::Result<()> {
+    fn replace<R: Files>(&self, rt: &R, text: &mut Handed) -> io::Result<()> {
         let part = self.part.as_str();
         let mut file = fs::create(rt, part)?;
-        let written = match file.write_all(text) {
+        let written = match write_text(&mut file, text) {
             Ok(()) => fs::rename(rt, part, self.path),
             Err(error) => Err(error),
         };
@@ -83,42 +87,54 @@ impl<'a> Target<'a> {
     }
 
     // Puts a text at the path. A plain file is replaced whole, or keeps its bytes. A link, a device or a pipe is written itself.
-    fn save<R: Files>(&self, rt: &R, text: &[u8]) -> io::Result<()> {
+    fn save<R: Files>(&self, rt: &R, text: &mut Handed) -> io::Result<()> {
         match fs::symlink_metadata(rt, self.path) {
-            Ok(found) if !found.is_file() => fs::write(rt, self.path, text),
+            Ok(found) if !found.is_file() => write_text(&mut fs::create(rt, self.path)?, text),
             _ => self.replace(rt, text),
         }
     }
 
-    // Puts a text into the file. The path `-` is standard output.
-    fn put<R: Files + Eprint, W: Sink>(&self, rt: &R, text: &[u8], writer: &mut W) -> Status {
-        let is_put = if self.path == DASH {
-            writer.send(text).is_ok()
-        } else {
-            let saved = self.save(rt, text);
-            if let Err(error) = &saved {
-                say(rt, self.path, error);
+    // Puts a text into the file. No text goes to the path `-` so: it is in what the command writes.
+    fn put<R: Files + Eprint>(&self, rt: &R, text: &mut Handed) -> Status {
+        match self.save(rt, text) {
+            Ok(()) => Status::Good,
+            Err(error) => {
+                say(rt, self.path, &error);
+                Status::CannotWrite
             }
-            saved.is_ok()
-        };
-        if is_put {
-            Status::Good
-        } else {
-            Status::CannotWrite
         }
     }
 }
 
+// Writes the text of a state, piece by piece.
+fn write_pieces<W: Write>(writer: &mut W, text: &mut StateText) -> io::Result<()> {
+    let mut room = [0u8; PIECE_BYTES];
+    loop {
+        let count = text.read(&mut room);
+        if count == 0 {
+            return Ok(());
+        }
+        writer.write_all(&room[..count])?;
+    }
+}
+
+// Writes a text.
+fn write_text<W: Write>(writer: &mut W, text: &mut Handed) -> io::Result<()> {
+    match text {
+        Handed::Text(text) => writer.write_all(text),
+        Handed::State(text) => write_pieces(writer, text),
+    }
+}
+
 /// Puts a text into its file, if there are both and all is well so far.
-pub fn put_after<R: Files + Eprint, W: Sink>(
+pub fn put_after<R: Files + Eprint>(
     rt: &R,
     status: Status,
     target: &Option<Target<'_>>,
-    text: Option<Vec<u8>>,
-    writer: &mut W,
+    text: Option<Handed>,
 ) -> Status {
     match (target, text) {
-        (Some(target), Some(text)) if status == Status::Good => target.put(rt, &text, writer),
+        (Some(target), Some(mut text)) if status == Status::Good => target.put(rt, &mut text),
         _ => status,
     }
 }

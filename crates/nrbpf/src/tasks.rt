@@ -8,6 +8,7 @@ use engine::{MapSizes, Telling};
 use loader::MAX_SPARE;
 use oplog::{Config, MAX_LIMIT, MAX_NODE_SLOTS, MAX_NODES, MAX_WINDOW, MIN_WINDOW};
 use running::Run;
+use serving::ServeOptions;
 use std::io::Eprint;
 
 /// Which programs of a manifest are explained, and how.
@@ -19,6 +20,8 @@ pub struct Explaining<'a> {
     pub is_graph: bool,
     /// Whether the answer has the maps that each program names.
     pub has_maps: bool,
+    /// Whether the answer is a JSON object for each finding.
+    pub is_json: bool,
 }
 
 /// What is run, and how.
@@ -51,8 +54,8 @@ pub enum Task<'a> {
     Replay(u32),
     /// Take a list of steps on a store of these sizes.
     Schedule(Config),
-    /// Answer lines while they arrive, with so many places for installed programs.
-    Serve(u32),
+    /// Answer lines while they arrive, by these options.
+    Serve(ServeOptions),
     /// Make the calls of a script on threads, on a store of these sizes.
     Stress(Config),
 }
@@ -164,7 +167,8 @@ pub fn say_sizes<R: Eprint>(rt: &R, task: Task<'_>) {
             say_size(rt, "limit", config.limit, 1, MAX_LIMIT as u32);
             config.spare
         }
-        Task::Replay(spare) | Task::Serve(spare) => spare,
+        Task::Replay(spare) => spare,
+        Task::Serve(options) => options.spare,
         _ => return,
     };
     say_size(rt, "spare", spare, 0, MAX_SPARE as u32);

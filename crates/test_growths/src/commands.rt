@@ -13,7 +13,7 @@ use oplog::Config;
 use replaying::Replay;
 use running::Run;
 use scheduling::Schedule;
-use serving::serve;
+use serving::{ServeOptions, serve};
 use std::alloc::Global;
 use std::sync::Wait;
 use std::thread::Threads;
@@ -64,7 +64,11 @@ fn served(alloc: Global, reads: &Turns, out: &mut Narrow<'_>) -> Status {
         history: None,
     };
     let mut lines = Slow::new(SCRIPT, reads);
-    serve(alloc, 4, &mut inputs, &mut lines, out).status
+    let options = ServeOptions {
+        spare: 4,
+        has_values: false,
+    };
+    serve(alloc, options, &mut inputs, &mut lines, out).status
 }
 
 // The texts that a command reads, where it reads them.

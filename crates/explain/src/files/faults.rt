@@ -7,7 +7,7 @@ ghost use Rattle.explain.specs.Manifest.{refused_by, slot_fault};
 
 use crate::files::decoded;
 use crate::sentences::Word::{Character, Count, Field, Hex, Number, Small, Text};
-use crate::sentences::{Told, Written, put, put_all, put_numbers, say};
+use crate::sentences::{Advice, Written, put, put_all, put_numbers, say};
 use asm::{AsmError, AsmFault, assemble};
 use insn::{DecodeFault, DecodeRefusal};
 use loader::{Line, read_line};
@@ -34,7 +34,7 @@ const LARGE: &str = "|`--large` allows it.";
 const OTHER_WORD: &str = "A line begins with `map`, `program` or `#`, and not with `{0}`.";
 
 // Adds what is wrong with a line, behind its number and that of the rule.
-pub(crate) fn put_fault(out: &mut String, line: u32, number: u8, told: Told<'_>) -> Written
+pub(crate) fn put_fault(out: &mut String, line: u32, number: u8, told: Advice<'_>) -> Written
     ensures { OnOk result (Adds (BeginsWith (refused_by line number ++ codes "\n")) (string_bytes out.old) (string_bytes out.new)) }
 {
     let alloc = *out.allocator();
@@ -62,7 +62,7 @@ pub(crate) fn refused_bytes(
 // ---- lines
 
 // What is wrong with a number of a line, if something is; its name and its limits are these.
-fn wrong_number<'a>(name: &'a str, low: u64, high: u64, text: &'a str) -> Option<Told<'a>> {
+fn wrong_number<'a>(name: &'a str, low: u64, high: u64, text: &'a str) -> Option<Advice<'a>> {
     let what = match (number_within(low, high, text), number(text)) {
         (Some(_), _) => return None,
         (None, Some(_)) => "{0} is {1}, and goes from {2} to {3}.",
@@ -78,7 +78,7 @@ fn wrong_sizes<'a>(
     key: Option<&'a str>,
     value: &'a str,
     entries: &'a str,
-) -> Option<Told<'a>> {
+) -> Option<Advice<'a>> {
     let of_key = key.and_then(|text| wrong_number("KEY", 1, u64::from(limits.key), text));
     let of_value = wrong_number("VALUE", 1, u64::from(limits.value), value);
     of_key.or(of_value).or(wrong_number("ENTRIES", 1, u64::from(limits.entries), entries))
@@ -100,7 +100,7 @@ fn wrong_blank(line: &str) -> Option<(&'static str, usize)> {
 }
 
 // What is wrong with the fields of a program.
-fn wrong_program<'a>(name: &'a str, mode: &'a str, length: &'a str) -> Option<Told<'a>> {
+fn wrong_program<'a>(name: &'a str, mode: &'a str, length: &'a str) -> Option<Advice<'a>> {
     if !is_name(name) {
         let what = "`{0}` is no name: 1 to 32 of a-z, 0-9, _ and -, the first a letter.";
         return Some(say(what, &[Text(name)]));
@@ -113,7 +113,7 @@ fn wrong_program<'a>(name: &'a str, mode: &'a str, length: &'a str) -> Option<To
 }
 
 // What is wrong with the words of a line.
-fn wrong_words<'a>(limits: &MapLimits, words: &[&'a str]) -> Option<Told<'a>> {
+fn wrong_words<'a>(limits: &MapLimits, words: &[&'a str]) -> Option<Advice<'a>> {
     let (text, word) = match words {
         ["map", "array", v, n] => return wrong_sizes(limits, None, v, n),
         ["map", "hash", k, v, n] => return wrong_sizes(limits, Some(*k), v, n),
@@ -138,7 +138,7 @@ pub(crate) fn wrong_line<'a>(
     alloc: Global,
     limits: &MapLimits,
     line: &'a str,
-) -> Result<Told<'a>, AllocError> {
+) -> Result<Advice<'a>, AllocError> {
     if line.len() > LINE_BYTES {
         let what = "The line has {0} bytes, of at most {1}. Break a comment into several lines.";
         return Ok(say(what, &[Count(line.len()), Count(LINE_BYTES)]));
@@ -158,7 +158,7 @@ pub(crate) fn wrong_line<'a>(
 }
 
 // Why there are too many maps, or too large ones, by these limits.
-pub(crate) fn too_many<'a>(limits: &MapLimits, why: ShapeFault, shapes: &[Shape]) -> Told<'a> {
+pub(crate) fn too_many<'a>(limits: &MapLimits, why: ShapeFault, shapes: &[Shape]) -> Advice<'a> {
     let mut bytes = 0u64;
     for shape in shapes {
         let each = match *shape {
@@ -318,7 +318,7 @@ fn of_fault(why: DecodeFault, opcode: u8, registers: u8) -> &'static str {
 }
 
 // Says why bytes are no program: the text of `of_fault`, with the words for its gaps.
-fn why_no_program(bytes: &[u8], refusal: DecodeRefusal) -> Told<'static> {
+fn why_no_program(bytes: &[u8], refusal: DecodeRefusal) -> Advice<'static> {
     let [opcode, registers, low, high, a, b, c, d] = bytes_at(bytes, refusal.slot);
     let count = bytes.len();
     let words = [

@@ -19,7 +19,7 @@ ghost use Rattle.explain.specs.Told.{BeginsIf};
 use crate::files::faults::{bad_hex, put_fault, refused_bytes, too_many, wrong_line};
 use crate::files::text_of;
 use crate::programs::{Subject, explain_program};
-use crate::sentences::{Told, Word, Written, put_all, put_numbers, say};
+use crate::sentences::{Advice, Word, Written, put_all, put_numbers, say};
 use insn::{DecodeError, Insn, decode};
 use itoa::Buffer;
 use loader::{Line, ProgramLine, read_line};
@@ -76,7 +76,7 @@ impl<'a> Explanation<'a> {
     }
 
     // Adds what is wrong with the line, if all are asked for.
-    fn put_wrong(&self, out: &mut String, number: u8, told: Told<'_>) -> Written
+    fn put_wrong(&self, out: &mut String, number: u8, told: Advice<'_>) -> Written
         ensures { OnOk result (Writes (IsFault self.now number) out.old out.new) }
     {
         if self.name.is_some() {
@@ -103,7 +103,7 @@ impl<'a> Explanation<'a> {
     }
 
     // Takes the map of the line, or says what is wrong with it, and under which number.
-    fn take_map(&mut self, shape: Shape) -> Result<Option<(u8, Told<'a>)>, AllocError>
+    fn take_map(&mut self, shape: Shape) -> Result<Option<(u8, Advice<'a>)>, AllocError>
         requires within { IsWithin self.old.limits (above_of self.old) }
         requires shape { IsShapeWithin self.old.limits shape }
         ensures taken { IfOk result (λ o. TakesMap self.old.limits (above_of self.old) shape (above_of self.new) (option_map (λ w. w.0) o)) }
@@ -319,10 +319,10 @@ fn is_of_map(line: &str) -> bool
     line.starts_with("map")
 }
 
-// Whether a line of a manifest is that of a program of this name.
-fn has_program(limits: &MapLimits, manifest: &str, name: &str) -> bool
-    requires { AreLimits limits.now }
-    ensures { result ≡ has_program limits.now name.now manifest.now }
+/// Whether a line of a manifest is that of a program of this name.
+pub fn has_program(limits: &MapLimits, manifest: &str, name: &str) -> bool
+    requires limits { AreLimits limits.now }
+    ensures has { result ≡ has_program limits.now name.now manifest.now }
 {
     let mut lines = NumberedLines::new(manifest);
     while let Some((_, line)) = lines.take_line() {

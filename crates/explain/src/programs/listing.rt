@@ -1,18 +1,18 @@
 // The listing of a program.
 
-ghost use Rattle.std.specs.Prelude.{◌≡◌, ◌≤◌, ◌^◌, ◌-◌, ◌++◌, ◌==◌, if◌then◌else◌, ℕ, List, length, replicate, codes, unwrap_or, IfOk, OnOk};
+ghost use Rattle.std.specs.Prelude.{◌≡◌, ◌≤◌, ◌^◌, ◌-◌, ◌++◌, ◌==◌, if◌then◌else◌, ℕ, List, length, replicate, codes, option_map, unwrap_or, IfOk, OnOk};
 ghost use Rattle.std.specs.String.{string_bytes};
 ghost use Rattle.insn.specs.declared.instruction.TheConstants.{MAX_SLOTS};
 ghost use Rattle.insn.specs.Layout.{size};
 ghost use Rattle.asm.specs.Text.{line_text};
 ghost use Rattle.loader.specs.Spelling.{mode_word};
-ghost use Rattle.explain.specs.Listing.{line_of, head_text, left_text, margin, aside, last_listed, AddsListing, BeginUpto, CanBeJudged, Explains, IsLine};
+ghost use Rattle.explain.specs.Listing.{line_of, head_text, left_text, margin, aside, last_listed, verdict_on, AddsListing, BeginUpto, CanBeJudged, Explains, IsLine};
 ghost use Rattle.explain.specs.Slots.{told_upto};
 ghost use Rattle.explain.specs.Study.{AddsLines, HasSlot, IsStudy};
 
 use crate::programs::slots::knowledge;
 use crate::programs::{Study, Subject};
-use crate::refusals::put_refusal;
+use crate::refusals::{Reason, put_refusal};
 use crate::sentences::{Written, put_all};
 use asm::disassemble;
 use insn::Insn;
@@ -221,4 +221,22 @@ pub fn explain_program(alloc: Global, subject: Subject<'_>) -> Result<String, Al
     put_lines(&mut out, &study)?;
     put_refusal(&mut out, &study)?;
     Ok(out)
+}
+
+/// Why a program is refused, in parts: nothing where it is accepted, or where no store has such maps or such an argument.
+///
+/// # Errors
+///
+/// The system has no memory left.
+pub fn explain_refusal(alloc: Global, subject: Subject<'_>) -> Result<Option<Reason>, AllocError>
+    // The rule and the slot are those of `verify`.
+    ensures refused { CanBeJudged subject.entry → IfOk result (λ o. option_map (λ r. r.refused) o ≡ verdict_on subject.entry) }
+{
+    let Some(study) = Study::of(alloc, subject)? else {
+        return Ok(None);
+    };
+    match study.known.refused {
+        Some(refused) => Ok(Some(Reason::of(&study, refused)?)),
+        None => Ok(None),
+    }
 }

@@ -3,7 +3,7 @@
 use crate::programs::{Byte, Study, Way, byte_in, from_end, register_of, tested};
 use crate::refusals::map_in;
 use crate::sentences::Word::{Bytes, Count, Known, Nothing, Number, Range, Register, Small, Text};
-use crate::sentences::{Told, Word, offset_of, say, say_both};
+use crate::sentences::{Advice, Word, offset_of, say, say_both};
 use helpers::Helper;
 use insn::{Form, Size};
 use regkind::{Frame, Kind};
@@ -191,7 +191,7 @@ impl Gap {
 
 impl Way<'_> {
     // What is told of the first access at its end that goes outside its region.
-    pub(crate) fn access_outside(&self) -> Option<Told<'static>> {
+    pub(crate) fn access_outside(&self) -> Option<Advice<'static>> {
         let mut wanted = self.study.accesses(self.end).into_iter().flatten();
         let access = wanted.find(|access| access.left(self.study).is_some())?;
         let region = access.left(self.study)?;
@@ -232,7 +232,7 @@ impl Way<'_> {
     }
 
     // What is told of the bytes of the stack that can't be read at its end.
-    pub(crate) fn unwritten_stack(&self) -> Option<Told<'static>> {
+    pub(crate) fn unwritten_stack(&self) -> Option<Advice<'static>> {
         let gap = self.study.gap_at(self.end)?;
         let ended = self.ended_pointer(gap.first);
         let (part, head) = match gap.access.of {
@@ -273,7 +273,7 @@ impl Way<'_> {
     }
 
     // What is told where a pointer may be null: the answer of a lookup that nothing tested, or another register with it.
-    pub(crate) fn maybe_null(&self) -> Told<'static> {
+    pub(crate) fn maybe_null(&self) -> Advice<'static> {
         let register = self.base();
         let lookup = self.origin(register, self.steps.len());
         let copy = lookup.and_then(|at| self.tested_copy(register, at));
@@ -294,7 +294,7 @@ impl Way<'_> {
     }
 
     // What a store of a pointer would need.
-    pub(crate) fn stored_pointer(&self) -> Option<Told<'static>> {
+    pub(crate) fn stored_pointer(&self) -> Option<Advice<'static>> {
         let access = self.study.accesses(self.end)[0]?;
         let Some(Form::Store { src, .. }) = self.form() else {
             return None;

@@ -3,7 +3,7 @@
 use crate::programs::{Step, Study, Way, is_null_test, kind_in, reads, written};
 use crate::refusals::map_in;
 use crate::sentences::Word::{Count, Known, Number, Range, Register, Text};
-use crate::sentences::{Told, Word, offset_of, say, say_both};
+use crate::sentences::{Advice, Word, offset_of, say, say_both};
 use helpers::Helper;
 use insn::{Edge, Form, Operation, Source, distance};
 use regkind::Kind;
@@ -34,7 +34,7 @@ impl Study<'_> {
     }
 
     // What is told where two edges bring different things to a slot; nothing where all bring the same.
-    fn differing_edges(&self, at: usize, register: u8) -> Option<Told<'static>> {
+    fn differing_edges(&self, at: usize, register: u8) -> Option<Advice<'static>> {
         let (first, rest) = self.steps_into(at).split_first()?;
         let one = self.kind_along(*first, register);
         let mut rest = rest.iter();
@@ -166,7 +166,7 @@ impl Way<'_> {
     }
 
     // Why nothing is known of a register at its end.
-    pub(crate) fn unreadable_register(&self) -> Option<Told<'static>> {
+    pub(crate) fn unreadable_register(&self) -> Option<Advice<'static>> {
         let study = self.study;
         let register = study.unreadable_at(self.end)?;
         let differing = self
@@ -184,7 +184,7 @@ impl Way<'_> {
     }
 
     // Why the operation at its end isn't defined.
-    pub(crate) fn undefined_operation(&self) -> Option<Told<'static>> {
+    pub(crate) fn undefined_operation(&self) -> Option<Advice<'static>> {
         let form = self.form()?;
         let none = Source::Imm(0);
         let (dst, src) = match form {
@@ -208,7 +208,7 @@ impl Way<'_> {
     }
 
     // Where a pointer would be moved.
-    pub(crate) fn moved_out(&self) -> Option<Told<'static>> {
+    pub(crate) fn moved_out(&self) -> Option<Advice<'static>> {
         let Form::Alu { w64, op, dst, src } = self.form()? else {
             return None;
         };
@@ -222,7 +222,7 @@ impl Way<'_> {
     }
 
     // Why the reply is refused.
-    pub(crate) fn pointer_reply(&self) -> Told<'static> {
+    pub(crate) fn pointer_reply(&self) -> Advice<'static> {
         let kind = self.kind(0);
         let text = match kind {
             Kind::ValueOrNull(_) =>
@@ -239,7 +239,7 @@ impl Way<'_> {
     }
 
     // Why R2 or R3 is no address of so many bytes; nothing where it is one.
-    fn wrong_address(&self, register: u8, bytes: usize) -> Option<Told<'static>> {
+    fn wrong_address(&self, register: u8, bytes: usize) -> Option<Advice<'static>> {
         let (kind, constant) = (self.kind(register), self.wide_number_slot(register));
         let text = match (kind, constant) {
             (Kind::Scalar, Some(_)) =>
@@ -258,7 +258,7 @@ impl Way<'_> {
     }
 
     // Says which argument of the call at the end of the way is wrong, and why.
-    pub(crate) fn wrong_argument(&self) -> Told<'static> {
+    pub(crate) fn wrong_argument(&self) -> Advice<'static> {
         let kind = self.kind(1);
         let Kind::Map(map) = kind else {
             let constant = self.wide_number_slot(1);
@@ -279,7 +279,7 @@ impl Way<'_> {
     }
 
     // Names the helper or the map that isn't there.
-    pub(crate) fn unknown_name(&self) -> Option<Told<'static>> {
+    pub(crate) fn unknown_name(&self) -> Option<Advice<'static>> {
         let (form, study) = (self.form()?, self.study);
         let shapes = study.subject.shapes;
         let what = match (form, shapes) {

@@ -91,7 +91,7 @@ pub fn perform<R: Files + AllocGlobal + Eprint, F: Folder, I: Source + Drop, W: 
     };
     let mut notes = Notes::new(rt.alloc(), call.telling);
     let Performed { status, made } = perform_kept(rt.alloc(), &command, inputs, &mut notes, writer);
-    let status = put_after(rt, status, &target, elsewhere(made), writer);
+    let status = put_after(rt, status, &target, elsewhere(made));
     say_text(rt, notes.text);
     status
 }

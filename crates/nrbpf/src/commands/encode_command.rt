@@ -6,7 +6,7 @@ use crate::output::say_text;
 use crate::tasks::Task;
 use clap::{ArgMatches, Command, arg};
 use console::Encode;
-use engine::{Folder, Inputs, Notes, Performed, Sink, Source, Status, perform_kept};
+use engine::{Folder, Handed, Inputs, Notes, Performed, Sink, Source, Status, perform_kept};
 use std::alloc::{AllocError, Global};
 use std::io::Eprint;
 
@@ -66,7 +66,7 @@ pub fn perform<R: AllocGlobal + Eprint, F: Folder, I: Source + Drop, W: Sink>(
 ) -> Status {
     let mut notes = Notes::none(rt.alloc());
     let Performed { status, made } = perform_kept(rt.alloc(), &Encode, inputs, &mut notes, writer);
-    if let Some(refusal) = elsewhere(made) {
+    if let Some(Handed::Text(refusal)) = elsewhere(made) {
         say_text(rt, refusal);
     }
     status

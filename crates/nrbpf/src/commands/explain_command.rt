@@ -4,7 +4,7 @@ use crate::commands::options;
 use crate::keeping::act;
 use crate::tasks::{Explaining, Task};
 use clap::{ArgMatches, Command, arg};
-use console::{Draw, Explain};
+use console::{Draw, Explain, Find};
 use engine::{Folder, Inputs, Status, Telling};
 use std::alloc::{AllocError, Global};
 use std::io::{Eprint, Read, Write};
@@ -38,6 +38,13 @@ the arrow of a jump.
 
 With `--maps` the answer begins with what `nrbpf check --maps` writes. A graph stays the same.
 
+With `--json` the answer is a line for each of these findings instead, a JSON object, and nothing if all is good:
+
+    {\"line\":3,\"program\":\"p\",\"file\":\"p.hex\",\"refusal\":\"V6\",\"slot\":0,\"way\":[0],\"wrong\":\"..\",\"todo\":\"..\"}
+
+`line` is the manifest's. `refusal` is C1, C2, C5, or for a program D1 to D9 or V1 to V18 with its `slot`. V6 to V18
+have a `way` to the slot. `--graph` and `--maps` change nothing then.
+
 With `--large` maps may be as large as `nrbpf check --large` allows. Without it, the answer says of which maps
 `--large` would allow.
 
@@ -52,6 +59,7 @@ pub fn arguments<'a>(alloc: Global) -> Result<Command<'a>, AllocError> {
         )
         .after_help(HELP)
         .arg(arg!(in alloc; --graph "Writes the programs as a graph for Graphviz instead"))?
+        .arg(arg!(in alloc; --json "Writes what is wrong as a JSON object a line instead"))?
         .arg(options::large(alloc))?
         .arg(options::maps(alloc))?
         .arg(options::manifest(alloc))?
@@ -62,14 +70,16 @@ pub fn arguments<'a>(alloc: Global) -> Result<Command<'a>, AllocError> {
 pub fn task<'a>(matches: &ArgMatches<'a>) -> Option<Task<'a>> {
     let (name, is_graph) = (matches.get_str("NAME"), matches.get_flag("graph"));
     let has_maps = matches.get_flag("maps");
+    let is_json = matches.get_flag("json");
     Some(Task::Explain(Explaining {
         name,
         is_graph,
         has_maps,
+        is_json,
     }))
 }
 
-/// Explains the programs of a manifest, or only the one of a name. Or draws them.
+/// Explains the programs of a manifest, or only the one of a name. Or draws them, or finds what is wrong.
 pub fn perform<R: AllocGlobal + Eprint, F: Folder, I: Read + Drop, W: Write>(
     rt: &R,
     asked: Explaining<'_>,
@@ -81,8 +91,12 @@ pub fn perform<R: AllocGlobal + Eprint, F: Folder, I: Read + Drop, W: Write>(
         name,
         is_graph,
         has_maps,
+        is_json,
     } = asked;
     let folder = inputs.folder;
+    if is_json {
+        return act(rt, &Find { folder, name }, telling, inputs, writer);
+    }
     if is_graph {
         return act(rt, &Draw { name }, telling, inputs, writer);
     }

@@ -57,6 +57,11 @@ pub fn maps<'a>(alloc: Global) -> Arg<'a> {
     arg!(in alloc; --maps "Writes the mode of each program, and the maps that it names")
 }
 
+/// Whether the arguments of calls are values.
+pub fn calls<'a>(alloc: Global) -> Arg<'a> {
+    arg!(in alloc; --calls "Takes calls with values, as `nrbpf encode` reads them")
+}
+
 /// The manifest.
 pub fn manifest<'a>(alloc: Global) -> Arg<'a> {
     arg!(in alloc; <MANIFEST> "The path of the manifest")

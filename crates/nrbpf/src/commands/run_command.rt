@@ -83,9 +83,7 @@ pub fn arguments<'a>(alloc: Global) -> Result<Command<'a>, AllocError> {
         .arg(options::large(alloc))?
         .arg(options::load(alloc))?
         .arg(options::dump(alloc))?
-        .arg(
-            arg!(in alloc; --calls "Takes a script of calls with values, as `nrbpf encode` reads it"),
-        )?
+        .arg(options::calls(alloc))?
         .arg(arg!(in alloc; --signed "Writes a negative reply also as a signed number"))?
         .arg(options::manifest(alloc))?
         .arg(options::script(alloc))
@@ -121,5 +119,5 @@ pub fn perform<R: Files + AllocGlobal + Eprint, F: Folder, I: Source + Drop, W: 
     } else {
         perform_kept(rt.alloc(), &run, inputs, &mut notes, writer)
     };
-    put_after(rt, status, &target, elsewhere(made), writer)
+    put_after(rt, status, &target, elsewhere(made))
 }

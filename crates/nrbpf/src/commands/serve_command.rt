@@ -6,11 +6,11 @@ use crate::keeping::destination_of;
 use crate::output::{Target, no_memory, put_after};
 use crate::tasks::Task;
 use clap::{ArgMatches, Command};
-use dumps::dump;
-use engine::{Destination, Folder, Inputs, Sink, Source, Status};
+use dumps::StateText;
+use engine::{Destination, Folder, Handed, Inputs, Sink, Source, Status};
 use loader::StoreState;
 use running::dump_to;
-use serving::ServeEnd;
+use serving::{ServeEnd, ServeOptions};
 use std::alloc::{AllocError, Global};
 use std::io::{Eprint, Input};
 use std::rt::Files;
@@ -25,11 +25,22 @@ is answered on standard output as soon as the line has ended: all lines that wer
     bump                                    line 2 bad
     peek 00000000                           read 1 reply 1 steps 6
 
-Each line has one answer, except comments and empty lines, which have none. A line gets `line N bad` if it is no line of
+Each line has one answer. Comments and empty lines have none. A line gets `line N bad` if it is no line of
 a script, has more than 512 bytes, or is not UTF-8. Such a line changes nothing, and the service goes on. Lines count
 from 1, comments and empty lines too. If the last line has no line feed, it is neither answered nor run: its client
 went away before the line was whole. A refused line changes nothing. The history of a service has no end: no update or
 install gets `refused S4`.
+
+A line `?` asks what the store has, and changes nothing. The answer says how many updates and installs came before, and
+has a line for each map and each program of the manifest:
+
+    ?                                       appended 2 maps 1 programs 2 installed 0
+                                            map array 8 16 keys 16
+                                            program bump update 4 slots 12
+                                            program peek read 4 slots 9
+
+With `--calls` the lines are calls with values (`nrbpf encode --help`), such as `raise u32:3 u64:10`. Each is answered
+as the line of a script that `encode` makes of it. A line that `encode` refuses gets `line N bad`.
 
 With `--load FILE` the store begins with the state in FILE. With `--dump FILE` the state goes to FILE after standard
 input has ended (`nrbpf run --help`). So one service can go on from the state of another.
@@ -49,6 +60,7 @@ pub fn arguments<'a>(alloc: Global) -> Result<Command<'a>, AllocError> {
         .about("Answers the lines of a script while they arrive on standard input")
         .after_help(HELP)
         .arg(options::spare(alloc))?
+        .arg(options::calls(alloc))?
         .arg(options::large(alloc))?
         .arg(options::load(alloc))?
         .arg(options::dump(alloc))?
@@ -57,7 +69,10 @@ pub fn arguments<'a>(alloc: Global) -> Result<Command<'a>, AllocError> {
 
 /// The task that the command's words ask for.
 pub fn task<'a>(matches: &ArgMatches<'a>) -> Option<Task<'a>> {
-    Some(Task::Serve(matches.get_one("spare")?))
+    Some(Task::Serve(ServeOptions {
+        spare: matches.get_one("spare")?,
+        has_values: matches.get_flag("calls"),
+    }))
 }
 
 // Writes the text of a state after the answers, or `no memory`.
@@ -72,7 +87,7 @@ fn dump_after<W: Sink>(alloc: Global, state: &StoreState, writer: &mut W) -> Sta
 /// ended.
 pub fn perform<R: Files + Input + AllocGlobal + Eprint, F: Folder, I: Source + Drop, W: Sink>(
     rt: &R,
-    spare: u32,
+    options: ServeOptions,
     path: Option<&str>,
     inputs: &mut Inputs<'_, F, I>,
     writer: &mut W,
@@ -81,11 +96,17 @@ pub fn perform<R: Files + Input + AllocGlobal + Eprint, F: Folder, I: Source + D
         return no_memory(writer);
     };
     let mut lines = LateFile::new(rt, DASH);
-    let ServeEnd { status, state } = serving::serve(rt.alloc(), spare, inputs, &mut lines, writer);
+    let ServeEnd { status, state } = serving::serve(
+        rt.alloc(),
+        options,
+        inputs,
+        &mut lines,
+        writer,
+    );
     match (destination_of(path), state) {
         (Destination::Writer, Some(state)) => dump_after(rt.alloc(), &state, writer),
-        (Destination::Elsewhere, Some(state)) => match dump(rt.alloc(), &state) {
-            Ok(text) => put_after(rt, status, &target, Some(text), writer),
+        (Destination::Elsewhere, Some(state)) => match StateText::new(rt.alloc(), state) {
+            Ok(text) => put_after(rt, status, &target, Some(Handed::State(text))),
             Err(_) => no_memory(writer),
         },
         _ => status,

@@ -157,6 +157,6 @@ pub fn perform<
     if call.has_stats && status == Status::Good {
         say_counts(rt, left.counts);
     }
-    let status = put_after(rt, status, &times, left.times, writer);
-    put_after(rt, status, &state, left.state, writer)
+    let status = put_after(rt, status, &times, left.times);
+    put_after(rt, status, &state, left.state)
 }

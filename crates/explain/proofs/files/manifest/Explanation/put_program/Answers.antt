@@ -12,7 +12,7 @@ returns-in-Some c =
     let p = program_of c.args.line in
     let files = files_of s.files.now in
     on_ok c.put_text.result
-    (λ told. where_map s.line (above_of s) p _ _ files (sym c.has_map.ensures ∙ c.if-not-has_map.false) (read_is s.line (above_of s) p _ _ _ _ (a_file files p.file _ (sym c.in-Some.ensures)) told)) c.put_text.ensures
+    (λ told. where_map s.line (above_of s) p _ _ files (sym c.has_map.ensures ∙ c.if-not-has_map.false) (read_is s.line (above_of s) p _ _ _ _ (a_file files p.file _ (sym c.in-Some.ensures.text)) told)) c.put_text.ensures
 
 pub returns-in-None : goal.returns-in-None
 returns-in-None c =
@@ -20,4 +20,4 @@ returns-in-None c =
     let p = program_of c.args.line in
     let files = files_of s.files.now in
     on_ok c.put_fault.result
-    (λ told. where_map s.line (above_of s) p _ _ files (sym c.has_map.ensures ∙ c.if-not-has_map.false) (read_is s.line (above_of s) p _ _ _ _ (no_file files p.file (sym c.in-None.ensures)) told)) c.put_fault.ensures
+    (λ told. where_map s.line (above_of s) p _ _ files (sym c.has_map.ensures ∙ c.if-not-has_map.false) (read_is s.line (above_of s) p _ _ _ _ (no_file files p.file (sym c.in-None.ensures.text)) told)) c.put_fault.ensures
