@@ -17,13 +17,13 @@ _nrbpf() {
     esac
     case ${COMP_WORDS[at]} in
         check) words='--large --maps -h --help' ;;
-        explain) words='--graph --large --maps -h --help' ;;
+        explain) words='--graph --json --large --maps -h --help' ;;
         asm) words='-o --output --explain -h --help' ;;
         dis) words='--slots -h --help' ;;
         encode) words='-h --help' ;;
         decode) words='-h --help' ;;
         run) words='--large --load --dump --calls --signed -h --help' ;;
-        serve) words='--spare --large --load --dump -h --help' ;;
+        serve) words='--spare --calls --large --load --dump -h --help' ;;
         replay) words='--spare --large --load --history --explain -h --help' ;;
         schedule) words='--nodes --slots --window --limit --spare --large --explain --lanes -h --help' ;;
         stress) words='--nodes --slots --window --limit --spare --large --load --dump --history --stats -h --help' ;;

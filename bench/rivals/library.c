@@ -1,16 +1,18 @@
-/* A store through the library for C: one session a thread, one thread on one node, more on two. */
+/* A store through the library for C: one thread on one node, more on two. A thread has one session; where several of its calls are in flight these are
+   updates, and it has a lane of as many slots and asks for them by the list. */
 
 #include "../../embed/nrbpf.h"
 #include "rounds.h"
 #include <string.h>
 #include <sys/resource.h>
 
-enum { MOST_FILES = 4, MOST_NAME = 256 };
+enum { MOST_FILES = 4, MOST_NAME = 256, MOST_SLOTS = 16 };
 
 static const struct service *served;
 static nrbpf_store *store;
 static nrbpf_session *sessions[MOST_THREADS];
-static int attached;
+static nrbpf_lane *lanes[MOST_THREADS];
+static int attached, slots;
 static uint16_t programs[OPERATIONS];
 
 static void check(nrbpf_status status) {
@@ -43,24 +45,55 @@ static uint16_t number_of(const char *name) {
 }
 
 static void attach_all(int threads, uint32_t nodes) {
-    for (attached = 0; attached < threads; attached++) check(nrbpf_attach(store, (uint32_t)attached % nodes, &sessions[attached]));
+    for (attached = 0; attached < threads; attached++) {
+        const uint32_t node = (uint32_t)attached % nodes;
+        if (slots > 1) check(nrbpf_attach_lane(store, node, (uint32_t)slots, &lanes[attached]));
+        else check(nrbpf_attach(store, node, &sessions[attached]));
+    }
 }
 
-void rival_open(const struct service *service, int threads) {
+static void update_by_list(int thread, const nrbpf_question *questions, int count, nrbpf_outcome *outcomes) {
+    nrbpf_error why;
+    check(nrbpf_update_each(lanes[thread], questions, (size_t)count, outcomes, &why));
+}
+
+static void configure(void) {
+    const uint32_t settings[] = {BURST, PERIOD};
+    nrbpf_answer answer;
+    nrbpf_outcome outcome;
+    nrbpf_question question = {.program = number_of("configure"), .argument = settings, .len = sizeof settings};
+    if (slots > 1) update_by_list(0, &question, 1, &outcome);
+    else check(nrbpf_update(sessions[0], question.program, settings, sizeof settings, &answer));
+}
+
+void rival_open(const struct service *service, int threads, int in_flight) {
     const uint32_t nodes = threads > 1 ? 2 : 1;
-    nrbpf_config config = NRBPF_CONFIG(nodes, (uint32_t)threads / nodes);
+    nrbpf_config config = NRBPF_CONFIG(nodes, (uint32_t)(threads * in_flight) / nodes);
     served = service;
+    slots = in_flight;
     open_store(service->manifest, config);
     for (int i = 0; i < OPERATIONS; i++) programs[i] = number_of(service->operations[i]);
     attach_all(threads, nodes);
-    if (strcmp(service->name, "limiter")) return;
-    const uint32_t settings[] = {BURST, PERIOD};
-    nrbpf_answer answer;
-    check(nrbpf_update(sessions[0], number_of("configure"), settings, sizeof settings, &answer));
+    if (strcmp(service->name, "limiter") == 0) configure();
+}
+
+static void make_by_list(int thread, const struct call *calls, int count, int64_t *replies) {
+    nrbpf_question questions[MOST_SLOTS] = {{0}};
+    nrbpf_outcome outcomes[MOST_SLOTS];
+    for (int i = 0; i < count; i++) {
+        if (calls[i].operation == READ) fail("a list has updates only");
+        questions[i] = (nrbpf_question){.program = programs[UPDATE], .argument = calls[i].values, .len = (size_t)served->bytes[UPDATE]};
+    }
+    update_by_list(thread, questions, count, outcomes);
+    for (int i = 0; i < count; i++) replies[i] = (int64_t)outcomes[i].reply;
 }
 
 void rival_make(int thread, const struct call *calls, int count, int64_t *replies) {
     nrbpf_answer answer;
+    if (slots > 1) {
+        make_by_list(thread, calls, count, replies);
+        return;
+    }
     for (int i = 0; i < count; i++) {
         int it = calls[i].operation;
         size_t size = (size_t)served->bytes[it];
@@ -71,7 +104,7 @@ void rival_make(int thread, const struct call *calls, int count, int64_t *replie
 }
 
 void rival_close(void) {
-    for (int i = 0; i < attached; i++) check(nrbpf_detach(sessions[i]));
+    for (int i = 0; i < attached; i++) check(slots > 1 ? nrbpf_detach_lane(lanes[i]) : nrbpf_detach(sessions[i]));
     check(nrbpf_close(store));
 }
 

@@ -25,9 +25,9 @@ static void load(const char *path, int results) {
     if (luaL_loadfile(state, path) || lua_pcall(state, 0, results, 0)) fail(lua_tostring(state, -1));
 }
 
-void rival_open(const struct service *service, int threads) {
+void rival_open(const struct service *service, int threads, int in_flight) {
     char path[80];
-    (void)threads;
+    (void)threads, (void)in_flight;
     served = service;
     snprintf(path, sizeof path, "bench/rivals/%s.lua", service->name);
     load(path, OPERATIONS);

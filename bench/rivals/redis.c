@@ -96,7 +96,8 @@ static const char *asked(struct connection *of, int lines, int count, const char
     return of->got;
 }
 
-void rival_open(const struct service *service, int threads) {
+void rival_open(const struct service *service, int threads, int in_flight) {
+    (void)in_flight;
     served = service;
     is_keyed = strcmp(service->name, "leaderboard") != 0;
     for (int i = 0; i < threads; i++) connections[i].socket = connected();

@@ -109,7 +109,7 @@ static void *work(void *of) {
 static void run(struct load load) {
     struct caller all[MOST_THREADS];
     uint64_t made = 0, sum = 0;
-    rival_open(&services[load.service], load.threads);
+    rival_open(&services[load.service], load.threads, load.in_flight);
     prepare(load);
     pthread_barrier_init(&start, NULL, (unsigned)load.threads);
     for (int i = 0; i < load.threads; i++) {

@@ -28,8 +28,8 @@ struct call {
     uint64_t values[MOST_VALUES];
 };
 
-/* The host's: opens the store of the service for so many threads. */
-void rival_open(const struct service *service, int threads);
+/* The host's: opens the store of the service for so many threads, each of which has at most so many calls in flight. */
+void rival_open(const struct service *service, int threads, int in_flight);
 
 /* The host's: makes these calls of one thread, 1 to MOST_IN_FLIGHT, and takes their replies. Threads call it side by side. */
 void rival_make(int thread, const struct call *calls, int count, int64_t *replies);

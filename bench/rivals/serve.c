@@ -87,8 +87,8 @@ static void start(const char *program, const char *manifest) {
     lines = to[1], answers = from[0];
 }
 
-void rival_open(const struct service *service, int threads) {
-    (void)threads;
+void rival_open(const struct service *service, int threads, int in_flight) {
+    (void)threads, (void)in_flight;
     const char *program = getenv("NRBPF");
     const uint32_t settings[] = {BURST, PERIOD};
     served = service;
