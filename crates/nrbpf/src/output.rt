@@ -1,6 +1,6 @@
 // Where a command writes: standard output, standard error and files.
 
-use crate::disk::say;
+use crate::disk::{DASH, say};
 use dumps::StateText;
 use engine::{Handed, ReadFault, Reply, Sink, Status, report};
 use std::alloc::{AllocError, Global};
@@ -94,7 +94,7 @@ impl<'a> Target<'a> {
         }
     }
 
-    // Puts a text into the file. No text goes to the path `-` so: it is in what the command writes.
+    // Puts a text into the file.
     fn put<R: Files + Eprint>(&self, rt: &R, text: &mut Handed) -> Status {
         match self.save(rt, text) {
             Ok(()) => Status::Good,
@@ -136,6 +136,25 @@ pub fn put_after<R: Files + Eprint>(
     match (target, text) {
         (Some(target), Some(mut text)) if status == Status::Good => target.put(rt, &mut text),
         _ => status,
+    }
+}
+
+/// Puts the text of a state into its file, or behind all that is written if the path is `-`, if there are both and all is well so far.
+pub fn put_state<R: Files + Eprint, W: Write>(
+    rt: &R,
+    status: Status,
+    target: &Option<Target<'_>>,
+    text: Option<Handed>,
+    writer: &mut W,
+) -> Status {
+    match (target, text) {
+        (Some(target), Some(mut text)) if status == Status::Good && target.path == DASH => {
+            match write_text(writer, &mut text) {
+                Ok(()) => Status::Good,
+                Err(_) => Status::CannotWrite,
+            }
+        }
+        (_, text) => put_after(rt, status, target, text),
     }
 }
 

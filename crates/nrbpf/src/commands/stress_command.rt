@@ -2,7 +2,7 @@
 
 use crate::commands::options;
 use crate::keeping::destination_of;
-use crate::output::{Target, no_memory, put_after};
+use crate::output::{Target, no_memory, put_after, put_state};
 use crate::tasks::{Call, Task, config_of};
 use clap::{ArgMatches, Command, arg};
 use engine::{Destination, Folder, Inputs, Performed, Status};
@@ -77,7 +77,7 @@ pub fn task<'a>(matches: &ArgMatches<'a>) -> Option<Task<'a>> {
     Some(Task::Stress(config_of(matches)?))
 }
 
-// Where the times of calls and the state that they leave go. A state on standard output is written after a file of the times.
+// Where the times of calls and the state that they leave go. A state for standard output is written behind a file of the times, so it goes elsewhere too.
 fn leaving_of(call: &Call<'_>) -> Leaving {
     let times = destination_of(call.times);
     let state = match (times, destination_of(call.output)) {
@@ -158,5 +158,5 @@ pub fn perform<
         say_counts(rt, left.counts);
     }
     let status = put_after(rt, status, &times, left.times);
-    put_after(rt, status, &state, left.state)
+    put_state(rt, status, &state, left.state, writer)
 }
