@@ -1,9 +1,10 @@
 // The command `serve`.
 
 use crate::commands::options;
-use crate::disk::{DASH, LateFile};
+use crate::disk::LateFile;
 use crate::keeping::destination_of;
 use crate::output::{Target, no_memory, put_after};
+use crate::progress::Screen;
 use crate::tasks::Task;
 use clap::{ArgMatches, Command};
 use dumps::StateText;
@@ -12,7 +13,7 @@ use loader::StoreState;
 use running::dump_to;
 use serving::{ServeEnd, ServeOptions};
 use std::alloc::{AllocError, Global};
-use std::io::{Eprint, Input};
+use std::io::Input;
 use std::rt::Files;
 
 // The help's text after the arguments.
@@ -85,7 +86,7 @@ fn dump_after<W: Sink>(alloc: Global, state: &StoreState, writer: &mut W) -> Sta
 
 /// Answers the lines of standard input while they arrive. Puts the state that they leave into the file of a path, if standard input has
 /// ended.
-pub fn perform<R: Files + Input + AllocGlobal + Eprint, F: Folder, I: Source + Drop, W: Sink>(
+pub fn perform<R: Files + Input + AllocGlobal + Screen, F: Folder, I: Source + Drop, W: Sink>(
     rt: &R,
     options: ServeOptions,
     path: Option<&str>,
@@ -95,7 +96,7 @@ pub fn perform<R: Files + Input + AllocGlobal + Eprint, F: Folder, I: Source + D
     let Ok(target) = Target::of(rt.alloc(), path) else {
         return no_memory(writer);
     };
-    let mut lines = LateFile::new(rt, DASH);
+    let mut lines = LateFile::lines(rt);
     let ServeEnd { status, state } = serving::serve(
         rt.alloc(),
         options,

@@ -3,13 +3,14 @@
 use crate::commands::options;
 use crate::keeping::destination_of;
 use crate::output::{Target, no_memory, put_after, put_state};
+use crate::progress::Screen;
 use crate::tasks::{Call, Task, config_of};
 use clap::{ArgMatches, Command, arg};
 use engine::{Destination, Folder, Inputs, Performed, Status};
 use oplog::Config;
 use std::alloc::{AllocError, Global};
 use std::io::{Eprint, Read, Write};
-use std::rt::{Clock, Files};
+use std::rt::Files;
 use std::sync::Wait;
 use std::thread::Threads;
 use stress::{Counts, Leaving, OpenGate, Stress};
@@ -121,7 +122,7 @@ fn say_counts<R: Eprint>(rt: &R, counts: Counts) {
 /// Makes the calls of a script on threads, from the state of a file or from a new one. If all was written, puts the times of its calls and the
 /// state that it leaves into files. Says how many calls there were.
 pub fn perform<
-    R: Files + AllocGlobal + Eprint + Threads + Wait + Clock + Sync,
+    R: Files + AllocGlobal + Threads + Wait + Screen + Sync,
     F: Folder,
     I: Read + Drop,
     W: Write,
