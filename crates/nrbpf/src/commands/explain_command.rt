@@ -38,12 +38,13 @@ the arrow of a jump.
 
 With `--maps` the answer begins with what `nrbpf check --maps` writes. A graph stays the same.
 
-With `--json` the answer is a line for each of these findings instead, a JSON object, and nothing if all is good:
+With `--json` the answer is a JSON object a line for each cause of a refusal instead, and nothing if all is good:
 
     {\"line\":3,\"program\":\"p\",\"file\":\"p.hex\",\"refusal\":\"V6\",\"slot\":0,\"way\":[0],\"wrong\":\"..\",\"todo\":\"..\"}
 
 `line` is the manifest's. `refusal` is C1, C2, C5, or for a program D1 to D9 or V1 to V18 with its `slot`. V6 to V18
-have a `way` to the slot. `--graph` and `--maps` change nothing then.
+have a `way` to the slot. A NAME that no line has gives `missing`, a file that is not UTF-8 its `file` and that as its
+`refusal`. `--graph` and `--maps` change nothing then.
 
 With `--large` maps may be as large as `nrbpf check --large` allows. Without it, the answer says of which maps
 `--large` would allow.

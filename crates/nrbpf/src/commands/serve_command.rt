@@ -26,7 +26,7 @@ is answered on standard output as soon as the line has ended: all lines that wer
     bump                                    line 2 bad
     peek 00000000                           read 1 reply 1 steps 6
 
-Each line has one answer. Comments and empty lines have none. A line gets `line N bad` if it is no line of
+Each line has one answer of one line, except `?`. Comments and empty lines have none. A line gets `line N bad` if it is no line of
 a script, has more than 512 bytes, or is not UTF-8. Such a line changes nothing, and the service goes on. Lines count
 from 1, comments and empty lines too. If the last line has no line feed, it is neither answered nor run: its client
 went away before the line was whole. A refused line changes nothing. The history of a service has no end: no update or
