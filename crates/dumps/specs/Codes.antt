@@ -1,4 +1,4 @@
--- A code for `StateText`, by which two of them are told apart, as the kit asks of a model with a code. No public clause cites this module.
+-- How a state with its text is told apart, which a model asks for. No public clause cites this module.
 use Rattle.std.specs.Prelude.{ℕ, List, refl}
 use Rattle.std.specs.Coded.{Coded, code_by, coded×, coded_list, coded_ℕ}
 use Rattle.loader.specs.Codes.{state_code}

@@ -1,4 +1,4 @@
--- The text that is left of a state, by the tables of the places of its keys. The models of `Dumping` and `StateText` cite this, and no clause of a call.
+-- The text that is left of a state, by the tables of the places of its keys. No clause of a call cites this module.
 use Rattle.std.specs.Prelude.{◌≡◌, ℕ, ◌+◌, ◌-◌, ◌<◌, ◌≤◌, List, [], ◌∷◌, ◌++◌, drop, length, map, slice_get, Vec}
 use Rattle.std.specs.List.{flat_map}
 use Rattle.std.specs.Option.{option_map_or}
@@ -51,7 +51,7 @@ left_text c tables lines next = left_in c tables next.map next.row ++ drop next.
 abbrev pub Gives : Contents → List (List ℕ) → List ℕ → (old new : Next) → (given : List ℕ) → Type 0
 Gives c tables lines old new given = left_text c tables lines old ≡ given ++ left_text c tables lines new
 
--- whatever the maps hold, the lines that were left are this row's line and then the lines that are left now
+-- of the lines that were left this row's is the first, and these are left now, whatever the maps hold
 abbrev pub GivesRow : List (List ℕ) → (old new : Next) → Row → Type 0
 GivesRow tables old new r = (c : Contents) → left_in c tables old.map old.row ≡ row_text c r.map r.place ++ left_in c tables new.map new.row
 
