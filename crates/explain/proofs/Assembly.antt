@@ -63,7 +63,7 @@ shown_whole (c ∷ cs) other = by (eqb (get_or (c ∷ cs) n 0) 13) refl
     by false is = refl
     by true is =
         let byte : get_or (c ∷ cs) n 0 ≡ 13 = eqb-true _ _ is in
-        absurd (other (take n (c ∷ cs)) (sym (take-append-drop n (c ∷ cs)) ∙ ap (λ t. take n (c ∷ cs) ++ t) (drop_more (c ∷ cs) n 0 lt ∙ ap (λ d. d ∷ drop (n + 1) (c ∷ cs)) byte ∙ ap (λ t. 13 ∷ t) (drop_all (c ∷ cs) (n + 1) (omega arith)))))
+        absurd (other (take n (c ∷ cs)) (sym (take-append-drop n (c ∷ cs)) ∙ ap (λ t. take n (c ∷ cs) ++ t) (drop_more (c ∷ cs) n 0 lt ∙ ap (λ d. d ∷ drop (n + 1) (c ∷ cs)) byte ∙ ap (λ t. 13 ∷ t) (drop_all (n + 1) (c ∷ cs) (omega arith)))))
 
 pub shown_is : (bs : List ℕ) (r : Option (Bor (List ℕ))) → MatchOption r ((front : List ℕ) → bs ≢ front ++ (13 ∷ [])) (λ x. bs ≡ x.now ++ (13 ∷ [])) → MatchOption r (bs ≡ shown bs) (λ x. x.now ≡ shown bs)
 shown_is bs None other = shown_whole bs other
