@@ -1,20 +1,22 @@
 -- The line of assembler text that is shown, and what stands below it.
-use Rattle.std.proofs.Common.{◌≡◌, ℕ, zero, suc, ◌+◌, ◌<◌, ◌≤◌, Bool, true, false, eqb, cond, List, [], ◌∷◌, ◌++◌, length, take, drop, get_or, Option, Some, None, refl, sym, ap, subst, ◌∙◌, arith}
-use Rattle.std.specs.Prelude.{◌-◌, ◌≢◌, min, not, MatchOption, slice_index}
+use Rattle.std.proofs.Common.{◌≡◌, ℕ, ◌+◌, ◌<◌, ◌≤◌, Bool, true, false, eqb, cond, List, [], ◌∷◌, ◌++◌, length, take, drop, get_or, Option, Some, None, refl, sym, ap, subst, ◌∙◌, arith}
+use Rattle.std.specs.Prelude.{◌-◌, ◌≢◌, min, not, MatchOption, codes, decimal, slice_index}
 use Rattle.std.specs.Borrow.{Bor}
-use Rattle.std.specs.List.{flat_map, position_or_len}
+use Rattle.std.specs.List.{concat, flat_map, position_or_len}
+use Rattle.std.proofs.lemmas.List.Folds.{concat-append}
 use Rattle.std.proofs.lemmas.List.Sums.{position_or_len_is, prefix_len-le-length}
 use Rattle.std.proofs.lemmas.Bool.{eqb-true}
-use Rattle.std.proofs.lemmas.List.{append-nil, drop_all, drop_more, length-append, take_more, take-append-drop}
-use Rattle.std.proofs.lemmas.Grind.{flat_map-append}
+use Rattle.std.proofs.lemmas.List.{drop_all, drop_more, length-append, take-append-drop}
 use Rattle.std.proofs.Math.Nat.{min-eq_left}
-use Rattle.std.proofs.Math.Seq.{take-length, drop-length, take-append_seam, get_or-append_seam}
-use Rattle.std.proofs.lemmas.Str.Pattern.{IsSplitOnceResult, split_once_first, strip_suffix_char}
-use Rattle.text.specs.Lines.{next_line, LinesLeft, Takes}
+use Rattle.std.proofs.Math.Seq.{take-length, take-append_seam, get_or-append_seam}
+use Rattle.std.proofs.lemmas.Str.Pattern.{IsSplitOnceResult, split_once_first}
 use Rattle.asm.specs.declared.refusals.AsmFault.{AsmFault}
+use Rattle.asm.specs.declared.refusals.AsmRefusal.{AsmRefusal}
+use Rattle.asm.specs.Refusal.{fault_number}
 use Rattle.asm.specs.declared.refusals.AsmFault.TheVariants.{UnknownWord, BadOperand, OutOfRange, UnknownLabel, LabelTwice, JumpTooFar, TooLong, TextBehind}
 use Rattle.asm.specs.Tokens.{is_blank}
-use Rattle.explain.specs.Assembly.{before_visible, before_word, below, code_of, line_from, shown, IsPlace}
+use Rattle.explain.specs.Assembly.{before_visible, before_word, below, code_of, fault_text, shown, wanted_text, IsPlace}
+use Rattle.explain.proofs.Pieces.{both}
 
 -- a line up to its comment
 pub code_is : (bs : List ℕ) (r : Option (Bor (List ℕ) × Bor (List ℕ))) → IsSplitOnceResult 59 bs r → MatchOption r (bs ≡ code_of bs) (λ x. x.0.now ≡ code_of bs)
@@ -51,10 +53,13 @@ shown_front xs =
 
 pub shown_whole : (bs : List ℕ) → ((front : List ℕ) → bs ≢ front ++ (13 ∷ [])) → bs ≡ shown bs
 shown_whole [] other = refl
-shown_whole (c ∷ cs) other = by (eqb (get_or (c ∷ cs) n 0) 13) refl
+shown_whole (c ∷ cs) other = by (eqb (get_or (c ∷ cs) n 0) 13) refl ∙ ap (λ k. shown_by (eqb (get_or (c ∷ cs) k 0) 13) k (c ∷ cs)) last
   where
     n : ℕ
     n = length cs
+
+    last : n ≡ length (c ∷ cs) - 1
+    last = omega arith
 
     lt : n < length (c ∷ cs)
     lt = omega arith
@@ -69,20 +74,6 @@ pub shown_is : (bs : List ℕ) (r : Option (Bor (List ℕ))) → MatchOption r (
 shown_is bs None other = shown_whole bs other
 shown_is bs (Some x) is = shown_front x.now ∙ ap shown (sym is)
 
--- ---- its number
-
-pub line_here : (wanted : ℕ) (old new : LinesLeft) (first : ℕ × List ℕ) → Takes old new (Some first) → line_from wanted old.number old.lines ≡ cond (eqb first.0 wanted) first.1 (line_from wanted new.number new.lines)
-line_here wanted old new first takes =
-    ap (line_from wanted old.number) takes.0 ∙ ap (λ n. cond (eqb n wanted) first.1 (line_from wanted (next_line old.number) new.lines)) (sym takes.1)
-    ∙ ap (λ n. cond (eqb first.0 wanted) first.1 (line_from wanted n new.lines)) (sym takes.2)
-
--- ---- what stands below it
-
-pub below_more : (bs : List ℕ) (k : ℕ) (out after : List ℕ) → k < length bs → out ≡ flat_map below (take k bs) → after ≡ out ++ below (get_or bs k 0) → after ≡ flat_map below (take (k + 1) bs)
-below_more bs k out after lt is one =
-    one ∙ ap (λ t. t ++ below (get_or bs k 0)) is ∙ ap (λ t. flat_map below (take k bs) ++ t) (sym (append-nil (below (get_or bs k 0))))
-    ∙ sym (flat_map-append below (take k bs) (get_or bs k 0 ∷ [])) ∙ ap (flat_map below) (sym (take_more bs k 0 lt))
-
 -- within the line is the place of its word
 pub place_within : (why : AsmFault) (line : List ℕ) (at : ℕ) → IsPlace why (before_word line) at → IsPlace why (before_word line) (min at (length line))
 place_within UnknownWord line at is = word_within line at is
@@ -93,3 +84,19 @@ place_within OutOfRange line at is = tt
 place_within UnknownLabel line at is = tt
 place_within JumpTooFar line at is = tt
 place_within TextBehind line at is = tt
+
+-- ---- what is told
+
+pub told_whole : (e : AsmRefusal) (at : ℕ) (wanted line number column words here space base first second all : List ℕ)
+    → base ≡ [] → number ≡ decimal (fault_number e.why) → column ≡ decimal (at + 1) → words ≡ wanted → here ≡ shown line → space ≡ flat_map below (take at line)
+    → first ≡ base ++ concat (codes "line " ∷ decimal e.line ∷ codes ": A" ∷ number ∷ [])
+    → second ≡ first ++ concat (codes "," ∷ codes " column " ∷ column ∷ codes ": wanted " ∷ words ∷ [])
+    → all ≡ second ++ concat (codes "\n    " ∷ here ∷ codes "\n    " ∷ space ∷ codes "^\n" ∷ []) → all ≡ fault_text e ++ wanted_text at wanted line
+told_whole e at wanted line number column words here space base first second all empty number_is column_is words_are here_is space_is put_first put_second put_all =
+    let a = codes "line " ∷ decimal e.line ∷ codes ": A" ∷ number ∷ [] in
+    let b = codes "," ∷ codes " column " ∷ column ∷ codes ": wanted " ∷ words ∷ [] in
+    let d = codes "\n    " ∷ here ∷ codes "\n    " ∷ space ∷ codes "^\n" ∷ [] in
+    let front = codes "line " ∷ decimal e.line ∷ codes ": A" ∷ number ∷ codes "," ∷ [] in
+    let back = codes " column " ∷ column ∷ codes ": wanted " ∷ words ∷ codes "\n    " ∷ here ∷ codes "\n    " ∷ space ∷ codes "^\n" ∷ [] in
+    let same : concat front ++ concat back ≡ fault_text e ++ wanted_text at wanted line = rw (number_is, column_is, words_are, here_is, space_is) refl in
+    both (a ++ b) d base second all (both a b base first second put_first put_second) put_all ∙ ap (λ t. t ++ concat ((a ++ b) ++ d)) empty ∙ concat-append front back ∙ same

@@ -233,12 +233,7 @@ fn put_second(out: &mut String, study: &Study<'_>) -> Written
 }
 
 // Adds a refusal of the structure: its number and what is told of it, and the refusal by kinds, as far as kinds are known.
-fn put_structure(
-    out: &mut String,
-    study: &Study<'_>,
-    refused: Refused,
-    told: Advice<'_>,
-) -> Written
+fn put_structure(out: &mut String, study: &Study<'_>, refused: Refused, told: Advice<'_>) -> Written
     ensures { OnOk result (Adds (TellsStructure refused study.now.known.kinds) (string_bytes out.old) (string_bytes out.new)) }
 {
     let told = told.text(study.alloc, TO_DO)?;

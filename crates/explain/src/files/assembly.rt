@@ -1,6 +1,6 @@
 // Where a line of assembler text is wrong, and what is wanted there.
 
-ghost use Rattle.std.specs.Prelude.{◌≡◌, ◌≤◌, length, take, IfOk};
+ghost use Rattle.std.specs.Prelude.{◌≡◌, ◌+◌, ◌≤◌, length, take, IfOk};
 ghost use Rattle.std.specs.List.{flat_map};
 ghost use Rattle.std.specs.String.{string_bytes};
 ghost use Rattle.asm.specs.Assembled.{assembled};
@@ -292,6 +292,14 @@ fn wanted_in(alloc: Global, line: &str, why: AsmFault) -> Result<(usize, String)
     Ok((at.min(line.len()), wanted))
 }
 
+// The column of what stands behind so many bytes of a line.
+fn column_of(line: &str, at: usize) -> usize
+    requires { at ≤ length line.now }
+    ensures { result ≡ at + 1 }
+{
+    at.min(line.len()) + 1
+}
+
 // What stands below a byte.
 fn below(byte: u8) -> &'static str
     ensures { result.now ≡ below byte }
@@ -351,8 +359,11 @@ fn told(alloc: Global, text: &str, refusal: AsmRefusal) -> Result<String, AllocE
     let number = u32::from(refusal.why.number());
     put_numbers(&mut out, "line ", refusal.line, ": A", number)?;
     let mut digits = Buffer::new();
-    let column = digits.format(at.saturating_add(1));
-    put_all(&mut out, &[",", " column ", column, ": wanted ", wanted.as_str()])?;
+    let column = digits.format(column_of(line, at));
+    put_all(
+        &mut out,
+        &[",", " column ", column, ": wanted ", wanted.as_str()],
+    )?;
     let pieces = ["\n    ", shown(line), "\n    ", space.as_str(), "^\n"];
     put_all(&mut out, &pieces)?;
     Ok(out)
