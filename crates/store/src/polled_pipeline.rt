@@ -268,7 +268,7 @@ impl PolledPipeline {
     /// let count = polled.len();
     /// sessions.push_reserved(second);
     /// match polled.take_last() { Some(third) => sessions.push_reserved(third), None => unreachable!() }
-    /// match polled.take_last() { Some(first) => sessions.insert_reserved(0, first), None => unreachable!() }
+    /// match polled.take_last() { Some(first) => sessions.push_reserved(first), None => unreachable!() }
     /// let _closed = match store.close(sessions) { Ok(closed) => closed, Err(_) => unreachable!() };
     /// assert_eq!(rt; count, 2);
     /// ```

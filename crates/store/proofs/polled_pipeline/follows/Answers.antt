@@ -22,9 +22,9 @@ returns-then-last-caller-2 c = record {
   follows = (
     λ e. absurd cc,
     λ f.
-        let some : 0 < length c.args.members.now = search rules in
         let q = c.index-members-members.result in
         let is = c.index-members-members.is in
+        let some : 0 < length c.args.members.now = search rules in
         let at = at_read c.args.members.now (length c.args.members.now - 1) q (omega (arith, some)) is in
         let high = c.if-last-caller-2.true in
         let low = (f.last q at).1 in
