@@ -259,8 +259,8 @@ impl PolledPipeline {
     ///
     /// let catalogue = load_manifest(rt.alloc(), "map array 8 16\n", &[])?;
     /// let config = Config { nodes: 1, slots: 3, window: 16, limit: 100, spare: 0 };
-    /// let (store, mut sessions) = Store::open(rt.alloc(), config, catalogue)?;
     /// let mut polled = PolledPipeline::with_room(rt.alloc())?;
+    /// let (store, mut sessions) = Store::open(rt.alloc(), config, catalogue)?;
     ///
     /// match polled.add(&store, sessions.remove(0)) { Ok(()) => {}, Err(_) => unreachable!() }
     /// match polled.add(&store, sessions.remove(1)) { Ok(()) => {}, Err(_) => unreachable!() } // the third slot
@@ -298,8 +298,8 @@ impl PolledPipeline {
     ///
     /// let catalogue = load_manifest(rt.alloc(), "map array 8 16\n", &[])?;
     /// let config = Config { nodes: 1, slots: 1, window: 16, limit: 100, spare: 0 };
-    /// let (store, mut sessions) = Store::open(rt.alloc(), config, catalogue)?;
     /// let mut polled = PolledPipeline::with_room(rt.alloc())?;
+    /// let (store, mut sessions) = Store::open(rt.alloc(), config, catalogue)?;
     ///
     /// match polled.add(&store, sessions.remove(0)) { Ok(()) => {}, Err(_) => unreachable!() }
     /// match polled.take_last() { Some(session) => sessions.push_reserved(session), None => unreachable!() }
