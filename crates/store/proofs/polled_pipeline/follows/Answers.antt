@@ -1,7 +1,7 @@
 use Rattle.std.proofs.Common.{rules, ◌<◌, ◌-◌, length, refl, sym, ap, ◌∙◌, arith}
 use Rattle.store_steps.specs.declared.pipelines.Member.{Member}
 use Rattle.store.proofs.Following.{is_last}
-use Rattle.store.proofs.Neighbours.{at_read}
+use Rattle.store.proofs.Ascending.{at_read}
 use Rattle.store.proofs.polled_pipeline.follows.Goals as goal
 
 pub returns-then-last-caller : goal.returns-then-last-caller
