@@ -6,7 +6,7 @@ ghost use Rattle.store.specs.Sessions.{IsOf};
 use crate::endings::{Ending, judged};
 use crate::served::{BUMP_LINE, MANIFEST, PEEK_LINE};
 use loader::{Catalogue, StoreState, load_manifest};
-use oplog::{Config, OpenError};
+use oplog::{Config, MIN_WINDOW, OpenError};
 use readpath::ReadAnswer;
 use std::alloc::Global;
 use std::sync::Wait;
@@ -52,7 +52,7 @@ fn config() -> Config
     Config {
         nodes: 1,
         slots: 1,
-        window: 16,
+        window: MIN_WINDOW as u32,
         limit: 100,
         spare: 0,
     }
