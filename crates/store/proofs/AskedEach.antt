@@ -30,7 +30,7 @@ use Rattle.store_steps.specs.Views.{IsIdle, SessionView, session_view}
 use Rattle.store_steps.proofs.Export.{seen_as, store_laws, view_known, was_at}
 use Rattle.store.specs.declared.answers.Answer.{Answer}
 use Rattle.store.specs.Opening.{AreOf}
-use Rattle.store.specs.Pipelines.{AreInOrder, AreJoined, EachGoes, EachGoesOn, LooksAndUpdates, OthersStay, TellsEach, views_of}
+use Rattle.store.specs.Pipelines.{AreInOrder, AreJoined, EachGoes, EachGoesOn, LooksAndUpdates, LooksPostsCollects, OthersStay, TellsEach, views_of}
 use Rattle.store.specs.Sessions.{HasRoom, IsOf, SessionGoesOn, StoreView, TellsUpdate, said}
 use Rattle.store.proofs.Invoked.{Invoked, goes_on, goes_seen, has_grown, invoked, is_idle, may_ask, tells_update}
 
@@ -96,7 +96,7 @@ shared_of store shared shelf places nodes config catalogue = record { shelf = sh
 -- ---- what one of them has done
 
 -- the member is idle again, and its session has performed the operation
-pub record HasUpdated (store : StoreView) (m n : Member) (op : Operation) (reply : Reply) : Type 0 where
+pub record HasUpdated (store : StoreView) (j : ℕ) (m n : Member) (op : Operation) (reply : Reply) : Type 0 where
   pub caller : n.caller ≡ m.caller
   pub idle : IsIdle n.seat n.caller
   pub shapes : (r : InstalledView) → HasRoom r m.seat → HasRoom r n.seat
@@ -104,8 +104,9 @@ pub record HasUpdated (store : StoreView) (m n : Member) (op : Operation) (reply
   pub goes_on : SessionGoesOn store (session_view m.seat) (session_view n.seat)
   pub tells : TellsUpdate (session_view m.seat) (session_view n.seat) op (said reply)
   pub goes : LooksAndUpdates (session_view m.seat) (session_view n.seat) op (said reply)
+  pub alone : 0 < j → LooksPostsCollects (session_view m.seat) (session_view n.seat) op (said reply)
 
-pub has_updated : (store : StoreView) (m n : Member) (op : Operation) (reply : Reply) (new : List Member) (j : ℕ) → At j n new → spot_of n ≡ spot_of m → (i : IsIdle m.seat m.caller) → IsOf store (session_view m.seat) → AsksFor new j i.known op reply → HasUpdated store m n op reply
+pub has_updated : (store : StoreView) (m n : Member) (op : Operation) (reply : Reply) (new : List Member) (j : ℕ) → At j n new → spot_of n ≡ spot_of m → (i : IsIdle m.seat m.caller) → IsOf store (session_view m.seat) → AsksFor new j i.known op reply → HasUpdated store j m n op reply
 has_updated store m n op reply new j at spot i own a = record {
   caller = ap (λ z. z.0) spot;
   idle = subst (λ c. IsIdle n.seat c) (sym (ap (λ z. z.0) spot)) (is_idle k f op reply v m.seat n.seat m.caller i refl there);
@@ -114,6 +115,7 @@ has_updated store m n op reply new j at spot i own a = record {
   goes_on = goes_on store (session_view m.seat) (session_view n.seat) m.seat.shelf n.seat.shelf k f op reply v was now own (ap (λ z. z.1) spot);
   tells = tells_update store (session_view m.seat) (session_view n.seat) m.seat.shelf n.seat.shelf k f op reply v was now i.pending i.batch;
   goes = goes_seen (λ x y. (looked : K) × HasLooked x looked × ((r : Reply) × (said reply ≡ said r) × UpdatesBy looked y op r)) m.seat n.seat (session_view m.seat) k f i.is i.free.held refl there v.held (a.looked, a.looks, (reply, refl, a.goes));
+  alone = λ later. goes_seen (λ x y. (looked : K) × HasLooked x looked × ((r : Reply) × (said reply ≡ said r) × ((by : UpdatesBy looked y op r) × (by.completes.waited ≡ by.asked)))) m.seat n.seat (session_view m.seat) k f i.is i.free.held refl there v.held (a.looked, a.looks, (reply, refl, (a.goes, a.alone later)));
 }
   where
     k : K
@@ -252,7 +254,7 @@ module _ (store : StoreView) (ms : List Member) (rooms : List InstalledView) (jo
     pub at_q : At j q calls
     pub reply : Reply
     pub at_reply : At j reply replies
-    pub updated : HasUpdated store m o (asked_op q) reply
+    pub updated : HasUpdated store j m o (asked_op q) reply
 
   was_asked : (j : ℕ) (o : Member) → j < n → At j o new → (m : Member) × At j m ms × WasAsked j m o
   was_asked j o lt at =
@@ -315,8 +317,8 @@ module _ (store : StoreView) (ms : List Member) (rooms : List InstalledView) (jo
   )
 
   -- a session of a call's number was asked
-  asked_for : (j : ℕ) (m o : Member) (q : Question) → At j q calls → (WasAsked j m o ⊎ ((n ≤ j) × (o ≡ m))) → (reply : Reply) × At j reply replies × HasUpdated store m o (asked_op q) reply
-  asked_for j m o q at_q w = ⊎_elim (λ a. (a.reply, a.at_reply, subst (λ z. HasUpdated store m o (asked_op z) a.reply) (at_one calls j a.q q a.at_q at_q) a.updated)) (λ e. let below = at_below calls j q at_q in let far = e.0 in absurd (omega (arith, below, far, count))) w
+  asked_for : (j : ℕ) (m o : Member) (q : Question) → At j q calls → (WasAsked j m o ⊎ ((n ≤ j) × (o ≡ m))) → (reply : Reply) × At j reply replies × HasUpdated store j m o (asked_op q) reply
+  asked_for j m o q at_q w = ⊎_elim (λ a. (a.reply, a.at_reply, subst (λ z. HasUpdated store j m o (asked_op z) a.reply) (at_one calls j a.q q a.at_q at_q) a.updated)) (λ e. let below = at_below calls j q at_q in let far = e.0 in absurd (omega (arith, below, far, count))) w
 
   pub tells_each : TellsEach (views_of ms) (views_of now) calls (map said replies)
   tells_each j s t q at there at_q =
@@ -325,10 +327,13 @@ module _ (store : StoreView) (ms : List Member) (rooms : List InstalledView) (jo
 
   pub each_goes : EachGoes (views_of ms) (views_of now) calls (map said replies)
   each_goes j s t q a at there at_q at_a =
-      of_views (λ j s t. At j q calls → At j a (map said replies) → LooksAndUpdates s t (asked_op q) a)
+      of_views (λ j s t. At j q calls → At j a (map said replies) → LooksAndUpdates s t (asked_op q) a × (0 < j → LooksPostsCollects s t (asked_op q) a))
       (λ j m o at there w at_q at_a.
       let u = asked_for j m o q at_q w in
-      subst (λ z. LooksAndUpdates (session_view m.seat) (session_view o.seat) (asked_op q) z) (at_one (map said replies) j (said u.0) a (at_map said replies j u.0 u.1) at_a) u.2.goes) j s t at there at_q at_a
+      let said_is = at_one (map said replies) j (said u.0) a (at_map said replies j u.0 u.1) at_a in (
+        subst (λ z. LooksAndUpdates (session_view m.seat) (session_view o.seat) (asked_op q) z) said_is u.2.goes,
+        λ later. subst (λ z. LooksPostsCollects (session_view m.seat) (session_view o.seat) (asked_op q) z) said_is (u.2.alone later),
+      )) j s t at there at_q at_a
 
   pub others_stay : OthersStay (length calls) (views_of ms) (views_of now)
   others_stay j s far at =

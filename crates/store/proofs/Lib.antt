@@ -1,6 +1,7 @@
 pub mod Opened
 pub mod Filled
 pub mod Left
+pub mod Following
 pub mod Fresh
 pub mod Joined
 pub mod Invoked

@@ -20,7 +20,7 @@ use Rattle.store_steps.specs.Standing.{SessionKnown, StoreSeat}
 use Rattle.store_steps.specs.Views.{IsIdle, SessionView, session_view}
 use Rattle.store_steps.proofs.Export.{seen_as}
 use Rattle.store.specs.Opening.{AreOf}
-use Rattle.store.specs.Pipelines.{AreJoined, AreNeighbours, views_of}
+use Rattle.store.specs.Pipelines.{AreJoined, AreNeighbours, IsOnNode, views_of}
 use Rattle.store.specs.Sessions.{HasRoom, IsOf, StoreView, known_of}
 
 abbrev K : Type 0
@@ -33,52 +33,106 @@ pub caller_is : (slots m n s t : ℕ) → s < slots → t < slots → m * slots 
 caller_is slots m n s t hs ht e =
     (sym (div-mul-add m slots s hs) ∙ (ap (λ z. z / slots) e ∙ div-mul-add n slots t ht), sym (mod-mul-add m slots s hs) ∙ (ap (λ z. z % slots) e ∙ mod-mul-add n slots t ht))
 
--- the first n sessions are neighbours of the first
-pub record Checked (config : Sizes) (sessions : List SessionView) (first : Caller) (n : ℕ) : Type 0 where
-  pub numbers : (j : ℕ) (s : SessionView) → j < n → At j s sessions → s.session ≡ session config first.node (first.slot + j)
-  pub within : (j : ℕ) → j < n → first.slot + j < config.slots
-
 -- a session has this slot
 pub record HasSlot (config : Sizes) (s : SessionView) (caller : Caller) : Type 0 where
   pub own : s.session ≡ session config caller.node caller.slot
   pub within : caller.slot < config.slots
 
-module _ (config : Sizes) (sessions : List SessionView) (first : Caller) where
-  pub none_checked : Checked config sessions first 0
-  none_checked = record { numbers = λ j s lt at. absurd (omega (arith, lt)); within = λ j lt. absurd (omega (arith, lt)) }
+-- the first n sessions are of this node, by ascending slots, and the next one has at least the slot `lowest`
+pub record Checked (config : Sizes) (sessions : List SessionView) (node n lowest : ℕ) : Type 0 where
+  pub slots : (j : ℕ) (s : SessionView) → j < n → At j s sessions → IsOnNode config node s
+  pub ascend : (i j : ℕ) (s t : SessionView) → i < j → j < n → At i s sessions → At j t sessions → s.session < t.session
+  pub under : (j : ℕ) (s : SessionView) → j < n → At j s sessions → s.session < session config node lowest
+  -- the last of them has the slot before
+  pub last : 0 < lowest → (j : ℕ) × (s : SessionView) × (j < n) × At j s sessions × (s.session + 1 ≡ session config node lowest)
+  pub reach : n ≤ lowest
+  pub within : lowest ≤ config.slots
 
-  pub one_checked : (n : ℕ) (s : SessionView) (caller : Caller) → Checked config sessions first n → At n s sessions → HasSlot config s caller → caller.node ≡ first.node → caller.slot ≡ first.slot + n → Checked config sessions first (n + 1)
-  one_checked n s caller c at has node slot = record { numbers = numbers; within = within }
-    where
-      last : s.session ≡ session config first.node (first.slot + n)
-      last = has.own ∙ (λ i. session config (node i) (slot i))
+-- an index is below n, or n
+below_or_at : (j n : ℕ) → j < n + 1 → (j < n) ⊎ (j ≡ n)
+below_or_at j n lt = ⊎_elim (λ below. inl below) (λ above. inr (omega (arith, above, lt))) (cases_lt j n)
 
-      numbers : (j : ℕ) (t : SessionView) → j < n + 1 → At j t sessions → t.session ≡ session config first.node (first.slot + j)
-      numbers j t lt there = ⊎_elim (λ below. c.numbers j t below there) (λ above. here (omega (arith, above, lt))) (cases_lt j n)
-        where
-          here : j ≡ n → t.session ≡ session config first.node (first.slot + j)
-          here same = ap (λ (z : SessionView). z.session) (some-injective t s (sym there ∙ (ap (λ z. get_elem? sessions z) same ∙ at))) ∙ (last ∙ ap (λ z. session config first.node (first.slot + z)) (sym same))
-
-      within : (j : ℕ) → j < n + 1 → first.slot + j < config.slots
-      within j lt = ⊎_elim (λ below. c.within j below) (λ above. let fits = has.within in omega (arith, fits, slot, above, lt)) (cases_lt j n)
-
-  pub all_checked : (n : ℕ) → Checked config sessions first n → n ≡ length sessions → 0 < length sessions → AreNeighbours config sessions
-  all_checked n c all some = record {
-    node = first.node;
-    slot = first.slot;
-    some = some;
-    within = let last = c.within (length sessions - 1) (omega (arith, some, all)) in omega (arith, last, some);
-    numbers = λ j s at. c.numbers j s (let below = at_below sessions j s at in omega (arith, below, all)) at;
+module _ (config : Sizes) (sessions : List SessionView) (node : ℕ) where
+  pub none_checked : Checked config sessions node 0 0
+  none_checked = record {
+    slots = λ j s lt at. absurd (omega (arith, lt));
+    ascend = λ i j s t up lt at there. absurd (omega (arith, lt));
+    under = λ j s lt at. absurd (omega (arith, lt));
+    last = λ lt. absurd (omega (arith, lt));
+    reach = omega arith;
+    within = omega arith;
   }
 
-  -- one of another node, or of another slot than the next one
-  pub are_no_neighbours : (n : ℕ) (s t : SessionView) (caller : Caller) → At 0 s sessions → HasSlot config s first → At n t sessions → HasSlot config t caller → (caller.node ≡ first.node → caller.slot ≡ first.slot + n → ⊥) → AreNeighbours config sessions → ⊥
-  are_no_neighbours n s t caller at_s has_s at_t has_t differs are =
-      let low = are.within in
-      let short = at_below sessions n t at_t in
-      let one = caller_is config.slots first.node are.node first.slot (are.slot + 0) has_s.within (omega (arith, low, short)) (sym has_s.own ∙ are.numbers 0 s at_s) in
-      let two = caller_is config.slots caller.node are.node caller.slot (are.slot + n) has_t.within (omega (arith, low, short)) (sym has_t.own ∙ are.numbers n t at_t) in
-      differs (two.0 ∙ sym one.0) (let e = one.1 in let f = two.1 in omega (arith, e, f))
+  pub one_checked : (n lowest : ℕ) (s : SessionView) (caller : Caller) → Checked config sessions node n lowest → At n s sessions → HasSlot config s caller → caller.node ≡ node → lowest ≤ caller.slot
+      → Checked config sessions node (n + 1) (caller.slot + 1)
+  one_checked n lowest s caller c at has same up = record {
+    slots = slots;
+    ascend = ascend;
+    under = under;
+    last = λ lt. (n, s, omega arith, at, next base is);
+    reach = let reach = c.reach in omega (arith, reach, up);
+    within = let fits = has.within in omega (arith, fits);
+  }
+    where
+      base : ℕ
+      base = node * config.slots
+
+      is : s.session ≡ base + caller.slot
+      is = has.own ∙ ap (λ z. session config z caller.slot) same
+
+      next : (base : ℕ) → s.session ≡ base + caller.slot → s.session + 1 ≡ base + (caller.slot + 1)
+      next base e = omega (arith, e)
+
+      rises : (base x : ℕ) → s.session ≡ base + caller.slot → x < base + lowest → x < s.session
+      rises base x e lt = omega (arith, e, lt, up)
+
+      here : (j : ℕ) (t : SessionView) → j ≡ n → At j t sessions → t ≡ s
+      here j t e there = some-injective t s (sym there ∙ (ap (λ z. get_elem? sessions z) e ∙ at))
+
+      slots : (j : ℕ) (t : SessionView) → j < n + 1 → At j t sessions → IsOnNode config node t
+      slots j t lt there = ⊎_elim (λ below. c.slots j t below there)
+          (λ e. (caller.slot, has.within, ap (λ (z : SessionView). z.session) (here j t e there) ∙ is)) (below_or_at j n lt)
+
+      ascend : (i j : ℕ) (t u : SessionView) → i < j → j < n + 1 → At i t sessions → At j u sessions → t.session < u.session
+      ascend i j t u less lt there then = ⊎_elim (λ below. c.ascend i j t u less below there then)
+          (λ e. subst (λ (z : SessionView). t.session < z.session) (sym (here j u e then)) (rises base t.session is (c.under i t (omega (arith, less, e)) there))) (below_or_at j n lt)
+
+      under : (j : ℕ) (t : SessionView) → j < n + 1 → At j t sessions → t.session < base + (caller.slot + 1)
+      under j t lt there = ⊎_elim (λ below. over base t.session (rises base t.session is (c.under j t below there)) is)
+          (λ e. subst (λ (z : SessionView). z.session < base + (caller.slot + 1)) (sym (here j t e there)) (top base is)) (below_or_at j n lt)
+        where
+          over : (base x : ℕ) → x < s.session → s.session ≡ base + caller.slot → x < base + (caller.slot + 1)
+          over base x lt e = omega (arith, lt, e)
+
+          top : (base : ℕ) → s.session ≡ base + caller.slot → s.session < base + (caller.slot + 1)
+          top base e = omega (arith, e)
+
+  pub all_checked : (n lowest : ℕ) → Checked config sessions node n lowest → n ≡ length sessions → 0 < length sessions → AreNeighbours config sessions
+  all_checked n lowest c all some = record {
+    node = node;
+    some = some;
+    slots = λ j s at. c.slots j s (let below = at_below sessions j s at in omega (arith, below, all)) at;
+    ascend = λ i j s t up at there. c.ascend i j s t up (let below = at_below sessions j t there in omega (arith, below, all)) at there;
+  }
+
+  -- one of another node than the first, or of a lower slot than the next one may have
+  pub are_no_neighbours : (n lowest : ℕ) (s t : SessionView) (first caller : Caller) → Checked config sessions node n lowest → At 0 s sessions → HasSlot config s first → first.node ≡ node → At n t sessions → HasSlot config t caller
+      → (caller.node ≡ node → lowest ≤ caller.slot → ⊥) → AreNeighbours config sessions → ⊥
+  are_no_neighbours n lowest s t first caller c at_s has_s of at_t has_t differs are =
+      let a = are.slots 0 s at_s in
+      let b = are.slots n t at_t in
+      let one = caller_is config.slots first.node are.node first.slot a.0 has_s.within a.1 (sym has_s.own ∙ a.2) in
+      let two = caller_is config.slots caller.node are.node caller.slot b.0 has_t.within b.1 (sym has_t.own ∙ b.2) in
+      let same : caller.node ≡ node = two.0 ∙ (sym one.0 ∙ of) in
+      ⊎_elim (λ low. not_lower low same) (λ high. differs same (omega (arith, high))) (cases_lt caller.slot lowest)
+    where
+      lower : (base x y : ℕ) → caller.slot < lowest → y ≡ base + caller.slot → x + 1 ≡ base + lowest → x < y → ⊥
+      lower base x y low is last up = omega (arith, low, is, last, up)
+
+      not_lower : caller.slot < lowest → caller.node ≡ node → ⊥
+      not_lower low same =
+          let last = c.last (omega (arith, low)) in
+          lower (node * config.slots) last.1.session t.session low (has_t.own ∙ ap (λ z. session config z caller.slot) same) last.4 (are.ascend last.0 n last.1 t last.2 last.3 at_t)
 
 -- ---- lists
 
@@ -156,30 +210,27 @@ joining_more all ms rooms before rest s seat caller room g is shelf known idle h
 pub has_slot : (store : StoreView) (s : SessionView) (caller : Caller) → IsOf store s → s.session ≡ session s.progress.config caller.node caller.slot → caller.slot < s.progress.config.slots → HasSlot store.config s caller
 has_slot store s caller of own within = record { own = own ∙ ap (λ z. session z caller.node caller.slot) of.config; within = subst (λ (z : Sizes). caller.slot < z.slots) of.config within }
 
-module _ (store : StoreView) (ms : List Member) (rooms : List InstalledView) (are : AreIdleMembers ms rooms) (own : AreOf store (views_of ms)) (near : AreNeighbours store.config (views_of ms)) where
-  -- the number of a member's session
-  number_is : (j : ℕ) (m : Member) → At j m ms → (session_view m.seat).session ≡ session store.config near.node (near.slot + j)
-  number_is j m at = near.numbers j (session_view m.seat) (at_map (λ (z : Member). session_view z.seat) ms j m at)
+-- a member's session is that of its slot
+pub member_slot : (store : StoreView) (m : Member) → IsIdle m.seat m.caller → IsOf store (session_view m.seat) → HasSlot store.config (session_view m.seat) m.caller
+member_slot store m i of =
+    let seen = seen_as m.seat i.known i.is in
+    has_slot store (session_view m.seat) m.caller of (ap (λ (z : SessionView). z.session) seen ∙ (i.free.own ∙ ap (λ (z : SessionView). session z.progress.config m.caller.node m.caller.slot) (sym seen)))
+    (subst (λ (z : SessionView). m.caller.slot < z.progress.config.slots) (sym seen) i.free.within)
 
+module _ (store : StoreView) (ms : List Member) (rooms : List InstalledView) (are : AreIdleMembers ms rooms) (own : AreOf store (views_of ms)) (near : AreNeighbours store.config (views_of ms)) where
   node_is : (j : ℕ) (m : Member) → At j m ms → m.caller.node ≡ near.node
   node_is j m at =
-      let i = are.idle j m at in
-      let seen = seen_as m.seat i.known i.is in
       let there = at_map (λ (z : Member). session_view z.seat) ms j m at in
-      let of = own j (session_view m.seat) there in
-      let slot = has_slot store (session_view m.seat) m.caller of (ap (λ (z : SessionView). z.session) seen ∙ (i.free.own ∙ ap (λ (z : SessionView). session z.progress.config m.caller.node m.caller.slot) (sym seen))) (subst (λ (z : SessionView). m.caller.slot < z.progress.config.slots) (sym seen) i.free.within) in
-      let low = near.within in
-      let below = at_below (views_of ms) j (session_view m.seat) there in
-      (caller_is store.config.slots m.caller.node near.node m.caller.slot (near.slot + j) slot.within (omega (arith, low, below)) (sym slot.own ∙ number_is j m at)).0
+      let has = member_slot store m (are.idle j m at) (own j (session_view m.seat) there) in
+      let slot = near.slots j (session_view m.seat) there in
+      (caller_is store.config.slots m.caller.node near.node m.caller.slot slot.0 has.within slot.1 (sym has.own ∙ slot.2)).0
 
   ascend : AscendEach ms
   ascend i j f g lt a b =
-      let low = ap (λ (z : SessionView). z.session) (sym (seen_as a.0.seat f a.2)) ∙ number_is i a.0 a.1 in
-      let high = ap (λ (z : SessionView). z.session) (sym (seen_as b.0.seat g b.2)) ∙ number_is j b.0 b.1 in
-      below (near.node * store.config.slots) near.slot f.session g.session low high
-    where
-      below : (base slot x y : ℕ) → x ≡ base + (slot + i) → y ≡ base + (slot + j) → x < y
-      below base slot x y low high = omega (arith, low, high, lt)
+      let low = ap (λ (z : SessionView). z.session) (seen_as a.0.seat f a.2) in
+      let high = ap (λ (z : SessionView). z.session) (seen_as b.0.seat g b.2) in
+      let up = near.ascend i j (session_view a.0.seat) (session_view b.0.seat) lt (at_map (λ (z : Member). session_view z.seat) ms i a.0 a.1) (at_map (λ (z : Member). session_view z.seat) ms j b.0 b.1) in
+      omega (arith, low, high, up)
 
   pub are_joined : length ms ≤ 16 → AreJoined ms rooms
   are_joined few = record {

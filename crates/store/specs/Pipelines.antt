@@ -22,14 +22,16 @@ use Rattle.store.specs.Sessions.{HasRoom, SessionGoesOn, StoreView, TellsUpdate,
 
 -- ---- which sessions make a pipeline
 
--- the sessions are those of so many slots of one node, one slot after the other
+-- the session of some slot of this node
+abbrev pub IsOnNode : Sizes → ℕ → SessionView → Type 0
+IsOnNode config node s = (slot : ℕ) × (slot < config.slots) × (s.session ≡ session config node slot)
+
+-- the sessions are of slots of one node, which ascend
 pub record AreNeighbours (config : Sizes) (sessions : List SessionView) : Type 0 where
   pub node : ℕ
-  -- the slot of the first
-  pub slot : ℕ
   pub some : 0 < length sessions
-  pub within : slot + length sessions ≤ config.slots
-  pub numbers : (j : ℕ) (s : SessionView) → At j s sessions → s.session ≡ session config node (slot + j)
+  pub slots : (j : ℕ) (s : SessionView) → At j s sessions → IsOnNode config node s
+  pub ascend : (i j : ℕ) (s t : SessionView) → i < j → At i s sessions → At j t sessions → s.session < t.session
 
 -- how the sessions of a pipeline are seen
 abbrev pub views_of : List Member → List SessionView
@@ -80,7 +82,13 @@ OthersStay count old new = (j : ℕ) (s : SessionView) → count ≤ j → At j 
 abbrev pub LooksAndUpdates : (old new : SessionView) → Operation → Result Answer StoreRefused → Type 0
 LooksAndUpdates old new op result = (looked : SessionKnown) × HasLooked (known_of old) looked × ((reply : Reply) × (result ≡ said reply) × UpdatesBy looked (known_of new) op reply)
 
--- so did the session of each call's number
+-- the session looked at its desk for nothing, so often, posted this update, and did nothing more until it collected the answer
+abbrev pub LooksPostsCollects : (old new : SessionView) → Operation → Result Answer StoreRefused → Type 0
+LooksPostsCollects old new op result =
+    (looked : SessionKnown) × HasLooked (known_of old) looked × ((reply : Reply) × (result ≡ said reply) × ((by : UpdatesBy looked (known_of new) op reply) × (by.completes.waited ≡ by.asked)))
+
+-- the session of each call's number made its update so, and only the first one did more than post and collect
 abbrev pub EachGoes : (old new : List SessionView) → List Question → List (Result Answer StoreRefused) → Type 0
 EachGoes old new calls answers =
-    (j : ℕ) (s t : SessionView) (q : Question) (a : Result Answer StoreRefused) → At j s old → At j t new → At j q calls → At j a answers → LooksAndUpdates s t (asked_op q) a
+    (j : ℕ) (s t : SessionView) (q : Question) (a : Result Answer StoreRefused) → At j s old → At j t new → At j q calls → At j a answers
+    → LooksAndUpdates s t (asked_op q) a × (0 < j → LooksPostsCollects s t (asked_op q) a)

@@ -1,7 +1,8 @@
 -- Several sessions of one node in one hand, which wait for nobody: how they stand between their calls, and what those tell.
-use Rattle.std.specs.Prelude.{◌≡◌, ℕ, ◌<◌, ◌≤◌, List, ◌++◌, length, take, drop, Some, None, Option, Result, MatchOption, MatchResult}
+use Rattle.std.specs.Prelude.{◌≡◌, ℕ, ◌-◌, ◌<◌, ◌≤◌, List, ◌++◌, length, take, drop, Some, None, Option, Result, MatchOption, MatchResult}
 use Rattle.ownlock.specs.Seats.{At}
 use Rattle.loader.specs.Installed.{InstalledView}
+use Rattle.oplog.specs.declared.configuration.Sizes.{Sizes}
 use Rattle.combiner.specs.Desks.{BatchView}
 use Rattle.combiner.specs.declared.slots.Reply.{Reply}
 use Rattle.replica.specs.Views.{RepliesView}
@@ -10,6 +11,7 @@ use Rattle.accounts.specs.declared.sessions.Pending.{Pending}
 use Rattle.store_steps.specs.declared.batches.Room.{Room}
 use Rattle.store_steps.specs.declared.pipelines.Member.{Member}
 use Rattle.store_steps.specs.declared.polling_each.EachStage.{EachStage}
+use Rattle.store_steps.specs.declared.steps.Caller.{Caller}
 use Rattle.store_steps.specs.declared.steps.Question.{Question}
 use Rattle.store_steps.specs.declared.questions.QuestionRefused.{QuestionRefused}
 use Rattle.store_steps.specs.Asking.{asked_op}
@@ -20,6 +22,7 @@ use Rattle.store_steps.specs.PollingEach.{AreIdle, AreOut, BeginsEach, Completes
 use Rattle.store_steps.specs.Views.{IsIdle, SessionView}
 use Rattle.store.specs.declared.answers.Answer.{Answer}
 use Rattle.store.specs.Going.{CompleteGoes}
+use Rattle.store.specs.Pipelines.{IsOnNode}
 use Rattle.store.specs.Polled.{TellsCompleted}
 use Rattle.store.specs.Sessions.{HasRoom, known_of}
 
@@ -39,6 +42,17 @@ pub record AreListed (members : List Member) (rooms : List InstalledView) (poste
 -- the first sessions, so many, wait for an answer, and the others do not
 abbrev pub AreWaiting : ℕ → List SessionView → Type 0
 AreWaiting count sessions = (j : ℕ) (s : SessionView) → At j s sessions → (j < count → (o : Pending) × (s.note.pending ≡ Some o)) × (count ≤ j → s.note.pending ≡ None)
+
+-- a session may come after these: there is room, and it is of their node, and of a higher slot
+pub record MayFollow (config : Sizes) (sessions : List SessionView) (s : SessionView) : Type 0 where
+  pub room : length sessions < 16
+  pub near : (j : ℕ) (t : SessionView) → At j t sessions → (node : ℕ) × IsOnNode config node t × IsOnNode config node s
+  pub above : (j : ℕ) (t : SessionView) → At j t sessions → t.session < s.session
+
+-- so it is by the last of their slots
+pub record Follows (members : List Member) (caller : Caller) : Type 0 where
+  pub room : length members < 16
+  pub last : (m : Member) → At (length members - 1) m members → (m.caller.node ≡ caller.node) × (m.caller.slot < caller.slot)
 
 -- ---- what their calls tell
 

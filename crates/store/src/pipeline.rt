@@ -44,7 +44,7 @@ use verifier::Mode;
 /// ```
 #[derive(Clone, Copy, Debug, PartialEq, Eq)]
 pub enum JoinRefused {
-    /// There is none, or they are not those of slots of one node, one slot after the other.
+    /// There is none, or they are not of one node, by ascending slots.
     NotNeighbours,
     /// There is no memory.
     NoMemory,
@@ -118,8 +118,12 @@ impl Model for Pipeline {
 
     ghost view = { λ p. views_of p.members.items };
 
-    ghost invariant = { λ p. AreJoined p.members.items p.rooms.items × (p.emptied.items ≡ []) × (length p.members.items ≤ vec_capacity p.emptied) };
+    ghost invariant = { λ p. AreJoined p.members.items p.rooms.items × (p.emptied.items ≡ []) × (length p.members.items ≤ vec_capacity p.emptied)
+        × (16 ≤ vec_capacity p.members) × (16 ≤ vec_capacity p.rooms) };
 }
+
+// How many sessions it has at most: no node has more slots.
+pub(crate) const MOST: usize = 16;
 
 // Room for what the sessions of a pipeline do together.
 #[derive(Drop)]
@@ -152,7 +156,7 @@ impl Asking {
     }
 }
 
-// Whether the sessions are those of so many slots of one node, one slot after the other.
+// Whether there are sessions, and they are of one node, by ascending slots.
 fn are_neighbours(store: &Store, sessions: &[Session]) -> bool
     requires own { AreOf store.now sessions.now }
     ensures neighbours { IsTrue result ↔ AreNeighbours store.now.config sessions.now }
@@ -162,12 +166,14 @@ fn are_neighbours(store: &Store, sessions: &[Session]) -> bool
     if sessions.is_empty() {
         return false;
     }
-    let first = sessions[0].caller();
+    let node = sessions[0].caller().node;
+    let mut lowest = 0;
     for number in 0..sessions.len() {
         let caller = sessions[number].caller();
-        if caller.node != first.node || caller.slot != first.slot + number {
+        if caller.node != node || caller.slot < lowest {
             return false;
         }
+        lowest = caller.slot + 1;
     }
     true
 }
@@ -183,7 +189,7 @@ fn joined(
     requires neighbours { AreNeighbours store.now.config sessions.items }
     requires few { length sessions.items ≤ 16 }
     requires empty { (members.items ≡ []) × (rooms.items ≡ []) }
-    requires space { (length sessions.items ≤ vec_capacity members) × (length sessions.items ≤ vec_capacity rooms) }
+    requires space { (16 ≤ vec_capacity members) × (16 ≤ vec_capacity rooms) }
     ensures sessions { result ≡ sessions.items }
 {
     let count = sessions.len();
@@ -217,7 +223,7 @@ impl Pipeline {
     ///
     /// # Errors
     ///
-    /// [`NotNeighbours`](JoinRefused::NotNeighbours) where there is none, or they are not those of slots of one node, one slot after the other;
+    /// [`NotNeighbours`](JoinRefused::NotNeighbours) where there is none, or they are not of one node, by ascending slots;
     /// [`NoMemory`](JoinRefused::NoMemory). All sessions come back.
     ///
     /// # Examples
@@ -245,10 +251,10 @@ impl Pipeline {
             return Err(NotJoined { sessions, refused });
         }
         let refused = JoinRefused::NoMemory;
-        let Ok(members) = Vec::with_capacity(alloc, sessions.len()) else {
+        let Ok(members) = Vec::with_capacity(alloc, MOST) else {
             return Err(NotJoined { sessions, refused });
         };
-        let Ok(rooms) = Vec::with_capacity(alloc, sessions.len()) else {
+        let Ok(rooms) = Vec::with_capacity(alloc, MOST) else {
             return Err(NotJoined { sessions, refused });
         };
         Ok(joined(store, sessions, members, rooms))

@@ -1,6 +1,6 @@
 // Several sessions of one node that ask for their updates at once, and whose calls answer at once.
 
-ghost use Rattle.std.specs.Prelude.{◌≡◌, ℕ, ◌≤◌, ◌<◌, length, take, IfNone, IfSome, Ok};
+ghost use Rattle.std.specs.Prelude.{◌≡◌, ◌↔◌, ℕ, ◌≤◌, ◌<◌, ◌∷◌, ◌++◌, [], length, take, vec_capacity, IfErr, IfNone, IfOk, IfSome, IsTrue, MatchOption, Ok};
 ghost use Rattle.ownlock.specs.Seats.{At};
 ghost use Rattle.verifier.specs.declared.refusal.Mode.TheVariants.{Update};
 ghost use Rattle.store_steps.specs.EachMember.{AscendEach};
@@ -10,18 +10,20 @@ ghost use Rattle.store_steps.specs.Questions.{first_refused_in};
 ghost use Rattle.store.specs.Looks.{IsRefused};
 ghost use Rattle.store.specs.Opening.{AreOf};
 ghost use Rattle.store.specs.Pipelines.{AreInOrder, EachGoesOn, MayUpdateEach, OthersStay};
-ghost use Rattle.store.specs.PolledPipelines.{AreWaiting, BeginsFirst, EachIsTold, FinishesFirst, LooksFirst, TellsListed, WaitsFirst};
+ghost use Rattle.store.specs.PolledPipelines.{AreWaiting, BeginsFirst, EachIsTold, FinishesFirst, Follows, LooksFirst, MayFollow, TellsListed, WaitsFirst};
+ghost use Rattle.store.specs.Sessions.{IsOf};
 
 use crate::answers::Answer;
-use crate::pipeline::{Asking, Pipeline, say_each};
+use crate::pipeline::{Asking, MOST, Pipeline, say_each};
 use crate::session::Session;
 use crate::store::Store;
 use combiner::Reply;
 use loader::Installed;
 use replica::StoreRefused;
+use std::alloc::{AllocError, Global};
 use std::marker::Model;
 use store_steps::{
-    EachRoom, EachStage, Member, Question, QuestionRefused, Shared, check_each, go_on_each,
+    Caller, EachRoom, EachStage, Member, Question, QuestionRefused, Shared, check_each, go_on_each,
     try_begin_each,
 };
 use verifier::Mode;
@@ -29,8 +31,11 @@ use verifier::Mode;
 /// A [`Pipeline`] whose calls wait for nobody: its sessions ask for as many updates at once. Each call answers at once, or says that another session held a
 /// place. Between two calls the sessions hold none.
 ///
-/// It has no `Drop`. It becomes a pipeline again ([`into_pipeline`](PolledPipeline::into_pipeline)) once no session waits for an answer
-/// ([`waiting`](PolledPipeline::waiting)): a list that is on its way has claimed the requests of its node, which are answered only with it.
+/// Sessions join it one by one ([`add`](PolledPipeline::add)), and leave it so ([`take_last`](PolledPipeline::take_last)); neither takes memory. Or it is a
+/// pipeline that becomes one again ([`into_pipeline`](PolledPipeline::into_pipeline)).
+///
+/// Drop it only when no session waits for an answer ([`waiting`](PolledPipeline::waiting)): a list that is on its way has claimed the requests of its node,
+/// which are answered only with it.
 ///
 /// # Examples
 ///
@@ -43,27 +48,27 @@ use verifier::Mode;
 /// let config = Config { nodes: 1, slots: 2, window: 16, limit: 100, spare: 0 };
 /// let (store, sessions) = Store::open(rt.alloc(), config, catalogue)?;
 /// let pipeline = match Pipeline::of(rt.alloc(), &store, sessions) { Ok(pipeline) => pipeline, Err(_) => unreachable!() };
-/// let mut polled = PolledPipeline::new(pipeline);
+/// let (mut polled, emptied) = PolledPipeline::new(pipeline);
 ///
 /// let call = Question { program: 0, argument: &[] };
 /// let mut answers = [Err(StoreRefused::Ended); 2];
 /// let asked = polled.try_invoke_each(&store, &[call; 2]);
 /// let told = polled.poll(&store, &mut answers); // nobody else holds a place
-/// let _closed = match store.close(polled.into_pipeline().into_sessions()) { Ok(closed) => closed, Err(_) => unreachable!() };
+/// let _closed = match store.close(polled.into_pipeline(emptied).into_sessions()) { Ok(closed) => closed, Err(_) => unreachable!() };
 /// assert_eq!(rt; asked, Ok(Some(())));
 /// assert_eq!(rt; told, Some(()));
 /// assert_eq!(rt; answers, [Ok(Answer { index: 0, reply: 5 }), Ok(Answer { index: 1, reply: 5 })]);
 /// ```
+#[derive(Drop)]
 pub struct PolledPipeline {
     // As the pipeline had them.
     members: Vec<Member>,
     rooms: Vec<Installed>,
-    emptied: Vec<Session>,
     list: Listed,
 }
 
 impl Model for PolledPipeline {
-    ghost use Rattle.std.specs.Prelude.{◌≡◌, ◌≤◌, List, [], length, vec_capacity};
+    ghost use Rattle.std.specs.Prelude.{◌≤◌, List, vec_capacity};
     ghost use Rattle.std.specs.Coded.{coded_list};
     ghost use Rattle.store_steps.specs.Views.{SessionView};
     ghost use Rattle.store.specs.Codes.{session_code};
@@ -76,7 +81,8 @@ impl Model for PolledPipeline {
 
     ghost view = { λ p. views_of p.members.items };
 
-    ghost invariant = { λ p. AreListed p.members.items p.rooms.items p.list.posted p.list.room.combining.batch p.list.room.combining.replies p.list.stage × (p.emptied.items ≡ []) × (length p.members.items ≤ vec_capacity p.emptied) };
+    ghost invariant = { λ p. AreListed p.members.items p.rooms.items p.list.posted p.list.room.combining.batch p.list.room.combining.replies p.list.stage
+        × (16 ≤ vec_capacity p.members) × (16 ≤ vec_capacity p.rooms) };
 }
 
 // A list of calls that is out, or room for one.
@@ -89,6 +95,18 @@ struct Listed {
 }
 
 impl Listed {
+    // No list, with this room for one.
+    fn of(room: EachRoom) -> Listed
+        ensures none { result.posted ≡ 0 }
+        ensures room { result.room ≡ room }
+    {
+        Listed {
+            room,
+            stage: EachStage::Claimed,
+            posted: 0,
+        }
+    }
+
     // Has the first sessions post, as many as there are calls.
     fn begin_first(
         &mut self,
@@ -145,8 +163,22 @@ impl Listed {
     }
 }
 
+// Whether a session of this slot may come after the others: there is room, and it is of their node, and of a higher slot.
+fn follows(members: &[Member], caller: Caller) -> bool
+    ensures follows { IsTrue result ↔ Follows members.now caller }
+{
+    if members.len() >= MOST {
+        return false;
+    }
+    if members.is_empty() {
+        return true;
+    }
+    let last = members[members.len() - 1].caller;
+    last.node == caller.node && last.slot < caller.slot
+}
+
 impl PolledPipeline {
-    /// The pipeline, whose calls wait for nobody from now on.
+    /// The pipeline, whose calls wait for nobody from now on, and the empty list that its sessions came in.
     ///
     /// # Examples
     ///
@@ -158,13 +190,14 @@ impl PolledPipeline {
     /// let (store, sessions) = Store::open(rt.alloc(), config, catalogue)?;
     /// let pipeline = match Pipeline::of(rt.alloc(), &store, sessions) { Ok(pipeline) => pipeline, Err(_) => unreachable!() };
     ///
-    /// let polled = PolledPipeline::new(pipeline);
+    /// let (polled, emptied) = PolledPipeline::new(pipeline);
     /// let count = polled.len();
-    /// let _closed = match store.close(polled.into_pipeline().into_sessions()) { Ok(closed) => closed, Err(_) => unreachable!() };
+    /// let _closed = match store.close(polled.into_pipeline(emptied).into_sessions()) { Ok(closed) => closed, Err(_) => unreachable!() };
     /// assert_eq!(rt; count, 2);
     /// ```
-    pub fn new(pipeline: Pipeline) -> PolledPipeline
-        ensures same { result ≡ pipeline }
+    pub fn new(pipeline: Pipeline) -> (PolledPipeline, Vec<Session>)
+        ensures same { result.0 ≡ pipeline }
+        ensures emptied { (result.1.items ≡ []) × (length pipeline ≤ vec_capacity result.1) }
     {
         let Pipeline {
             members,
@@ -172,19 +205,117 @@ impl PolledPipeline {
             emptied,
             asking,
         } = pipeline;
-        PolledPipeline {
+        let list = Listed::of(asking.room);
+        let polled = PolledPipeline {
             members,
             rooms,
-            emptied,
-            list: Listed {
-                room: asking.room,
-                stage: EachStage::Claimed,
-                posted: 0,
-            },
-        }
+            list,
+        };
+        (polled, emptied)
     }
 
-    /// The pipeline, whose calls wait for others again. No session waits for an answer.
+    /// One without a session, and room for sixteen.
+    ///
+    /// # Errors
+    ///
+    /// Where there is no memory.
+    ///
+    /// # Examples
+    ///
+    /// ```
+    /// use store::PolledPipeline;
+    ///
+    /// let polled = PolledPipeline::with_room(rt.alloc())?;
+    /// assert_eq!(rt; polled.len(), 0);
+    /// ```
+    pub fn with_room(alloc: Global) -> Result<PolledPipeline, AllocError>
+        ensures none { IfOk result (λ p. p ≡ []) }
+    {
+        let members = Vec::with_capacity(alloc, MOST)?;
+        let rooms = Vec::with_capacity(alloc, MOST)?;
+        Ok(PolledPipeline {
+            members,
+            rooms,
+            list: Listed::of(EachRoom::new()),
+        })
+    }
+
+    /// Adds a session after the others, for which no list is out: one of their node, of a higher slot. No memory is taken.
+    ///
+    /// # Errors
+    ///
+    /// The session, where it is none, or sixteen are there.
+    ///
+    /// # Examples
+    ///
+    /// ```
+    /// use store::{Config, PolledPipeline, Store, load_manifest};
+    ///
+    /// let catalogue = load_manifest(rt.alloc(), "map array 8 16\n", &[])?;
+    /// let config = Config { nodes: 1, slots: 3, window: 16, limit: 100, spare: 0 };
+    /// let (store, mut sessions) = Store::open(rt.alloc(), config, catalogue)?;
+    /// let mut polled = PolledPipeline::with_room(rt.alloc())?;
+    ///
+    /// match polled.add(&store, sessions.remove(0)) { Ok(()) => {}, Err(_) => unreachable!() }
+    /// match polled.add(&store, sessions.remove(1)) { Ok(()) => {}, Err(_) => unreachable!() } // the third slot
+    /// let second = match polled.add(&store, sessions.remove(0)) { Err(back) => back, Ok(()) => unreachable!() };
+    /// let count = polled.len();
+    /// sessions.push_reserved(second);
+    /// match polled.take_last() { Some(third) => sessions.push_reserved(third), None => unreachable!() }
+    /// match polled.take_last() { Some(first) => sessions.insert_reserved(0, first), None => unreachable!() }
+    /// let _closed = match store.close(sessions) { Ok(closed) => closed, Err(_) => unreachable!() };
+    /// assert_eq!(rt; count, 2);
+    /// ```
+    pub fn add(&mut self, store: &Store, session: Session) -> Result<(), Session>
+        requires own { AreOf store.now self.old × IsOf store.now session }
+        requires idle { AreWaiting 0 self.old }
+        ensures added { IfOk result (λ _. self.new ≡ self.old ++ session ∷ []) }
+        ensures back { IfErr result (λ back. (back ≡ session) × (self.new ≡ self.old)) }
+        ensures refused { IfErr result (λ _. MayFollow store.now.config self.old session → ⊥) }
+    {
+        let PolledPipeline { members, rooms, .. } = self;
+        if !follows(members, session.caller()) {
+            return Err(session);
+        }
+        let (seat, caller, room) = session.into_room();
+        members.push_reserved(Member { seat, caller });
+        rooms.push_reserved(room);
+        Ok(())
+    }
+
+    /// Takes the last session out; `None` where there is none. No list is out. No memory is taken.
+    ///
+    /// # Examples
+    ///
+    /// ```
+    /// use store::{Config, PolledPipeline, Store, load_manifest};
+    ///
+    /// let catalogue = load_manifest(rt.alloc(), "map array 8 16\n", &[])?;
+    /// let config = Config { nodes: 1, slots: 1, window: 16, limit: 100, spare: 0 };
+    /// let (store, mut sessions) = Store::open(rt.alloc(), config, catalogue)?;
+    /// let mut polled = PolledPipeline::with_room(rt.alloc())?;
+    ///
+    /// match polled.add(&store, sessions.remove(0)) { Ok(()) => {}, Err(_) => unreachable!() }
+    /// match polled.take_last() { Some(session) => sessions.push_reserved(session), None => unreachable!() }
+    /// let _closed = match store.close(sessions) { Ok(closed) => closed, Err(_) => unreachable!() };
+    /// assert_eq!(rt; polled.len(), 0);
+    /// ```
+    pub fn take_last(&mut self) -> Option<Session>
+        requires idle { AreWaiting 0 self.old }
+        ensures last { MatchOption result ((self.old ≡ []) × (self.new ≡ [])) (λ s. self.old ≡ self.new ++ s ∷ []) }
+    {
+        let PolledPipeline { members, rooms, .. } = self;
+        let Some(Member { seat, caller }) = members.pop() else {
+            return None;
+        };
+        let Some(room) = rooms.pop() else {
+            unreachable!()
+        };
+        Some(Session::new(seat, caller, room))
+    }
+
+    /// The pipeline, whose calls wait for others again, with an empty list that has room for its sessions, as [`new`](PolledPipeline::new) gave one. No session
+    /// waits for an answer.
     ///
     /// # Examples
     ///
@@ -195,21 +326,21 @@ impl PolledPipeline {
     /// let config = Config { nodes: 1, slots: 2, window: 16, limit: 100, spare: 0 };
     /// let (store, sessions) = Store::open(rt.alloc(), config, catalogue)?;
     /// let pipeline = match Pipeline::of(rt.alloc(), &store, sessions) { Ok(pipeline) => pipeline, Err(_) => unreachable!() };
-    /// let polled = PolledPipeline::new(pipeline);
+    /// let (polled, emptied) = PolledPipeline::new(pipeline);
     ///
-    /// let pipeline = polled.into_pipeline();
+    /// let pipeline = polled.into_pipeline(emptied);
     /// let count = pipeline.len();
     /// let _closed = match store.close(pipeline.into_sessions()) { Ok(closed) => closed, Err(_) => unreachable!() };
     /// assert_eq!(rt; count, 2);
     /// ```
-    pub fn into_pipeline(self) -> Pipeline
+    pub fn into_pipeline(self, emptied: Vec<Session>) -> Pipeline
         requires idle { AreWaiting 0 self }
+        requires room { (emptied.items ≡ []) × (length self ≤ vec_capacity emptied) }
         ensures same { result ≡ self }
     {
         let PolledPipeline {
             members,
             rooms,
-            emptied,
             list,
         } = self;
         Pipeline {
@@ -231,10 +362,10 @@ impl PolledPipeline {
     /// let config = Config { nodes: 1, slots: 2, window: 16, limit: 100, spare: 0 };
     /// let (store, sessions) = Store::open(rt.alloc(), config, catalogue)?;
     /// let pipeline = match Pipeline::of(rt.alloc(), &store, sessions) { Ok(pipeline) => pipeline, Err(_) => unreachable!() };
-    /// let polled = PolledPipeline::new(pipeline);
+    /// let (polled, emptied) = PolledPipeline::new(pipeline);
     ///
     /// let count = polled.len();
-    /// let _closed = match store.close(polled.into_pipeline().into_sessions()) { Ok(closed) => closed, Err(_) => unreachable!() };
+    /// let _closed = match store.close(polled.into_pipeline(emptied).into_sessions()) { Ok(closed) => closed, Err(_) => unreachable!() };
     /// assert_eq!(rt; count, 2);
     /// ```
     pub fn len(&self) -> usize
@@ -256,14 +387,14 @@ impl PolledPipeline {
     /// let config = Config { nodes: 1, slots: 2, window: 16, limit: 100, spare: 0 };
     /// let (store, sessions) = Store::open(rt.alloc(), config, catalogue)?;
     /// let pipeline = match Pipeline::of(rt.alloc(), &store, sessions) { Ok(pipeline) => pipeline, Err(_) => unreachable!() };
-    /// let mut polled = PolledPipeline::new(pipeline);
+    /// let (mut polled, emptied) = PolledPipeline::new(pipeline);
     ///
     /// let asked = polled.try_invoke_each(&store, &[Question { program: 0, argument: &[] }]);
     /// let out = polled.waiting(); // of two sessions
     /// let mut answers = [Err(StoreRefused::Ended); 1];
     /// let told = polled.poll(&store, &mut answers);
     /// let then = polled.waiting();
-    /// let _closed = match store.close(polled.into_pipeline().into_sessions()) { Ok(closed) => closed, Err(_) => unreachable!() };
+    /// let _closed = match store.close(polled.into_pipeline(emptied).into_sessions()) { Ok(closed) => closed, Err(_) => unreachable!() };
     /// assert_eq!(rt; (asked, told), (Ok(Some(())), Some(())));
     /// assert_eq!(rt; (out, then), (1, 0));
     /// ```
@@ -293,13 +424,13 @@ impl PolledPipeline {
     /// let config = Config { nodes: 1, slots: 2, window: 16, limit: 100, spare: 0 };
     /// let (store, sessions) = Store::open(rt.alloc(), config, catalogue)?;
     /// let pipeline = match Pipeline::of(rt.alloc(), &store, sessions) { Ok(pipeline) => pipeline, Err(_) => unreachable!() };
-    /// let mut polled = PolledPipeline::new(pipeline);
+    /// let (mut polled, emptied) = PolledPipeline::new(pipeline);
     ///
     /// let call = Question { program: 0, argument: &[] };
     /// let long = Question { program: 0, argument: &[1] };
     /// let refused = polled.try_invoke_each(&store, &[call, long]);
     /// let out = polled.waiting();
-    /// let _closed = match store.close(polled.into_pipeline().into_sessions()) { Ok(closed) => closed, Err(_) => unreachable!() };
+    /// let _closed = match store.close(polled.into_pipeline(emptied).into_sessions()) { Ok(closed) => closed, Err(_) => unreachable!() };
     /// assert_eq!(rt; refused, Err(QuestionRefused { number: 1, refused: StoreRefused::ArgumentLength }));
     /// assert_eq!(rt; out, 0); // the refused list has done nothing
     /// ```
@@ -346,12 +477,12 @@ impl PolledPipeline {
     /// let config = Config { nodes: 1, slots: 2, window: 16, limit: 1, spare: 0 };
     /// let (store, sessions) = Store::open(rt.alloc(), config, catalogue)?;
     /// let pipeline = match Pipeline::of(rt.alloc(), &store, sessions) { Ok(pipeline) => pipeline, Err(_) => unreachable!() };
-    /// let mut polled = PolledPipeline::new(pipeline);
+    /// let (mut polled, emptied) = PolledPipeline::new(pipeline);
     ///
     /// let mut answers = [Err(StoreRefused::UnknownProgram); 2];
     /// let asked = polled.try_invoke_each(&store, &[Question { program: 0, argument: &[] }; 2]);
     /// let told = polled.poll(&store, &mut answers); // nobody else holds a place
-    /// let _closed = match store.close(polled.into_pipeline().into_sessions()) { Ok(closed) => closed, Err(_) => unreachable!() };
+    /// let _closed = match store.close(polled.into_pipeline(emptied).into_sessions()) { Ok(closed) => closed, Err(_) => unreachable!() };
     /// assert_eq!(rt; (asked, told), (Ok(Some(())), Some(())));
     /// assert_eq!(rt; answers, [Ok(Answer { index: 0, reply: 5 }), Err(StoreRefused::Ended)]); // the history has one record at most
     /// ```

@@ -50,4 +50,6 @@ invariant_of-result c =
       (all_joined c.args.store.now c.args.sessions.items c.loop-session.members.items c.loop-session.rooms.items c.loop-session.sessions.items i.joining none c.requires.own c.requires.neighbours c.requires.few).0,
       none,
       omega (arith, left, past, total, came, kept, holds),
+      (let roomy = i.space.0 in let space = c.requires.space.0 in omega (arith, roomy, space)),
+      (let roomy = i.space.1 in let space = c.requires.space.1 in omega (arith, roomy, space)),
     )

@@ -47,7 +47,8 @@ invariant_of-self-2 g c =
     let still = still_joined c.args.store.now c.self.inside.members.items c.self.inside.rooms.items c.self.invariant.0 (subst (AreOf c.args.store.now) (sym c.self.view_is) c.requires.own) c.args.calls.now c.ask_first.new.replies d.asked (length c.args.calls.now) fits refl d.long d.same d.asks in
     let size = replaced_long (length c.args.calls.now) d.asked c.self.inside.members.items d.long fits in
     let room = c.self.invariant.2 in
-    subst (λ xs. AreJoined xs c.self.inside.rooms.items × (c.self.inside.emptied.items ≡ []) × (length xs ≤ vec_capacity c.self.inside.emptied)) (sym back) (still, c.self.invariant.1, omega (arith, size, room))
+    let all = subst (λ xs. AreJoined xs c.self.inside.rooms.items × (c.self.inside.emptied.items ≡ []) × (length xs ≤ vec_capacity c.self.inside.emptied)) (sym back) (still, c.self.invariant.1, omega (arith, size, room)) in
+    (all.0, all.1, all.2, c.self.invariant.3, c.self.invariant.4)
 
 pub returns-clause-sessions : goal.returns-clause-sessions
 returns-clause-sessions g c =

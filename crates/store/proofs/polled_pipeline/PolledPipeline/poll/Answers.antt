@@ -1,4 +1,4 @@
-use Rattle.std.proofs.Common.{rules, ◌≡◌, ℕ, ◌≤◌, ◌<◌, ◌++◌, [], length, take, drop, refl, sym, ap, ◌∙◌, subst, arith, vec_capacity, None, Some}
+use Rattle.std.proofs.Common.{rules, ◌≡◌, ℕ, ◌≤◌, ◌<◌, ◌++◌, [], length, take, drop, refl, sym, ap, ◌∙◌, subst, arith, None, Some}
 use Rattle.std.proofs.lemmas.List.{length-map}
 use Rattle.std.proofs.lemmas.Option.{none-some}
 use Rattle.store_steps.specs.Pipelines.{AreMembers}
@@ -53,10 +53,8 @@ invariant_of-self-in_default c =
     let d : WaitsFirst c.self.inside.members.items c.finish_first.new.members (length c.args.answers.now) c.finish_first.new.self.room.combining c.finish_first.new.self.stage = subst (λ z. WaitsFirst z c.finish_first.new.members (length c.args.answers.now) c.finish_first.new.self.room.combining c.finish_first.new.self.stage) c.deref_mut.ensures.value c.in_default.ensures.waits in
     let whole : length c.finish_first.new.members ≡ c.self.inside.members.len = ap length d.sets.is ∙ (replaced_long (length c.args.answers.now) d.now c.self.inside.members.items d.sets.long fits ∙ (ap length (sym c.deref_mut.ensures.value) ∙ c.deref_mut.ensures.len)) in
     let back : (take c.self.inside.members.len (c.finish_first.new.members ++ drop (length c.finish_first.new.members) c.self.inside.members.items)) ≡ c.finish_first.new.members = lent_back c.self.inside.members.len c.finish_first.new.members c.self.inside.members.items whole in
-    let size = listed_size c.args.store.now c.self.inside.members.items c.self.inside.rooms.items c.self.inside.list.posted c.self.inside.list.room.combining.batch c.self.inside.list.room.combining.replies c.self.inside.list.stage c.self.invariant.0 (subst (AreOf c.args.store.now) (sym c.self.view_is) c.requires.own) (length c.args.answers.now) fits c.finish_first.new.members d.now d.sets (each_waits c.args.store.now c.self.inside.members.items c.self.inside.rooms.items c.self.inside.list.posted c.self.inside.list.room.combining.batch c.self.inside.list.room.combining.replies c.self.inside.list.stage c.self.invariant.0 (subst (AreOf c.args.store.now) (sym c.self.view_is) c.requires.own) (length c.args.answers.now) fits c.finish_first.new.members d.now d.sets is c.finish_first.new.self.room.combining.batch c.finish_first.new.self.room.combining.replies c.finish_first.new.self.stage d.waits) in
-    let room = c.self.invariant.2 in
-    subst (λ xs. AreListed xs c.self.inside.rooms.items c.finish_first.new.self.posted c.finish_first.new.self.room.combining.batch c.finish_first.new.self.room.combining.replies c.finish_first.new.self.stage × (c.self.inside.emptied.items ≡ []) × (length xs ≤ vec_capacity c.self.inside.emptied)) (sym back)
-    (still_waits c.args.store.now c.self.inside.members.items c.self.inside.rooms.items c.self.inside.list.posted c.self.inside.list.room.combining.batch c.self.inside.list.room.combining.replies c.self.inside.list.stage c.self.invariant.0 (subst (AreOf c.args.store.now) (sym c.self.view_is) c.requires.own) (length c.args.answers.now) fits c.finish_first.new.members d.now d.sets is c.finish_first.new.self.room.combining.batch c.finish_first.new.self.room.combining.replies c.finish_first.new.self.stage d.waits d.out c.finish_first.new.self.posted c.in_default.ensures.stays, c.self.invariant.1, omega (arith, size, room))
+    (subst (λ xs. AreListed xs c.self.inside.rooms.items c.finish_first.new.self.posted c.finish_first.new.self.room.combining.batch c.finish_first.new.self.room.combining.replies c.finish_first.new.self.stage) (sym back)
+    (still_waits c.args.store.now c.self.inside.members.items c.self.inside.rooms.items c.self.inside.list.posted c.self.inside.list.room.combining.batch c.self.inside.list.room.combining.replies c.self.inside.list.stage c.self.invariant.0 (subst (AreOf c.args.store.now) (sym c.self.view_is) c.requires.own) (length c.args.answers.now) fits c.finish_first.new.members d.now d.sets is c.finish_first.new.self.room.combining.batch c.finish_first.new.self.room.combining.replies c.finish_first.new.self.stage d.waits d.out c.finish_first.new.self.posted c.in_default.ensures.stays), c.self.invariant.1, c.self.invariant.2)
 
 pub returns-in_default-clause-sessions : goal.returns-in_default-clause-sessions
 returns-in_default-clause-sessions c =
@@ -94,10 +92,8 @@ invariant_of-self-2 c =
     let d : FinishesFirst c.self.inside.members.items c.finish_first.new.members (length c.args.answers.now) c.finish_first.new.self.room.combining c.finish_first.new.replies = subst (λ z. FinishesFirst z c.finish_first.new.members (length c.args.answers.now) c.finish_first.new.self.room.combining c.finish_first.new.replies) c.deref_mut.ensures.value c.in-Some.ensures.finished in
     let whole : length c.finish_first.new.members ≡ c.self.inside.members.len = ap length d.sets.is ∙ (replaced_long (length c.args.answers.now) d.now c.self.inside.members.items d.sets.long fits ∙ (ap length (sym c.deref_mut.ensures.value) ∙ c.deref_mut.ensures.len)) in
     let back : (take c.self.inside.members.len (c.finish_first.new.members ++ drop (length c.finish_first.new.members) c.self.inside.members.items)) ≡ c.finish_first.new.members = lent_back c.self.inside.members.len c.finish_first.new.members c.self.inside.members.items whole in
-    let size = listed_size c.args.store.now c.self.inside.members.items c.self.inside.rooms.items c.self.inside.list.posted c.self.inside.list.room.combining.batch c.self.inside.list.room.combining.replies c.self.inside.list.stage c.self.invariant.0 (subst (AreOf c.args.store.now) (sym c.self.view_is) c.requires.own) (length c.args.answers.now) fits c.finish_first.new.members d.now d.sets (each_completes c.args.store.now c.self.inside.members.items c.self.inside.rooms.items c.self.inside.list.posted c.self.inside.list.room.combining.batch c.self.inside.list.room.combining.replies c.self.inside.list.stage c.self.invariant.0 (subst (AreOf c.args.store.now) (sym c.self.view_is) c.requires.own) (length c.args.answers.now) fits c.finish_first.new.members d.now d.sets is c.finish_first.new.self.room.combining.batch c.finish_first.new.self.room.combining.replies c.finish_first.new.replies d.completes) in
-    let room = c.self.invariant.2 in
-    subst (λ xs. AreListed xs c.self.inside.rooms.items c.finish_first.new.self.posted c.finish_first.new.self.room.combining.batch c.finish_first.new.self.room.combining.replies c.finish_first.new.self.stage × (c.self.inside.emptied.items ≡ []) × (length xs ≤ vec_capacity c.self.inside.emptied)) (sym back)
-    (still_completed c.args.store.now c.self.inside.members.items c.self.inside.rooms.items c.self.inside.list.posted c.self.inside.list.room.combining.batch c.self.inside.list.room.combining.replies c.self.inside.list.stage c.self.invariant.0 (subst (AreOf c.args.store.now) (sym c.self.view_is) c.requires.own) (length c.args.answers.now) fits c.finish_first.new.members d.now d.sets is c.finish_first.new.self.room.combining.batch c.finish_first.new.self.room.combining.replies c.finish_first.new.replies d.completes c.finish_first.new.self.posted c.in-Some.ensures.posted _ _ _, c.self.invariant.1, omega (arith, size, room))
+    (subst (λ xs. AreListed xs c.self.inside.rooms.items c.finish_first.new.self.posted c.finish_first.new.self.room.combining.batch c.finish_first.new.self.room.combining.replies c.finish_first.new.self.stage) (sym back)
+    (still_completed c.args.store.now c.self.inside.members.items c.self.inside.rooms.items c.self.inside.list.posted c.self.inside.list.room.combining.batch c.self.inside.list.room.combining.replies c.self.inside.list.stage c.self.invariant.0 (subst (AreOf c.args.store.now) (sym c.self.view_is) c.requires.own) (length c.args.answers.now) fits c.finish_first.new.members d.now d.sets is c.finish_first.new.self.room.combining.batch c.finish_first.new.self.room.combining.replies c.finish_first.new.replies d.completes c.finish_first.new.self.posted c.in-Some.ensures.posted _ _ _), c.self.invariant.1, c.self.invariant.2)
 
 pub returns-clause-sessions : goal.returns-clause-sessions
 returns-clause-sessions c =

@@ -58,10 +58,8 @@ invariant_of-self-in_default c =
     let d : LooksFirst c.self.inside.members.items c.begin_first.new.members (length c.args.calls.now) = subst (λ z. LooksFirst z c.begin_first.new.members (length c.args.calls.now)) c.deref_mut.ensures.value c.in_default.ensures.looked in
     let whole : length c.begin_first.new.members ≡ c.self.inside.members.len = ap length d.sets.is ∙ (replaced_long (length c.args.calls.now) d.now c.self.inside.members.items d.sets.long fits ∙ (ap length (sym c.deref_mut.ensures.value) ∙ c.deref_mut.ensures.len)) in
     let back : (take c.self.inside.members.len (c.begin_first.new.members ++ drop (length c.begin_first.new.members) c.self.inside.members.items)) ≡ c.begin_first.new.members = lent_back c.self.inside.members.len c.begin_first.new.members c.self.inside.members.items whole in
-    let size = listed_size c.args.store.now c.self.inside.members.items c.self.inside.rooms.items c.self.inside.list.posted c.self.inside.list.room.combining.batch c.self.inside.list.room.combining.replies c.self.inside.list.stage c.self.invariant.0 (subst (AreOf c.args.store.now) (sym c.self.view_is) c.requires.own) (length c.args.calls.now) fits c.begin_first.new.members d.now d.sets (each_looked c.args.store.now c.self.inside.members.items c.self.inside.rooms.items c.self.inside.list.posted c.self.inside.list.room.combining.batch c.self.inside.list.room.combining.replies c.self.inside.list.stage c.self.invariant.0 (subst (AreOf c.args.store.now) (sym c.self.view_is) c.requires.own) (length c.args.calls.now) fits c.begin_first.new.members d.now d.sets none d.looks) in
-    let room = c.self.invariant.2 in
-    subst (λ xs. AreListed xs c.self.inside.rooms.items c.begin_first.new.self.posted c.begin_first.new.self.room.combining.batch c.begin_first.new.self.room.combining.replies c.begin_first.new.self.stage × (c.self.inside.emptied.items ≡ []) × (length xs ≤ vec_capacity c.self.inside.emptied)) (sym back)
-    (still_looked c.args.store.now c.self.inside.members.items c.self.inside.rooms.items c.self.inside.list.posted c.self.inside.list.room.combining.batch c.self.inside.list.room.combining.replies c.self.inside.list.stage c.self.invariant.0 (subst (AreOf c.args.store.now) (sym c.self.view_is) c.requires.own) (length c.args.calls.now) fits c.begin_first.new.members d.now d.sets none d.looks d.idle c.begin_first.new.self.posted (c.in_default.ensures.stays ∙ none) _ _ _, c.self.invariant.1, omega (arith, size, room))
+    (subst (λ xs. AreListed xs c.self.inside.rooms.items c.begin_first.new.self.posted c.begin_first.new.self.room.combining.batch c.begin_first.new.self.room.combining.replies c.begin_first.new.self.stage) (sym back)
+    (still_looked c.args.store.now c.self.inside.members.items c.self.inside.rooms.items c.self.inside.list.posted c.self.inside.list.room.combining.batch c.self.inside.list.room.combining.replies c.self.inside.list.stage c.self.invariant.0 (subst (AreOf c.args.store.now) (sym c.self.view_is) c.requires.own) (length c.args.calls.now) fits c.begin_first.new.members d.now d.sets none d.looks d.idle c.begin_first.new.self.posted (c.in_default.ensures.stays ∙ none) _ _ _), c.self.invariant.1, c.self.invariant.2)
 
 pub returns-in_default-clause-sessions : goal.returns-in_default-clause-sessions
 returns-in_default-clause-sessions c =
@@ -99,10 +97,8 @@ invariant_of-self-2 c =
     let d : BeginsFirst c.self.inside.members.items c.begin_first.new.members c.args.calls.now c.begin_first.new.self.room.combining c.begin_first.new.self.stage = subst (λ z. BeginsFirst z c.begin_first.new.members c.args.calls.now c.begin_first.new.self.room.combining c.begin_first.new.self.stage) c.deref_mut.ensures.value c.in-Some.ensures.begun in
     let whole : length c.begin_first.new.members ≡ c.self.inside.members.len = ap length d.sets.is ∙ (replaced_long (length c.args.calls.now) d.now c.self.inside.members.items d.sets.long fits ∙ (ap length (sym c.deref_mut.ensures.value) ∙ c.deref_mut.ensures.len)) in
     let back : (take c.self.inside.members.len (c.begin_first.new.members ++ drop (length c.begin_first.new.members) c.self.inside.members.items)) ≡ c.begin_first.new.members = lent_back c.self.inside.members.len c.begin_first.new.members c.self.inside.members.items whole in
-    let size = listed_size c.args.store.now c.self.inside.members.items c.self.inside.rooms.items c.self.inside.list.posted c.self.inside.list.room.combining.batch c.self.inside.list.room.combining.replies c.self.inside.list.stage c.self.invariant.0 (subst (AreOf c.args.store.now) (sym c.self.view_is) c.requires.own) (length c.args.calls.now) fits c.begin_first.new.members d.now d.sets (each_began c.args.store.now c.self.inside.members.items c.self.inside.rooms.items c.self.inside.list.posted c.self.inside.list.room.combining.batch c.self.inside.list.room.combining.replies c.self.inside.list.stage c.self.invariant.0 (subst (AreOf c.args.store.now) (sym c.self.view_is) c.requires.own) (length c.args.calls.now) fits c.begin_first.new.members d.now d.sets none c.args.calls.now refl c.begin_first.new.self.room.combining.batch c.begin_first.new.self.room.combining.replies c.begin_first.new.self.stage d.begins) in
-    let room = c.self.invariant.2 in
-    subst (λ xs. AreListed xs c.self.inside.rooms.items c.begin_first.new.self.posted c.begin_first.new.self.room.combining.batch c.begin_first.new.self.room.combining.replies c.begin_first.new.self.stage × (c.self.inside.emptied.items ≡ []) × (length xs ≤ vec_capacity c.self.inside.emptied)) (sym back)
-    (still_began c.args.store.now c.self.inside.members.items c.self.inside.rooms.items c.self.inside.list.posted c.self.inside.list.room.combining.batch c.self.inside.list.room.combining.replies c.self.inside.list.stage c.self.invariant.0 (subst (AreOf c.args.store.now) (sym c.self.view_is) c.requires.own) (length c.args.calls.now) fits c.begin_first.new.members d.now d.sets none c.args.calls.now refl c.begin_first.new.self.room.combining.batch c.begin_first.new.self.room.combining.replies c.begin_first.new.self.stage d.begins d.out c.begin_first.new.self.posted c.in-Some.ensures.posted, c.self.invariant.1, omega (arith, size, room))
+    (subst (λ xs. AreListed xs c.self.inside.rooms.items c.begin_first.new.self.posted c.begin_first.new.self.room.combining.batch c.begin_first.new.self.room.combining.replies c.begin_first.new.self.stage) (sym back)
+    (still_began c.args.store.now c.self.inside.members.items c.self.inside.rooms.items c.self.inside.list.posted c.self.inside.list.room.combining.batch c.self.inside.list.room.combining.replies c.self.inside.list.stage c.self.invariant.0 (subst (AreOf c.args.store.now) (sym c.self.view_is) c.requires.own) (length c.args.calls.now) fits c.begin_first.new.members d.now d.sets none c.args.calls.now refl c.begin_first.new.self.room.combining.batch c.begin_first.new.self.room.combining.replies c.begin_first.new.self.stage d.begins d.out c.begin_first.new.self.posted c.in-Some.ensures.posted), c.self.invariant.1, c.self.invariant.2)
 
 pub returns-clause-sessions : goal.returns-clause-sessions
 returns-clause-sessions c =
