@@ -27,7 +27,8 @@ fn push_session(place: Option<Attached>, sessions: &mut Vec<Session>)
     let Some(attached) = place else {
         return;
     };
-    sessions.push_reserved(attached.into_session());
+    let session = attached.into_session();
+    sessions.push_reserved(session);
 }
 
 // Gathers the sessions at the places, the last first.
