@@ -25,6 +25,14 @@ use Rattle.store.proofs.Neighbours.{AreIdleMembers, HasSlot, at_last, caller_is,
 abbrev K : Type 0
 K = SessionKnown
 
+-- ---- by the last one
+
+pub is_last : (ms : List Member) (caller : Caller) (q : Member) → length ms < 16 → At (length ms - 1) q ms → q.caller.node ≡ caller.node → q.caller.slot < caller.slot → Follows ms caller
+is_last ms caller q few at node slot = record {
+  room = few;
+  last = λ m there. let e = at_one ms (length ms - 1) m q there at in (ap (λ (z : Member). z.caller.node) e ∙ node, subst (λ (z : Member). z.caller.slot < caller.slot) (sym e) slot);
+}
+
 -- ---- one more
 
 module _ (store : StoreView) (ms : List Member) (rooms : List InstalledView) (joined : AreJoined ms rooms) (own : AreOf store (views_of ms)) where
@@ -148,3 +156,10 @@ last_out ms rooms m room j = record {
       where
         no_more : (n : ℕ) → n + 0 ≡ n
         no_more n = omega arith
+
+-- ---- by the same slot
+
+pub follows_too : (store : StoreView) (s : SessionView) (a b : Caller) (ms : List Member) → HasSlot store.config s a → HasSlot store.config s b → Follows ms a → Follows ms b
+follows_too store s a b ms x y f =
+    let e = caller_is store.config.slots a.node b.node a.slot b.slot x.within y.within (sym x.own ∙ y.own) in
+    record { room = f.room; last = λ m at. let l = f.last m at in (l.0 ∙ e.0, subst (λ z. m.caller.slot < z) e.1 l.1) }

@@ -174,7 +174,13 @@ fn follows(members: &[Member], caller: Caller) -> bool
         return true;
     }
     let last = members[members.len() - 1].caller;
-    last.node == caller.node && last.slot < caller.slot
+    if last.node != caller.node {
+        return false;
+    }
+    if last.slot >= caller.slot {
+        return false;
+    }
+    true
 }
 
 impl PolledPipeline {
