@@ -1,26 +1,21 @@
 -- A session that comes after those of a pipeline whose calls wait for nobody, and the last one, which leaves it.
-use Rattle.std.proofs.Common.{◌≡◌, ℕ, zero, suc, ◌+◌, ◌*◌, ◌-◌, ◌<◌, ◌≤◌, List, [], ◌∷◌, ◌++◌, length, length-append, sym, refl, ap, ◌∙◌, subst, arith, ◌⊎◌, inl, inr, ⊎_elim}
+use Rattle.std.proofs.Common.{◌≡◌, ℕ, ◌+◌, ◌*◌, ◌-◌, ◌<◌, ◌≤◌, List, [], ◌∷◌, ◌++◌, length, length-append, sym, refl, ap, ◌∙◌, subst, arith, ◌⊎◌, inl, inr, ⊎_elim}
 use Rattle.std.proofs.lemmas.Bool.{cases_lt}
 use Rattle.std.proofs.lemmas.List.{length-map}
 use Rattle.ownlock.specs.Seats.{At, IsSession}
 use Rattle.loader.specs.Installed.{InstalledView}
 use Rattle.oplog.specs.Sessions.{session}
-use Rattle.combiner.specs.Desks.{BatchView}
-use Rattle.replica.specs.Views.{RepliesView}
-use Rattle.accounts.proofs.Export.{at_below, at_behind, at_front, at_map, at_mapped, at_one, at_there}
+use Rattle.accounts.proofs.Export.{at_below, at_behind, at_front, at_map, at_one, at_there}
 use Rattle.store_steps.specs.declared.pipelines.Member.{Member}
-use Rattle.store_steps.specs.declared.polling_each.EachStage.{EachStage}
 use Rattle.store_steps.specs.declared.steps.Caller.{Caller}
-use Rattle.store_steps.specs.Pipelines.{KnownAt}
-use Rattle.store_steps.specs.EachMember.{AscendEach}
-use Rattle.store_steps.specs.Standing.{SessionKnown, StoreSeat}
+use Rattle.store_steps.specs.Standing.{SessionKnown}
 use Rattle.store_steps.specs.Views.{IsIdle, SessionView, session_view}
 use Rattle.store_steps.proofs.Export.{seen_as}
 use Rattle.store.specs.Opening.{AreOf}
 use Rattle.store.specs.Pipelines.{AreJoined, views_of}
-use Rattle.store.specs.PolledPipelines.{AreListed, Follows, MayFollow}
+use Rattle.store.specs.PolledPipelines.{Follows, MayFollow}
 use Rattle.store.specs.Sessions.{HasRoom, IsOf, StoreView}
-use Rattle.store.proofs.Neighbours.{AreIdleMembers, HasSlot, at_last, caller_is, member_slot, more_members}
+use Rattle.store.proofs.Neighbours.{HasSlot, at_last, caller_is, member_slot, more_members}
 
 abbrev K : Type 0
 K = SessionKnown
@@ -82,7 +77,7 @@ module _ (store : StoreView) (ms : List Member) (rooms : List InstalledView) (jo
             let high = subst (λ (z : Member). (session_view z.seat).session < (session_view m.seat).session) (sym e) top in
             omega (arith, seen, high)
 
-    one_more : AreJoined (ms ++ m ∷ []) (rooms ++ room ∷ [])
+    pub one_more : AreJoined (ms ++ m ∷ []) (rooms ++ room ∷ [])
     one_more =
         let all = more_members ms rooms m room (record { idle = joined.idle; count = joined.count; rooms_are = joined.rooms_are }) idle has in
         record {
@@ -111,7 +106,7 @@ module _ (store : StoreView) (ms : List Member) (rooms : List InstalledView) (jo
         ascend i j f g lt p q (inr a) (inr b) x y = let e = a.0 in let h = b.0 in absurd (omega (arith, lt, e, h))
 
   -- a session that may follow has such a slot
-  may_follow : (s : SessionView) (caller : Caller) → HasSlot store.config s caller → MayFollow store.config (views_of ms) s → Follows ms caller
+  pub may_follow : (s : SessionView) (caller : Caller) → HasSlot store.config s caller → MayFollow store.config (views_of ms) s → Follows ms caller
   may_follow s caller slot may = record {
     room = let room = may.room in let long = length-map ms (λ (z : Member). session_view z.seat) in omega (arith, room, long);
     last = λ q at.

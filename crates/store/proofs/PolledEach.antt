@@ -1,5 +1,5 @@
 -- The updates that the sessions of a pipeline ask for at once, and wait for nobody.
-use Rattle.std.proofs.Common.{◌≡◌, ℕ, zero, suc, ◌<◌, ◌≤◌, List, [], ◌∷◌, ◌++◌, length, map, take, drop, Ok, Some, None, Option, Result, ◌⊎◌, inl, inr, sym, refl, ap, ◌∙◌, subst, arith, ⊎_elim}
+use Rattle.std.proofs.Common.{◌≡◌, ℕ, zero, suc, ◌<◌, ◌≤◌, List, [], ◌∷◌, ◌++◌, length, map, take, drop, Some, None, Result, ◌⊎◌, inl, inr, sym, refl, ap, ◌∙◌, subst, arith, ⊎_elim}
 use Rattle.std.proofs.lemmas.Bool.{cases_lt}
 use Rattle.std.proofs.lemmas.List.{length-map}
 use Rattle.std.proofs.lemmas.Option.{none-some, same_Some}
@@ -14,7 +14,6 @@ use Rattle.replica.specs.Views.{RepliesView}
 use Rattle.accounts.specs.Accounts.{Extends, IsWellFormed}
 use Rattle.accounts.specs.declared.sessions.Pending.{Pending}
 use Rattle.accounts.proofs.Export.{at_below, at_map, at_mapped, at_none, at_one, at_there}
-use Rattle.store_steps.specs.declared.deeds.Deed.{Deed}
 use Rattle.store_steps.specs.declared.deeds.Deed.TheVariants.{Busy, Collected}
 use Rattle.store_steps.specs.declared.deeds.Stage.{Stage}
 use Rattle.store_steps.specs.declared.deeds.Stage.TheVariants.{Idle}
@@ -25,9 +24,9 @@ use Rattle.store_steps.specs.declared.steps.Caller.{Caller}
 use Rattle.store_steps.specs.declared.steps.Question.{Question}
 use Rattle.store_steps.specs.declared.steps.Shared.{Shared}
 use Rattle.store_steps.specs.Asking.{asked_op}
-use Rattle.store_steps.specs.EachMember.{InOrder, LooksEach}
+use Rattle.store_steps.specs.EachMember.{LooksEach}
 use Rattle.store_steps.specs.Knowing.{Relates}
-use Rattle.store_steps.specs.Pipelines.{AreMembers, HasLooked, KnownAt, SameSpots, spot_of}
+use Rattle.store_steps.specs.Pipelines.{AreMembers, HasLooked, spot_of}
 use Rattle.store_steps.specs.Polling.{BeginsBy, DeedsGo, HasAskedFor, HasBegun}
 use Rattle.store_steps.specs.PollingEach.{AreIdle, AreOn, AreOut, BeginsEach, CompletesEach, WaitsEach, stage_at}
 use Rattle.store_steps.specs.Stages.{HasDone, HasGone, IsPolled}
@@ -36,10 +35,8 @@ use Rattle.store_steps.specs.Views.{IsIdle, SessionView, session_view}
 use Rattle.store_steps.proofs.Export.{both, not_looked, seen_as, was_at}
 use Rattle.replica.specs.declared.refusals.StoreRefused.{StoreRefused}
 use Rattle.store.specs.declared.answers.Answer.{Answer}
-use Rattle.store.specs.Going.{CompleteGoes}
 use Rattle.store.specs.Opening.{AreOf}
 use Rattle.store.specs.Pipelines.{AreJoined, EachGoesOn, OthersStay, views_of}
-use Rattle.store.specs.Polled.{TellsCompleted}
 use Rattle.store.specs.PolledPipelines.{AreListed, AreWaiting, EachAsks, EachIsTold, EachLooks, IsTold, SetsFirst}
 use Rattle.store.specs.Sessions.{HasRoom, IsOf, SessionGoesOn, StoreView, known_of, said}
 use Rattle.store.proofs.AskedEach.{IsShared, at_replaced, at_taken, replaced_long, stays_behind}

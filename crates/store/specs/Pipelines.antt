@@ -1,5 +1,5 @@
 -- Several sessions of one node in one hand: which may be, and what their updates tell.
-use Rattle.std.specs.Prelude.{◌≡◌, ℕ, ◌+◌, ◌<◌, ◌≤◌, List, ◌++◌, length, map, take, drop, None, Result, Ok}
+use Rattle.std.specs.Prelude.{◌≡◌, ℕ, ◌<◌, ◌≤◌, List, ◌++◌, length, map, take, drop, None, Result, Ok}
 use Rattle.ownlock.specs.Seats.{At}
 use Rattle.verifier.specs.declared.refusal.Mode.TheVariants.{Update}
 use Rattle.loader.specs.Installed.{InstalledView}

@@ -1,9 +1,8 @@
-use Rattle.std.proofs.Common.{rules, ◌≡◌, ◌≤◌, ◌∷◌, ◌++◌, [], List, length, refl, sym, ap, ◌∙◌, subst, arith, IsTrue}
+use Rattle.std.proofs.Common.{rules, ◌∷◌, ◌++◌, [], List, sym, subst, arith, IsTrue}
 use Rattle.loader.specs.Installed.{InstalledView}
 use Rattle.store_steps.specs.declared.pipelines.Member.{Member}
 use Rattle.store_steps.specs.Views.{session_view}
 use Rattle.store.specs.Opening.{AreOf}
-use Rattle.store.specs.Pipelines.{AreJoined}
 use Rattle.store.specs.PolledPipelines.{AreListed, AreWaiting, Follows, MayFollow}
 use Rattle.store.specs.Sessions.{IsOf}
 use Rattle.store.proofs.Following.{follows_too, may_follow, one_more}
@@ -40,7 +39,7 @@ invariant_of-self-2 c =
     let f = subst (λ z. Follows z c.caller.result) c.deref.ensures.value (c.follows.ensures.follows.0 yes) in
     let more = one_more c.args.store.now p.members.items p.rooms.items joined own m c.into_room-seat.result.2 c.into_room-seat.ensures.idle c.into_room-seat.ensures.room of (follows_too c.args.store.now c.args.session c.caller.result m.caller p.members.items slot its f) in
     let listed = subst (λ n. AreListed (p.members.items ++ m ∷ []) (p.rooms.items ++ c.into_room-seat.result.2 ∷ []) n p.list.room.combining.batch p.list.room.combining.replies p.list.stage) (sym none)
-        (listed_new (p.members.items ++ m ∷ []) (p.rooms.items ++ c.into_room-seat.result.2 ∷ []) p.list.room.combining.batch p.list.room.combining.replies p.list.stage more) in
+    (listed_new (p.members.items ++ m ∷ []) (p.rooms.items ++ c.into_room-seat.result.2 ∷ []) p.list.room.combining.batch p.list.room.combining.replies p.list.stage more) in
     let space = c.self.invariant.1 in
     let room = c.self.invariant.2 in
     let wide = c.push_reserved.ensures.capacity in

@@ -7,7 +7,12 @@ use Rattle.store.proofs.polled_pipeline.PolledPipeline.new.Goals as goal
 pub invariant_of-polled : goal.invariant_of-polled
 invariant_of-polled c =
     let p = c.pipeline.inside in
-    (subst (λ n. AreListed p.members.items p.rooms.items n _ _ _) (sym c.of-list.ensures.none) (listed_new p.members.items p.rooms.items _ _ _ c.pipeline.invariant.0), c.pipeline.invariant.3, c.pipeline.invariant.4)
+    let l = c.of-list.result in (
+      subst (λ n. AreListed p.members.items p.rooms.items n l.room.combining.batch l.room.combining.replies l.stage) (sym c.of-list.ensures.none)
+          (listed_new p.members.items p.rooms.items l.room.combining.batch l.room.combining.replies l.stage c.pipeline.invariant.0),
+      c.pipeline.invariant.3,
+      c.pipeline.invariant.4,
+    )
 
 pub returns-clause-emptied : goal.returns-clause-emptied
 returns-clause-emptied c =

@@ -1,4 +1,4 @@
-use Rattle.std.proofs.Common.{rules, ◌≡◌, ℕ, ◌≤◌, ◌<◌, ◌++◌, [], length, take, drop, refl, sym, ap, ◌∙◌, subst, arith, None, Some}
+use Rattle.std.proofs.Common.{rules, ◌≡◌, ◌≤◌, ◌<◌, ◌++◌, length, take, drop, sym, ap, ◌∙◌, subst, arith, None, Some}
 use Rattle.std.proofs.lemmas.List.{length-map}
 use Rattle.std.proofs.lemmas.Option.{none-some}
 use Rattle.store_steps.specs.Pipelines.{AreMembers}
@@ -7,7 +7,7 @@ use Rattle.store.specs.Opening.{AreOf}
 use Rattle.store.specs.Pipelines.{AreInOrder, EachGoesOn, OthersStay, views_of}
 use Rattle.store.specs.PolledPipelines.{AreListed, AreWaiting, EachIsTold, FinishesFirst, WaitsFirst}
 use Rattle.store.proofs.AskedEach.{are_in_order, lent_back, replaced_long, shared_of, stays_on}
-use Rattle.store.proofs.PolledEach.{all_idle, each_completes, each_waits, listed_goes_on, listed_members, listed_on, listed_others, listed_size, posted_is, still_completed, still_waits, tells_completes, tells_waits}
+use Rattle.store.proofs.PolledEach.{all_idle, each_completes, each_waits, listed_goes_on, listed_members, listed_on, listed_others, posted_is, still_completed, still_waits, tells_completes, tells_waits}
 use Rattle.store.proofs.polled_pipeline.PolledPipeline.poll.Goals as goal
 
 pub returns-then-is_empty-clause-sessions : goal.returns-then-is_empty-clause-sessions
@@ -52,9 +52,12 @@ invariant_of-self-in_default c =
     let is : c.self.inside.list.posted ≡ length c.args.answers.now = posted_is c.self.inside.members.items c.self.inside.rooms.items c.self.inside.list.posted c.self.inside.list.room.combining.batch c.self.inside.list.room.combining.replies c.self.inside.list.stage c.self.invariant.0 (length c.args.answers.now) fits (subst (AreWaiting (length c.args.answers.now)) (sym c.self.view_is) c.requires.waiting) in
     let d : WaitsFirst c.self.inside.members.items c.finish_first.new.members (length c.args.answers.now) c.finish_first.new.self.room.combining c.finish_first.new.self.stage = subst (λ z. WaitsFirst z c.finish_first.new.members (length c.args.answers.now) c.finish_first.new.self.room.combining c.finish_first.new.self.stage) c.deref_mut.ensures.value c.in_default.ensures.waits in
     let whole : length c.finish_first.new.members ≡ c.self.inside.members.len = ap length d.sets.is ∙ (replaced_long (length c.args.answers.now) d.now c.self.inside.members.items d.sets.long fits ∙ (ap length (sym c.deref_mut.ensures.value) ∙ c.deref_mut.ensures.len)) in
-    let back : (take c.self.inside.members.len (c.finish_first.new.members ++ drop (length c.finish_first.new.members) c.self.inside.members.items)) ≡ c.finish_first.new.members = lent_back c.self.inside.members.len c.finish_first.new.members c.self.inside.members.items whole in
-    (subst (λ xs. AreListed xs c.self.inside.rooms.items c.finish_first.new.self.posted c.finish_first.new.self.room.combining.batch c.finish_first.new.self.room.combining.replies c.finish_first.new.self.stage) (sym back)
-    (still_waits c.args.store.now c.self.inside.members.items c.self.inside.rooms.items c.self.inside.list.posted c.self.inside.list.room.combining.batch c.self.inside.list.room.combining.replies c.self.inside.list.stage c.self.invariant.0 (subst (AreOf c.args.store.now) (sym c.self.view_is) c.requires.own) (length c.args.answers.now) fits c.finish_first.new.members d.now d.sets is c.finish_first.new.self.room.combining.batch c.finish_first.new.self.room.combining.replies c.finish_first.new.self.stage d.waits d.out c.finish_first.new.self.posted c.in_default.ensures.stays), c.self.invariant.1, c.self.invariant.2)
+    let back : (take c.self.inside.members.len (c.finish_first.new.members ++ drop (length c.finish_first.new.members) c.self.inside.members.items)) ≡ c.finish_first.new.members = lent_back c.self.inside.members.len c.finish_first.new.members c.self.inside.members.items whole in (
+      subst (λ xs. AreListed xs c.self.inside.rooms.items c.finish_first.new.self.posted c.finish_first.new.self.room.combining.batch c.finish_first.new.self.room.combining.replies c.finish_first.new.self.stage) (sym back)
+          (still_waits c.args.store.now c.self.inside.members.items c.self.inside.rooms.items c.self.inside.list.posted c.self.inside.list.room.combining.batch c.self.inside.list.room.combining.replies c.self.inside.list.stage c.self.invariant.0 (subst (AreOf c.args.store.now) (sym c.self.view_is) c.requires.own) (length c.args.answers.now) fits c.finish_first.new.members d.now d.sets is c.finish_first.new.self.room.combining.batch c.finish_first.new.self.room.combining.replies c.finish_first.new.self.stage d.waits d.out c.finish_first.new.self.posted c.in_default.ensures.stays),
+      c.self.invariant.1,
+      c.self.invariant.2,
+    )
 
 pub returns-in_default-clause-sessions : goal.returns-in_default-clause-sessions
 returns-in_default-clause-sessions c =
@@ -91,9 +94,12 @@ invariant_of-self-2 c =
     let is : c.self.inside.list.posted ≡ length c.args.answers.now = posted_is c.self.inside.members.items c.self.inside.rooms.items c.self.inside.list.posted c.self.inside.list.room.combining.batch c.self.inside.list.room.combining.replies c.self.inside.list.stage c.self.invariant.0 (length c.args.answers.now) fits (subst (AreWaiting (length c.args.answers.now)) (sym c.self.view_is) c.requires.waiting) in
     let d : FinishesFirst c.self.inside.members.items c.finish_first.new.members (length c.args.answers.now) c.finish_first.new.self.room.combining c.finish_first.new.replies = subst (λ z. FinishesFirst z c.finish_first.new.members (length c.args.answers.now) c.finish_first.new.self.room.combining c.finish_first.new.replies) c.deref_mut.ensures.value c.in-Some.ensures.finished in
     let whole : length c.finish_first.new.members ≡ c.self.inside.members.len = ap length d.sets.is ∙ (replaced_long (length c.args.answers.now) d.now c.self.inside.members.items d.sets.long fits ∙ (ap length (sym c.deref_mut.ensures.value) ∙ c.deref_mut.ensures.len)) in
-    let back : (take c.self.inside.members.len (c.finish_first.new.members ++ drop (length c.finish_first.new.members) c.self.inside.members.items)) ≡ c.finish_first.new.members = lent_back c.self.inside.members.len c.finish_first.new.members c.self.inside.members.items whole in
-    (subst (λ xs. AreListed xs c.self.inside.rooms.items c.finish_first.new.self.posted c.finish_first.new.self.room.combining.batch c.finish_first.new.self.room.combining.replies c.finish_first.new.self.stage) (sym back)
-    (still_completed c.args.store.now c.self.inside.members.items c.self.inside.rooms.items c.self.inside.list.posted c.self.inside.list.room.combining.batch c.self.inside.list.room.combining.replies c.self.inside.list.stage c.self.invariant.0 (subst (AreOf c.args.store.now) (sym c.self.view_is) c.requires.own) (length c.args.answers.now) fits c.finish_first.new.members d.now d.sets is c.finish_first.new.self.room.combining.batch c.finish_first.new.self.room.combining.replies c.finish_first.new.replies d.completes c.finish_first.new.self.posted c.in-Some.ensures.posted _ _ _), c.self.invariant.1, c.self.invariant.2)
+    let back : (take c.self.inside.members.len (c.finish_first.new.members ++ drop (length c.finish_first.new.members) c.self.inside.members.items)) ≡ c.finish_first.new.members = lent_back c.self.inside.members.len c.finish_first.new.members c.self.inside.members.items whole in (
+      subst (λ xs. AreListed xs c.self.inside.rooms.items c.finish_first.new.self.posted c.finish_first.new.self.room.combining.batch c.finish_first.new.self.room.combining.replies c.finish_first.new.self.stage) (sym back)
+          (still_completed c.args.store.now c.self.inside.members.items c.self.inside.rooms.items c.self.inside.list.posted c.self.inside.list.room.combining.batch c.self.inside.list.room.combining.replies c.self.inside.list.stage c.self.invariant.0 (subst (AreOf c.args.store.now) (sym c.self.view_is) c.requires.own) (length c.args.answers.now) fits c.finish_first.new.members d.now d.sets is c.finish_first.new.self.room.combining.batch c.finish_first.new.self.room.combining.replies c.finish_first.new.replies d.completes c.finish_first.new.self.posted c.in-Some.ensures.posted _ _ _),
+      c.self.invariant.1,
+      c.self.invariant.2,
+    )
 
 pub returns-clause-sessions : goal.returns-clause-sessions
 returns-clause-sessions c =

@@ -1,4 +1,4 @@
-use Rattle.std.proofs.Common.{◌≡◌, ◌≤◌, ◌∷◌, ◌++◌, [], List, length, sym, ap, ◌∙◌, subst, arith}
+use Rattle.std.proofs.Common.{List, sym, subst, arith}
 use Rattle.loader.specs.Installed.{InstalledView}
 use Rattle.store_steps.specs.declared.pipelines.Member.{Member}
 use Rattle.store.specs.Pipelines.{AreJoined}

@@ -1,8 +1,7 @@
-use Rattle.std.proofs.Common.{rules, ◌≡◌, ℕ, ◌≤◌, ◌++◌, [], length, take, drop, refl, sym, ap, ◌∙◌, subst, arith, vec_capacity, Ok, Some}
+use Rattle.std.proofs.Common.{◌≡◌, ℕ, ◌≤◌, ◌++◌, length, take, drop, refl, sym, ap, ◌∙◌, subst, arith}
 use Rattle.std.proofs.lemmas.List.{length-map}
 use Rattle.loader.specs.CatalogueView.{CatalogueView}
 use Rattle.verifier.specs.declared.refusal.Mode.TheVariants.{Update}
-use Rattle.accounts.proofs.Export.{at_none}
 use Rattle.store_steps.specs.Pipelines.{AreMembers, MayAskAt}
 use Rattle.store_steps.specs.PollingEach.{AreIdle}
 use Rattle.store_steps.specs.Questions.{MayAskEach}
@@ -11,7 +10,7 @@ use Rattle.store.specs.Opening.{AreOf}
 use Rattle.store.specs.Pipelines.{EachGoesOn, OthersStay, views_of}
 use Rattle.store.specs.PolledPipelines.{AreListed, AreWaiting, BeginsFirst, EachAsks, EachLooks, LooksFirst}
 use Rattle.store.proofs.AskedEach.{asked_ascend, asked_may, asked_members, at_taken, lent_back, replaced_long, shared_of, stays_on}
-use Rattle.store.proofs.PolledEach.{all_idle, each_began, each_looked, listed_goes_on, listed_others, listed_size, posted_is, still_began, still_looked, tells_began, tells_looked}
+use Rattle.store.proofs.PolledEach.{all_idle, each_began, each_looked, listed_goes_on, listed_others, posted_is, still_began, still_looked, tells_began, tells_looked}
 use Rattle.store.proofs.polled_pipeline.PolledPipeline.try_invoke_each.Goals as goal
 
 pub returns-in_err-check_each-clause-sessions : goal.returns-in_err-check_each-clause-sessions
@@ -57,9 +56,12 @@ invariant_of-self-in_default c =
     let fits : length c.args.calls.now ≤ length c.self.inside.members.items = let few = c.requires.few in let seen = ap length (sym c.self.view_is) ∙ length-map c.self.inside.members.items _ in omega (arith, few, seen) in
     let d : LooksFirst c.self.inside.members.items c.begin_first.new.members (length c.args.calls.now) = subst (λ z. LooksFirst z c.begin_first.new.members (length c.args.calls.now)) c.deref_mut.ensures.value c.in_default.ensures.looked in
     let whole : length c.begin_first.new.members ≡ c.self.inside.members.len = ap length d.sets.is ∙ (replaced_long (length c.args.calls.now) d.now c.self.inside.members.items d.sets.long fits ∙ (ap length (sym c.deref_mut.ensures.value) ∙ c.deref_mut.ensures.len)) in
-    let back : (take c.self.inside.members.len (c.begin_first.new.members ++ drop (length c.begin_first.new.members) c.self.inside.members.items)) ≡ c.begin_first.new.members = lent_back c.self.inside.members.len c.begin_first.new.members c.self.inside.members.items whole in
-    (subst (λ xs. AreListed xs c.self.inside.rooms.items c.begin_first.new.self.posted c.begin_first.new.self.room.combining.batch c.begin_first.new.self.room.combining.replies c.begin_first.new.self.stage) (sym back)
-    (still_looked c.args.store.now c.self.inside.members.items c.self.inside.rooms.items c.self.inside.list.posted c.self.inside.list.room.combining.batch c.self.inside.list.room.combining.replies c.self.inside.list.stage c.self.invariant.0 (subst (AreOf c.args.store.now) (sym c.self.view_is) c.requires.own) (length c.args.calls.now) fits c.begin_first.new.members d.now d.sets none d.looks d.idle c.begin_first.new.self.posted (c.in_default.ensures.stays ∙ none) _ _ _), c.self.invariant.1, c.self.invariant.2)
+    let back : (take c.self.inside.members.len (c.begin_first.new.members ++ drop (length c.begin_first.new.members) c.self.inside.members.items)) ≡ c.begin_first.new.members = lent_back c.self.inside.members.len c.begin_first.new.members c.self.inside.members.items whole in (
+      subst (λ xs. AreListed xs c.self.inside.rooms.items c.begin_first.new.self.posted c.begin_first.new.self.room.combining.batch c.begin_first.new.self.room.combining.replies c.begin_first.new.self.stage) (sym back)
+          (still_looked c.args.store.now c.self.inside.members.items c.self.inside.rooms.items c.self.inside.list.posted c.self.inside.list.room.combining.batch c.self.inside.list.room.combining.replies c.self.inside.list.stage c.self.invariant.0 (subst (AreOf c.args.store.now) (sym c.self.view_is) c.requires.own) (length c.args.calls.now) fits c.begin_first.new.members d.now d.sets none d.looks d.idle c.begin_first.new.self.posted (c.in_default.ensures.stays ∙ none) _ _ _),
+      c.self.invariant.1,
+      c.self.invariant.2,
+    )
 
 pub returns-in_default-clause-sessions : goal.returns-in_default-clause-sessions
 returns-in_default-clause-sessions c =
@@ -96,9 +98,12 @@ invariant_of-self-2 c =
     let fits : length c.args.calls.now ≤ length c.self.inside.members.items = let few = c.requires.few in let seen = ap length (sym c.self.view_is) ∙ length-map c.self.inside.members.items _ in omega (arith, few, seen) in
     let d : BeginsFirst c.self.inside.members.items c.begin_first.new.members c.args.calls.now c.begin_first.new.self.room.combining c.begin_first.new.self.stage = subst (λ z. BeginsFirst z c.begin_first.new.members c.args.calls.now c.begin_first.new.self.room.combining c.begin_first.new.self.stage) c.deref_mut.ensures.value c.in-Some.ensures.begun in
     let whole : length c.begin_first.new.members ≡ c.self.inside.members.len = ap length d.sets.is ∙ (replaced_long (length c.args.calls.now) d.now c.self.inside.members.items d.sets.long fits ∙ (ap length (sym c.deref_mut.ensures.value) ∙ c.deref_mut.ensures.len)) in
-    let back : (take c.self.inside.members.len (c.begin_first.new.members ++ drop (length c.begin_first.new.members) c.self.inside.members.items)) ≡ c.begin_first.new.members = lent_back c.self.inside.members.len c.begin_first.new.members c.self.inside.members.items whole in
-    (subst (λ xs. AreListed xs c.self.inside.rooms.items c.begin_first.new.self.posted c.begin_first.new.self.room.combining.batch c.begin_first.new.self.room.combining.replies c.begin_first.new.self.stage) (sym back)
-    (still_began c.args.store.now c.self.inside.members.items c.self.inside.rooms.items c.self.inside.list.posted c.self.inside.list.room.combining.batch c.self.inside.list.room.combining.replies c.self.inside.list.stage c.self.invariant.0 (subst (AreOf c.args.store.now) (sym c.self.view_is) c.requires.own) (length c.args.calls.now) fits c.begin_first.new.members d.now d.sets none c.args.calls.now refl c.begin_first.new.self.room.combining.batch c.begin_first.new.self.room.combining.replies c.begin_first.new.self.stage d.begins d.out c.begin_first.new.self.posted c.in-Some.ensures.posted), c.self.invariant.1, c.self.invariant.2)
+    let back : (take c.self.inside.members.len (c.begin_first.new.members ++ drop (length c.begin_first.new.members) c.self.inside.members.items)) ≡ c.begin_first.new.members = lent_back c.self.inside.members.len c.begin_first.new.members c.self.inside.members.items whole in (
+      subst (λ xs. AreListed xs c.self.inside.rooms.items c.begin_first.new.self.posted c.begin_first.new.self.room.combining.batch c.begin_first.new.self.room.combining.replies c.begin_first.new.self.stage) (sym back)
+          (still_began c.args.store.now c.self.inside.members.items c.self.inside.rooms.items c.self.inside.list.posted c.self.inside.list.room.combining.batch c.self.inside.list.room.combining.replies c.self.inside.list.stage c.self.invariant.0 (subst (AreOf c.args.store.now) (sym c.self.view_is) c.requires.own) (length c.args.calls.now) fits c.begin_first.new.members d.now d.sets none c.args.calls.now refl c.begin_first.new.self.room.combining.batch c.begin_first.new.self.room.combining.replies c.begin_first.new.self.stage d.begins d.out c.begin_first.new.self.posted c.in-Some.ensures.posted),
+      c.self.invariant.1,
+      c.self.invariant.2,
+    )
 
 pub returns-clause-sessions : goal.returns-clause-sessions
 returns-clause-sessions c =
