@@ -13,10 +13,10 @@
 // This file is the manual of the C interface. docs/EMBEDDING.md has a host's
 // duties, which calls suit which service, and what is proved.
 //
-// A call writes its answer only if it succeeds. It copies its arguments, keys
-// and questions first, so an answer may overwrite them. It keeps no pointer.
-// The memory of two results of one call must not overlap. A text has a length,
-// and needs no final zero.
+// A call writes its answer only if it succeeds. (Of a list also at S4.) It
+// copies its arguments, keys and questions first, so an answer may overwrite
+// them. It keeps no pointer. The memory of two results of one call must not
+// overlap. A text has a length, and needs no final zero.
 //
 // Only nrbpf_open, nrbpf_open_on, nrbpf_close_into, nrbpf_state_new,
 // nrbpf_state_dump and nrbpf_state_load take memory. The library starts no
@@ -77,10 +77,11 @@ uint32_t nrbpf_version(void);
 
 // 0, or a refusal: why a call did not do what it should. `status >> 8` is its
 // letter and `status & 255` its number in docs/REFUSALS.md. If several refusals
-// apply, a call answers the first in this order: H7, H8, H2, H3 or H11, H5,
-// then the others. A refused call changes nothing, except that before S4 other
-// updates may have gone in. The statuses 1 and 2 have no letter and are no
-// refusals. Only nrbpf_poll, nrbpf_poll_each and calls with `try_` in their name
+// apply, a call answers the first in this order: H7 of its own pointers, H8,
+// H2, H3 or H11, H5, H7 of a pointer in a list, then the others. A refused call
+// changes nothing, except that before S4 other updates may have gone in, also
+// of the same list, and before H10 the writer may have had parts of the text.
+// The statuses 1 and 2 have no letter and are no refusals. Only nrbpf_poll, nrbpf_poll_each and calls with `try_` in their name
 // answer these: they have no answer yet.
 typedef uint32_t nrbpf_status;
 #define NRBPF_REFUSAL(letter, number) ((nrbpf_status)(letter) << 8 | (nrbpf_status)(number))
@@ -353,7 +354,8 @@ NRBPF_MUST_LOOK nrbpf_status nrbpf_read(
     nrbpf_answer *out);
 
 // Adds a program to the running store. Waits as nrbpf_update does. The reply is
-// its number from then on, or NRBPF_REPLY_NO_ROOM if no spare place is left.
+// its number from then on, or NRBPF_REPLY_NO_ROOM if no spare place is left. It
+// has at most 192 bytes, which are 24 slots, and an argument of at most 64 (S6).
 // Refuses with S4, S6 to S8, H2, H3, H5 and H7. Then *why says more, unless
 // `why` is null. [session]
 NRBPF_MUST_LOOK nrbpf_status nrbpf_install(

@@ -6,7 +6,7 @@ use Rattle.engine.specs.Answer.{Answer}
 use Rattle.engine.specs.Reading.{TextsRead, limits_of}
 use Rattle.console.specs.CheckAnswer.{check_answer}
 
--- a line for each of some texts that are not UTF-8, one at least
+-- lines of texts that are not UTF-8, one at least; which texts is not said
 pub record AreStrangers (text : List ℕ) : Type 0 where
   pub first : List ℕ
   pub others : List (List ℕ)

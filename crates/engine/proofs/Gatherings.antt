@@ -27,7 +27,7 @@ found g = record { sizes = g.sizes; manifest = g.manifest; files = files_in g; f
 abbrev pub unless_strange : Option (List ℕ × List ℕ) → TextsRead → Option TextsRead
 unless_strange o t = if is_some o then None else Some t
 
-fails_as : (e : Unread) (P Q : Stranger → Type 0) → ((s : Stranger) → P s → Q s) → FailsAs e P → FailsAs e Q
+pub fails_as : (e : Unread) (P Q : Stranger → Type 0) → ((s : Stranger) → P s → Q s) → FailsAs e P → FailsAs e Q
 fails_as faults.NoMemory P Q f p = tt
 fails_as faults.CannotRead P Q f p = tt
 fails_as (faults.NotText s) P Q f p = f s p

@@ -6,6 +6,7 @@ pub mod Known
 pub mod FoundTexts
 pub mod GatheredFiles
 pub mod Gatherings
+pub mod Naming
 pub mod Reports
 pub mod Written
 pub mod Openings

@@ -1,5 +1,5 @@
 -- What a command reads, and what it has read then.
-use Rattle.std.specs.Prelude.{◌≡◌, ◌⊎◌, ℕ, not, true, false, List, [], ◌∷◌, ◌++◌, map, codes, Option, Some, None, is_some, Result, Ok, Err, IfSome, IsSomeAnd, string_bytes, if◌then◌else◌}
+use Rattle.std.specs.Prelude.{◌≡◌, ◌⊎◌, ℕ, not, ◌&&◌, true, List, [], ◌∷◌, ◌++◌, map, codes, Option, Some, None, is_some, option_map, Result, Ok, Err, IfSome, IsSomeAnd, string_bytes, if◌then◌else◌}
 use Rattle.std.specs.Str.{is_utf8}
 use Rattle.std.specs.List.{find}
 use Rattle.maps.specs.declared.shapes.MapLimits.{MapLimits}
@@ -50,6 +50,10 @@ first_stranger g =
     find (λ text. not (is_utf8 text.1))
     ((codes "the manifest", g.manifest) ∷ (files_in g ++ ((codes "the file", g.file) ∷ (codes "the state", g.state) ∷ (codes "the history", g.history) ∷ [])))
 
+-- the manifest, if what is not UTF-8 first is a file that it names: it is UTF-8 itself, and one of those files is not
+abbrev pub naming : Given → Option (List ℕ)
+naming g = if is_utf8 g.manifest && is_some (find (λ text. not (is_utf8 text.1)) (files_in g)) then Some g.manifest else None
+
 -- ---- what was read
 
 -- texts as they were read, and how large the maps may be
@@ -94,9 +98,13 @@ texts_in (Err s) = None
 abbrev pub strange_text : Stranger → List ℕ × List ℕ
 strange_text s = (string_bytes s.name, s.bytes.items)
 
+-- the manifest that names it, if one does
+abbrev pub naming_text : Stranger → Option (List ℕ)
+naming_text s = option_map string_bytes s.manifest
+
 -- it goes by this name, and is no file that a manifest names
 abbrev pub GoesBy : List ℕ → Stranger → Type 0
-GoesBy name s = (string_bytes s.name ≡ name) × (is_some s.manifest ≡ false)
+GoesBy name s = (string_bytes s.name ≡ name) × (naming_text s ≡ None)
 
 -- the readers of the history, the state and the file are as they were, but for that of this text and of those before it
 abbrev pub NothingAfter : {F R : Type 0} → Inputs F R → Inputs F R → Stranger → Type 0

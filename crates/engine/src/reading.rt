@@ -1,13 +1,13 @@
 // What a command reads: a manifest and the files that it names, the file that it is about, a state and a history.
 
-ghost use Rattle.std.specs.Prelude.{◌≡◌, ℕ, List, Option, None, Some, IfOk, IfErr, IfSome, IsSomeAnd, MatchOption, MatchResult, is_some, string_bytes};
+ghost use Rattle.std.specs.Prelude.{◌≡◌, ℕ, List, Option, None, Some, IfOk, IfErr, IfSome, IsSomeAnd, MatchOption, MatchResult, option_map, string_bytes};
 ghost use Rattle.maps.specs.Shapes.{AreLimits};
 ghost use Rattle.loader.specs.NamedFiles.{named_in};
 ghost use Rattle.loader.specs.ProgramFiles.{files_of};
 ghost use Rattle.engine.specs.declared.reading.Unread.TheVariants as faults;
 ghost use Rattle.engine.specs.Files.{Contents};
 ghost use Rattle.engine.specs.ReadFaults.{IfCannotRead};
-ghost use Rattle.engine.specs.Reading.{FailedInTurn, FileFailedOr, GoesBy, IfGiven, NothingAfter, StopsAtStranger, first_stranger, given_text, limits_of, named_texts, read, strange_text, texts_in};
+ghost use Rattle.engine.specs.Reading.{FailedInTurn, FileFailedOr, GoesBy, IfGiven, NothingAfter, StopsAtStranger, first_stranger, given_text, limits_of, named_texts, naming, naming_text, read, strange_text, texts_in};
 ghost use Rattle.engine.specs.Unread.{AreRead, FailsAs, FoundAs, Gathered, IfUnread, IsStrangeFile, TextIs};
 
 use crate::transfer::{ReadFault, Source};
@@ -156,7 +156,7 @@ fn strange(
     bytes: Vec<u8>,
 ) -> Result<Stranger, AllocError>
     ensures text { IfOk result (λ s. strange_text s ≡ (name.now, bytes.items)) }
-    ensures alone { IfOk result (λ s. is_some s.manifest ≡ is_some named_by.entry) }
+    ensures naming { IfOk result (λ s. naming_text s ≡ option_map (λ m. m.now) named_by.entry) }
 {
     let name = copied(alloc, name)?;
     let manifest = match named_by {
@@ -178,7 +178,7 @@ fn read_text<R: Source>(
     reader: &mut R,
 ) -> Result<String, Unread>
     ensures text { IfSome (R.remaining reader.old) (TextIs name.now result) }
-    ensures named { IfErr result (λ e. FailsAs e (λ s. (string_bytes s.name ≡ name.now) × (is_some s.manifest ≡ is_some named_by.entry))) }
+    ensures named { IfErr result (λ e. FailsAs e (λ s. (string_bytes s.name ≡ name.now) × (naming_text s ≡ option_map (λ m. m.now) named_by.entry))) }
     ensures failed { IfUnread result (R.has_failed reader.new) }
     ensures could { IfUnread result (R.can_fail reader.old) }
 {
@@ -221,6 +221,7 @@ fn file_text<F: Folder>(
     name: &str,
 ) -> Result<Option<String>, Unread>
     ensures found { IfSome (F.holds folder.now) (λ h. MatchResult result (λ t. FoundAs t (h name.now)) (λ e. FailsAs e (IsStrangeFile name.now (h name.now)))) }
+    ensures naming { IfErr result (λ e. FailsAs e (λ s. naming_text s ≡ Some manifest.now)) }
     ensures failed { IfUnread result (F.can_fail folder.now name.now) }
 {
     match folder.open(name) {
@@ -239,6 +240,7 @@ fn gather_files<F: Folder>(
     manifest: &str,
 ) -> Result<Vec<NamedText>, Unread>
     ensures gathered { IfSome (F.holds folder.now) (λ h. Gathered h (named_in manifest.now) result) }
+    ensures naming { IfErr result (λ e. FailsAs e (λ s. naming_text s ≡ Some manifest.now)) }
     ensures failed { IfUnread result (FileFailedOr (F.can_fail folder.now) (F.holds folder.now) (named_in manifest.now) ⊥) }
 {
     let names = named_files(alloc, manifest)?;
@@ -258,6 +260,7 @@ fn gather_texts<F: Folder, R: Source + Drop>(
     inputs: &mut Inputs<'_, F, R>,
 ) -> Result<Texts, Unread>
     ensures read { IfGiven F.holds R.remaining inputs.old (AreRead result) }
+    ensures naming { IfGiven F.holds R.remaining inputs.old (λ g. IfErr result (λ e. FailsAs e (λ s. naming_text s ≡ naming g))) }
     ensures unread { IfErr result (λ e. FailsAs e (NothingAfter inputs.old inputs.new)) }
     ensures stops { IfGiven F.holds R.remaining inputs.old (StopsAtStranger inputs.old inputs.new) }
     ensures failed { IfUnread result (FailedInTurn F.holds F.can_fail R.remaining R.has_failed inputs.old inputs.new) }
@@ -292,11 +295,13 @@ pub fn gather<F: Folder, R: Source + Drop>(
     ensures read { IfGiven F.holds R.remaining inputs.old (λ g. IfOk result (λ r. texts_in r ≡ read g)) }
     // What is not UTF-8 is the first in the order of reading.
     ensures first { IfGiven F.holds R.remaining inputs.old (λ g. IfOk result (λ r. IfErr r (λ s. first_stranger g ≡ Some (strange_text s)))) }
+    // If it is a file that the manifest names, the manifest is given back with it; otherwise none is.
+    ensures naming { IfGiven F.holds R.remaining inputs.old (λ g. IfOk result (λ r. IfErr r (λ s. naming_text s ≡ naming g))) }
     // The readers of texts after it are as they were.
     ensures unread { IfOk result (λ r. IfErr r (NothingAfter inputs.old inputs.new)) }
     // However it ends, a text is read only if all texts before it are UTF-8.
     ensures stops { IfGiven F.holds R.remaining inputs.old (StopsAtStranger inputs.old inputs.new) }
-    // The result says that a read failed only after one did, and all texts before that one are UTF-8.
+    // The result says that a read failed only where one can have failed, and all texts before that one are UTF-8.
     ensures failed { IfCannotRead result (FailedInTurn F.holds F.can_fail R.remaining R.has_failed inputs.old inputs.new) }
 {
     match gather_texts(alloc, inputs) {

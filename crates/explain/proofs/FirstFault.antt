@@ -24,11 +24,12 @@ use Rattle.loader.specs.CatalogueView.{Entry, CatalogueView, names_of}
 use Rattle.loader.specs.ProgramFiles.{◌>>=◌, Files, file_named, or_bad_line, or_bad_hex, or_decode, bytes_of_hex, instructions_of, unless_refused, checked_program, entry_for}
 use Rattle.loader.specs.Loading.{are_few, is_taken, with_map, with_entry, with_program, after_meaning, after_line, after_lines, either, loaded_within}
 use Rattle.loader.proofs.Export.{entry_from, after_map, after_program}
-use Rattle.explain.specs.Listing.{head_text, refusal_text, IsReason}
+use Rattle.explain.specs.Listing.{head_text, kinds_refusal, refusal_text, IsReason}
 use Rattle.explain.specs.Manifest.{Above, nothing_above, has_map, has_name, is_full, is_misplaced, map_fault, with_line, with_shape, refused_by, line_fault, named_words, slot_fault, IsJudged, TellsOfRead, TellsOfFile, TellsWhereMap, TellsOfProgram, TellsOfLine, TellsOfLines, TellsOfAll}
 use Rattle.explain.specs.Told.{BeginsWith, BeginsIf}
 use Rattle.explain.specs.FirstFault.{HasRead, HasRefusal, RulesAreShared, TellsRefusal, TellsVerdict}
 use Rattle.explain.proofs.Judged.{full}
+use Rattle.explain.proofs.Lines.{reason_begins}
 use Rattle.explain.proofs.MapLines.{taken}
 
 -- ---- texts
@@ -180,7 +181,7 @@ module _ (n : ℕ) (a : Above) (p : ProgramLine) (own : List ℕ) (good : a.bad_
   by_verdict None ch program was is told = absurd cc
   by_verdict (Some e) ch program was is told =
       let tells = told.2.2 in
-      let reason : BeginsWith (refusal_text e) tells.reason = subst (λ v. IsReason v tells.reason) was tells.refuses in
+      let reason : BeginsWith (refusal_text e) tells.reason = reason_begins _ e tells.reason (subst (λ v. IsReason (kinds_refusal program (signature a.shapes p.arg_len p.mode)) v tells.reason) was tells.refuses) in
       let verdict_told : TellsVerdict n e own =
       record {
         program = p;

@@ -1,7 +1,7 @@
 -- The lines of a listing, one after another.
 use Rattle.std.proofs.Common.{◌≡◌, ℕ, ◌+◌, ◌<◌, ◌≤◌, Bool, true, ltb, List, [], ◌∷◌, ◌++◌, length, take, drop, get_or, Option, Some, None, inl, inr, ⊎_elim, refl, sym, ap, subst, ◌∙◌, append_assoc, arith}
 use Rattle.std.specs.Prelude.{◌⊎◌, ◌-◌, ◌^◌, ◌==◌, false, replicate, codes, decimal, unwrap_or}
-use Rattle.std.specs.Prelude.{IfSome}
+use Rattle.std.specs.Prelude.{IfSome, MatchBool}
 use Rattle.std.specs.List.{concat}
 use Rattle.std.proofs.lemmas.Bool.{false≢true, ltb-false, ltb-true}
 use Rattle.std.proofs.lemmas.Grind.{replicate_next}
@@ -15,10 +15,10 @@ use Rattle.verifier.specs.declared.refusal.Refused.{Refused}
 use Rattle.flow.proofs.Export.{one_or_two}
 use Rattle.explain.specs.declared.programs.Study.{Study}
 use Rattle.explain.specs.declared.programs.Subject.{Subject}
-use Rattle.explain.specs.Listing.{line_of, kinds_refusal, signature_of, verdict_on, head_text, AddsListing, Explains, IsReason, aside, margin, left_text, last_listed, AreListed, BeginUpto, IsLine, IsListing, Lists}
+use Rattle.explain.specs.Listing.{line_of, is_structural, kinds_refusal, refusal_text, signature_of, verdict_on, head_text, AddsListing, Explains, ExplainsLong, IsReason, TellsKinds, TellsStructure, aside, margin, left_text, last_listed, AreListed, BeginUpto, IsLine, IsListing, Lists}
 use Rattle.explain.specs.Slots.{told_upto}
 use Rattle.explain.specs.Study.{IsStudy}
-use Rattle.explain.specs.Told.{Adds}
+use Rattle.explain.specs.Told.{Adds, BeginsWith}
 use Rattle.explain.proofs.Pieces.{three}
 
 -- the text of one instruction is its line
@@ -169,14 +169,46 @@ kinds_are study s same known few =
 pub some_of : {A : Type 0} (P : A → Type 0) (o : Option A) (x : A) → o ≡ Some x → IfSome o P → P x
 some_of P o x is holds = subst (λ q. IfSome q P) is holds
 
+-- a study of a program that is too long has no refusal by kinds
+pub none_of : (study : Study) (s : Subject) → study.subject ≡ s → IsStudy study → MAX_SLOTS < size s.program.now → study.known.kinds ≡ None
+none_of study s same known many = known.no_kinds (subst (λ z. MAX_SLOTS < size z.program.now) (sym same) many)
+
+pub some_is_none : {A : Type 0} (x : A) (o : Option A) → o ≡ Some x → o ≡ None → ⊥
+some_is_none x o is none = cc
+
+-- a listing alone, and then behind a text
+pub listed_behind : (p : List Form) (k v : Option Refused) (before none lines all : List ℕ) → none ≡ [] → all ≡ before ++ lines → AddsListing p k v none lines → AddsListing p k v before all
+listed_behind p k v before none lines all empty put listing few =
+    let own = listing few in
+    (own.0, put ∙ ap (λ t. before ++ t) (own.1 ∙ ap (λ t. t ++ own.0) empty), own.2)
+
 pub explained : (s t : Subject) (k v : Option Refused) (head lines all : List ℕ) → t ≡ s → k ≡ kinds_refusal s.program.now (signature_of s) → v ≡ verdict_on s → head ≡ head_text s.line (line_of s)
-    → AddsListing t.program.now k v head lines → (reason : List ℕ) × (all ≡ lines ++ reason) × IsReason v reason → size s.program.now ≤ MAX_SLOTS → Explains s all
+    → AddsListing t.program.now k v head lines → Adds (IsReason k v) lines all → size s.program.now ≤ MAX_SLOTS → Explains s all
 explained s t k v head lines all same kinds is put listing reason small =
     let own = subst (λ z. AddsListing z.program.now k v head lines) same listing small in
     let known = subst (λ w. (text : List ℕ) × (lines ≡ head ++ text) × IsListing s.program.now w v text) kinds own in
     let l = subst (λ w. (text : List ℕ) × (lines ≡ head ++ text) × IsListing s.program.now (kinds_refusal s.program.now (signature_of s)) w text) is known in
-    let r = subst (λ w. (text : List ℕ) × (all ≡ lines ++ text) × IsReason w text) is reason in (
+    let r = subst (λ w. Adds (IsReason (kinds_refusal s.program.now (signature_of s)) w) lines all) is (subst (λ w. Adds (IsReason w v) lines all) kinds reason) in (
       l.0 ++ r.0,
       r.1 ∙ ap (λ t. t ++ r.0) l.1 ∙ append_assoc head l.0 r.0 ∙ ap (λ t. t ++ (l.0 ++ r.0)) put,
       record { listing = l.0; reason = r.0; lists = l.2; refuses = r.2; whole = refl },
     )
+
+pub explained_long : (s : Subject) (k v : Option Refused) (head lines more all : List ℕ) → k ≡ None → v ≡ verdict_on s → head ≡ head_text s.line (line_of s) → more ≡ head ++ lines → Adds (IsReason k v) more all
+    → ExplainsLong s all
+explained_long s k v head lines more all none is put behind reason =
+    let r = subst (λ w. Adds (IsReason None w) more all) is (subst (λ w. Adds (IsReason w v) more all) none reason) in
+    record {
+      listing = lines;
+      reason = r.0;
+      refuses = r.2;
+      whole = r.1 ∙ ap (λ t. t ++ r.0) behind ∙ append_assoc head lines r.0 ∙ ap (λ t. t ++ (lines ++ r.0)) put;
+    }
+
+-- what is told of a refusal begins with its rule and its slot
+pub reason_begins : (kinds : Option Refused) (e : Refused) (text : List ℕ) → IsReason kinds (Some e) text → BeginsWith (refusal_text e) text
+reason_begins kinds e text is = by (is_structural e.why) is
+  where
+    by : (b : Bool) → MatchBool b (TellsStructure e kinds text) (TellsKinds e text) → BeginsWith (refusal_text e) text
+    by true told = (concat (codes "\n      " ∷ told.advice ∷ codes "\n" ∷ told.second ∷ []), told.whole)
+    by false told = (codes " The way: " ++ told.0, told.1 ∙ append_assoc (refusal_text e) (codes " The way: ") told.0)

@@ -1,5 +1,5 @@
 -- The listing of a program, and what is told of a program.
-use Rattle.std.specs.Prelude.{◌≡◌, ◌⊎◌, ℕ, ◌+◌, ◌-◌, ◌<◌, ◌≤◌, ◌==◌, max, nat_lt, List, [], ◌∷◌, ◌++◌, length, take, replicate, codes, decimal, Option, Some, None, if◌then◌else◌}
+use Rattle.std.specs.Prelude.{◌≡◌, ◌⊎◌, ℕ, ◌+◌, ◌-◌, ◌<◌, ◌≤◌, ◌==◌, max, nat_le, nat_lt, Bool, List, [], ◌∷◌, ◌++◌, length, take, replicate, codes, decimal, Option, Some, None, MatchBool, if◌then◌else◌}
 use Rattle.std.specs.List.{concat}
 use Rattle.insn.specs.declared.instruction.Form.{Form}
 use Rattle.insn.specs.declared.instruction.TheConstants.{MAX_SLOTS}
@@ -9,6 +9,7 @@ use Rattle.maps.specs.declared.shapes.Shape.{Shape}
 use Rattle.maps.specs.Shapes.{AreShapesSupported}
 use Rattle.maps.specs.declared.shapes.TheConstants.{MAX_ARG_LEN}
 use Rattle.verifier.specs.declared.refusal.Refused.{Refused}
+use Rattle.verifier.specs.declared.refusal.VerifyFault.{VerifyFault}
 use Rattle.verifier.specs.Numbers.{fault_number}
 use Rattle.verifier.specs.Signature.{Signature, signature}
 use Rattle.verifier.specs.Verdict.{lowest_refusal, verdict}
@@ -97,10 +98,30 @@ pub record IsListing (p : List Form) (kinds verdict : Option Refused) (text : Li
 abbrev pub AddsListing : List Form → Option Refused → Option Refused → List ℕ → List ℕ → Type 0
 AddsListing p kinds verdict old new = size p ≤ MAX_SLOTS → Adds (IsListing p kinds verdict) old new
 
--- nothing of a program that is accepted; of another first its refusal
-abbrev pub IsReason : Option Refused → List ℕ → Type 0
-IsReason None text = text ≡ []
-IsReason (Some e) text = BeginsWith (refusal_text e) text
+-- the rule is one of the structure: V1 to V5
+abbrev pub is_structural : VerifyFault → Bool
+is_structural why = nat_le (fault_number why) 5
+
+-- a refusal by kinds: under which rule and where, and then the way there
+abbrev pub TellsKinds : Refused → List ℕ → Type 0
+TellsKinds e text = BeginsWith (refusal_text e ++ codes " The way: ") text
+
+-- the refusal by kinds of a program whose structure is refused, if it has one
+abbrev pub TellsSecond : Option Refused → List ℕ → Type 0
+TellsSecond None text = text ≡ []
+TellsSecond (Some kinds) text = TellsKinds kinds text
+
+-- a refusal of the structure: under which rule and where, on lines of its own what is wrong, and behind these the refusal by kinds
+pub record TellsStructure (e : Refused) (kinds : Option Refused) (text : List ℕ) : Type 0 where
+  pub advice : List ℕ
+  pub second : List ℕ
+  pub whole : text ≡ concat (refusal_text e ∷ codes "\n      " ∷ advice ∷ codes "\n" ∷ second ∷ [])
+  pub by_kinds : TellsSecond kinds second
+
+-- why a program with this refusal by kinds and this verdict is refused: nothing where it is accepted
+abbrev pub IsReason : Option Refused → Option Refused → List ℕ → Type 0
+IsReason kinds None text = text ≡ []
+IsReason kinds (Some e) text = MatchBool (is_structural e.why) (TellsStructure e kinds text) (TellsKinds e text)
 
 -- the refusal of a program by kinds alone, whatever its structure
 abbrev pub kinds_refusal : List Form → Signature → Option Refused
@@ -111,7 +132,7 @@ pub record Tells (p : List Form) (l : Signature) (text : List ℕ) : Type 0 wher
   pub listing : List ℕ
   pub reason : List ℕ
   pub lists : IsListing p (kinds_refusal p l) (verdict p l) listing
-  pub refuses : IsReason (verdict p l) reason
+  pub refuses : IsReason (kinds_refusal p l) (verdict p l) reason
   pub whole : text ≡ listing ++ reason
 
 -- what is told of the program of the line with this number, for these maps: which one it is, and this of it
@@ -126,7 +147,12 @@ signature_of s = signature s.shapes.now s.arg_len s.mode
 abbrev pub verdict_on : Subject → Option Refused
 verdict_on s = verdict s.program.now (signature_of s)
 
--- the program has at most 4,096 slots, and a store may have such maps, and such an argument
+-- a store may have such maps, and such an argument
+pub record FitsStore (s : Subject) : Type 0 where
+  pub shapes : AreShapesSupported s.shapes.now
+  pub argument : s.arg_len ≤ MAX_ARG_LEN
+
+-- and the program has at most 4,096 slots
 pub record CanBeJudged (s : Subject) : Type 0 where
   pub shapes : AreShapesSupported s.shapes.now
   pub argument : s.arg_len ≤ MAX_ARG_LEN
@@ -135,3 +161,10 @@ pub record CanBeJudged (s : Subject) : Type 0 where
 -- what is told of a program
 abbrev pub Explains : Subject → List ℕ → Type 0
 Explains s text = TellsOf s.line (line_of s) s.shapes.now s.program.now text
+
+-- what is told of a program with more slots: which one it is, its lines, of which no more is said here, and why it is refused
+pub record ExplainsLong (s : Subject) (text : List ℕ) : Type 0 where
+  pub listing : List ℕ
+  pub reason : List ℕ
+  pub refuses : IsReason None (verdict_on s) reason
+  pub whole : text ≡ head_text s.line (line_of s) ++ (listing ++ reason)

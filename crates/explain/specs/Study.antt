@@ -1,5 +1,5 @@
 -- What a study knows. Clauses of private functions alone cite this.
-use Rattle.std.specs.Prelude.{◌≡◌, ℕ, ◌<◌, ◌≤◌, List}
+use Rattle.std.specs.Prelude.{◌≡◌, ℕ, ◌<◌, ◌≤◌, List, None}
 use Rattle.insn.specs.declared.instruction.Form.{Form}
 use Rattle.insn.specs.declared.instruction.TheConstants.{MAX_SLOTS}
 use Rattle.insn.specs.Layout.{size}
@@ -11,10 +11,11 @@ use Rattle.explain.specs.Listing.{kinds_refusal, signature_of, Lists}
 use Rattle.explain.specs.Slots.{falls_into, told_upto}
 use Rattle.explain.specs.Told.{Adds}
 
--- the study's frames are the joined ones, up to the refusal by kinds, and that is the program's
+-- the study's frames are the joined ones, up to the refusal by kinds, and that is the program's; none where the program is too long
 pub record IsStudy (s : Study) : Type 0 where
   pub frames : HasGoodSize s.subject.program.now → AreKnown s.subject.program.now s.known.kinds s.known.frames.items
   pub kinds : size s.subject.program.now ≤ MAX_SLOTS → s.known.kinds ≡ kinds_refusal s.subject.program.now (signature_of s.subject)
+  pub no_kinds : MAX_SLOTS < size s.subject.program.now → s.known.kinds ≡ None
 
 -- the slot is one of a program that can be judged
 pub record HasSlot (s : Study) (slot : ℕ) : Type 0 where

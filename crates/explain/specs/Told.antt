@@ -1,9 +1,13 @@
--- What what is told begins with, and where it stands.
+-- With what a text begins and ends that is told, and where it stands.
 use Rattle.std.specs.Prelude.{◌≡◌, ℕ, Bool, true, false, List, [], ◌++◌}
 
 -- the text begins with these words
 abbrev pub BeginsWith : List ℕ → List ℕ → Type 0
 BeginsWith words told = (more : List ℕ) × (told ≡ words ++ more)
+
+-- the text ends with these words
+abbrev pub EndsWith : List ℕ → List ℕ → Type 0
+EndsWith words told = (before : List ℕ) × (told ≡ before ++ words)
 
 -- the text begins with these words if that is so, and else it is empty
 abbrev pub BeginsIf : Bool → List ℕ → List ℕ → Type 0

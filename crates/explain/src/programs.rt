@@ -1,12 +1,12 @@
 // Programs by their slots: what is known there, and the ways that lead there.
 
-ghost use Rattle.std.specs.Prelude.{◌≡◌, ◌↔◌, ◌<◌, ◌≤◌, ◌++◌, ◌∷◌, [], ℕ, pos, Some, if◌then◌else◌, option_map, IfOk, IfSome, IsOk, IsSome, OnOk};
+ghost use Rattle.std.specs.Prelude.{◌≡◌, ◌↔◌, ◌<◌, ◌≤◌, ◌++◌, ◌∷◌, [], ℕ, pos, None, Some, if◌then◌else◌, option_map, IfOk, IfSome, IsOk, IsSome, OnOk};
 ghost use Rattle.insn.specs.declared.instruction.TheConstants.{MAX_SLOTS};
 ghost use Rattle.insn.specs.Layout.{size, LeadsTo};
 ghost use Rattle.maps.specs.Shapes.{AreShapesSupported};
 ghost use Rattle.maps.specs.declared.shapes.TheConstants.{MAX_ARG_LEN};
 ghost use Rattle.verifier.specs.Joined.{frame_in, leads};
-ghost use Rattle.explain.specs.Listing.{verdict_on};
+ghost use Rattle.explain.specs.Listing.{verdict_on, FitsStore};
 ghost use Rattle.explain.specs.Slots.{byte_in, cell_in, kind_in, line_above, slots_into};
 ghost use Rattle.explain.specs.Study.{known_falls, HasSlot, IsStudy};
 
@@ -205,6 +205,7 @@ impl<'a> Study<'a> {
     // What is known of a program; nothing where no store has such maps or arguments.
     pub(crate) fn of(alloc: Global, subject: Subject<'a>) -> Result<Option<Study<'a>>, AllocError>
         ensures some { AreShapesSupported subject.entry.shapes.now → subject.entry.arg_len ≤ MAX_ARG_LEN → IfOk result IsSome }
+        ensures none { (FitsStore subject.entry → ⊥) → IfOk result (λ o. o ≡ None) }
         ensures same { IfOk result (λ o. IfSome o (λ s. s.subject ≡ subject.entry)) }
         ensures refused { IfOk result (λ o. IfSome o (λ s. s.known.refused ≡ verdict_on subject.entry)) }
         ensures known { IfOk result (λ o. IfSome o IsStudy) }

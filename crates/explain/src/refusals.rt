@@ -1,8 +1,9 @@
 // Why a program is refused, in words: what broke, and what to do about it.
 
-ghost use Rattle.std.specs.Prelude.{◌≡◌, ◌++◌, ℕ, List, IfOk, OnOk};
+ghost use Rattle.std.specs.Prelude.{◌≡◌, ◌++◌, is_some, IfOk, OnOk};
 ghost use Rattle.std.specs.String.{string_bytes};
-ghost use Rattle.explain.specs.Listing.{refusal_text, IsReason};
+ghost use Rattle.explain.specs.Listing.{is_structural, refusal_text, IsReason, TellsKinds, TellsSecond, TellsStructure};
+ghost use Rattle.explain.specs.Told.{Adds};
 
 mod memory;
 mod registers;
@@ -169,7 +170,9 @@ fn end_reason(study: &Study<'_>, slot: usize) -> Advice<'static> {
 pub(crate) fn broken_structure(
     study: &Study<'_>,
     refused: Refused,
-) -> Result<Option<Advice<'static>>, AllocError> {
+) -> Result<Option<Advice<'static>>, AllocError>
+    ensures { IfOk result (λ o. is_some o ≡ is_structural refused.why) }
+{
     let slot = refused.slot as usize;
     Ok(match refused.why {
         TargetOutside | TargetNotForward | TargetInsideWide => Some(wrong_jump(study, refused)?),
@@ -200,29 +203,43 @@ fn advice_on(way: &Way<'_>, why: VerifyFault) -> Advice<'static> {
     broken_kinds(way, why).unwrap_or(rule)
 }
 
-// Adds the way to a refusal by kinds, and what is told of it.
-fn put_way(out: &mut String, study: &Study<'_>, refused: Refused) -> Written {
+// The way to a refusal by kinds, and what is told of it.
+fn way_text(study: &Study<'_>, refused: Refused) -> Result<String, AllocError> {
     let way = way_to(study, refused)?;
-    out.push_str(" The way: ")?;
-    way.put(out)?;
+    let mut out = String::new(study.alloc);
+    way.put(&mut out)?;
     out.push_str(".\n      ")?;
-    advice_on(&way, refused.why).put(out, TO_DO)
+    advice_on(&way, refused.why).put(&mut out, TO_DO)?;
+    Ok(out)
 }
 
-// What is told of a refusal behind its number: where it is by structure, also that by kinds, as far as these are known.
-fn reason_text(study: &Study<'_>, refused: Refused) -> Result<String, AllocError> {
-    let mut out = String::new(study.alloc);
-    let Some(told) = broken_structure(study, refused)? else {
-        put_way(&mut out, study, refused)?;
-        return Ok(out);
-    };
-    out.push_str("\n      ")?;
-    told.put(&mut out, TO_DO)?;
-    if let Some(kinds) = study.known.kinds {
-        put_number(&mut out, kinds)?;
-        put_way(&mut out, study, kinds)?;
+// Adds a refusal by kinds: its number, the way there, and what is told of it.
+fn put_kinds(out: &mut String, study: &Study<'_>, refused: Refused) -> Written
+    ensures { OnOk result (Adds (TellsKinds refused) (string_bytes out.old) (string_bytes out.new)) }
+{
+    let way = way_text(study, refused)?;
+    put_number(out, refused)?;
+    put_all(out, &[" The way: ", way.as_str()])
+}
+
+// Adds the refusal by kinds, if there is one.
+fn put_second(out: &mut String, study: &Study<'_>) -> Written
+    ensures { OnOk result (Adds (TellsSecond study.now.known.kinds) (string_bytes out.old) (string_bytes out.new)) }
+{
+    match study.known.kinds {
+        Some(kinds) => put_kinds(out, study, kinds),
+        None => Ok(()),
     }
-    Ok(out)
+}
+
+// Adds a refusal of the structure: its number and what is told of it, and the refusal by kinds, as far as kinds are known.
+fn put_structure(out: &mut String, study: &Study<'_>, refused: Refused, told: Advice<'_>) -> Written
+    ensures { OnOk result (Adds (TellsStructure refused study.now.known.kinds) (string_bytes out.old) (string_bytes out.new)) }
+{
+    let told = told.text(study.alloc, TO_DO)?;
+    put_number(out, refused)?;
+    put_all(out, &["\n      ", told.as_str()])?;
+    put_second(out, study)
 }
 
 /// Why a program is refused.
@@ -262,12 +279,13 @@ impl Reason {
 
 // Adds why the program is refused, if it is.
 pub(crate) fn put_refusal(out: &mut String, study: &Study<'_>) -> Written
-    ensures { OnOk result ((text : List ℕ) × (string_bytes out.new ≡ string_bytes out.old ++ text) × IsReason study.now.known.refused text) }
+    ensures { OnOk result (Adds (IsReason study.now.known.kinds study.now.known.refused) (string_bytes out.old) (string_bytes out.new)) }
 {
     let Some(refused) = study.known.refused else {
         return Ok(());
     };
-    let reason = reason_text(study, refused)?;
-    put_number(out, refused)?;
-    out.push_str(reason.as_str())
+    match broken_structure(study, refused)? {
+        Some(told) => put_structure(out, study, refused, told),
+        None => put_kinds(out, study, refused),
+    }
 }

@@ -1,9 +1,10 @@
 // How it is said: texts with gaps, and what stands in these. They are data: so an arm of a wide match says one and writes nothing, and one function
 // writes them all. What a proof keeps of an arm that writes grows with the ways out of its function.
 
-ghost use Rattle.std.specs.Prelude.{◌≡◌, ◌++◌, [], ◌∷◌, decimal, map, OnOk};
+ghost use Rattle.std.specs.Prelude.{◌≡◌, ◌++◌, [], ◌∷◌, codes, decimal, map, IfOk, OnOk};
 ghost use Rattle.std.specs.List.{concat};
 ghost use Rattle.std.specs.String.{string_bytes};
+ghost use Rattle.explain.specs.Told.{EndsWith};
 ghost use Rattle.explain.specs.Words.{kind_words, offset_words};
 
 use itoa::Buffer;
@@ -183,14 +184,18 @@ impl<'a> Advice<'a> {
     }
 
     // `put`, but into a new text.
-    pub(crate) fn text(&self, alloc: Global, to_do: &str) -> Result<String, AllocError> {
+    pub(crate) fn text(&self, alloc: Global, to_do: &str) -> Result<String, AllocError>
+        ensures { IfOk result (λ s. EndsWith (codes "\n") (string_bytes s)) }
+    {
         let mut out = String::new(alloc);
         self.put(&mut out, to_do)?;
         Ok(out)
     }
 
     // Adds it and ends the line; what to do stands behind this.
-    pub(crate) fn put(&self, out: &mut String, to_do: &str) -> Written {
+    pub(crate) fn put(&self, out: &mut String, to_do: &str) -> Written
+        ensures { OnOk result (EndsWith (codes "\n") (string_bytes out.new)) }
+    {
         for text in &self.texts {
             let (what, fix) = text.split_once('|').unwrap_or((*text, ""));
             put(out, what, &self.words)?;

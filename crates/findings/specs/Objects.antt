@@ -39,7 +39,7 @@ abbrev pub program_members : Option ProgramLine → List Token
 program_members None = []
 program_members (Some p) = text_member (codes "program") p.name.now ++ text_member (codes "file") p.file.now
 
--- the rule, the slot, a way that leads there, what is wrong, and what to do
+-- the rule, the slot, a list of slots and two texts, of which nothing more is said
 abbrev pub reason_members : Reason → List Token
 reason_members r =
     rule_member (codes "V") (verifying.fault_number r.refused.why)

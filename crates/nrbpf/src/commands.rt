@@ -13,12 +13,13 @@ mod schedule_command;
 mod serve_command;
 mod stress_command;
 
+use crate::progress::Screen;
 use crate::tasks::{Call, Task};
 use clap::{ArgMatches, Command};
 use engine::{Folder, Inputs, Status};
 use std::alloc::{AllocError, Global};
-use std::io::{Eprint, Input, Read, Write};
-use std::rt::{Clock, Files};
+use std::io::{Input, Read, Write};
+use std::rt::Files;
 use std::sync::Wait;
 use std::thread::Threads;
 
@@ -98,7 +99,7 @@ pub fn task_of<'a>(name: &str, matches: &ArgMatches<'a>) -> Option<Task<'a>> {
 
 /// Does what a call asks for. Reads from `inputs` and writes to `writer`.
 pub fn perform<
-    R: Files + Input + AllocGlobal + Eprint + Threads + Wait + Clock + Sync,
+    R: Files + Input + AllocGlobal + Threads + Wait + Screen + Sync,
     F: Folder,
     I: Read + Drop,
     W: Write,

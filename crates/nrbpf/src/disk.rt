@@ -3,9 +3,10 @@
 ghost use Rattle.std.specs.Prelude.{⊤, IfOk};
 ghost use Rattle.std.specs.Counts.{IsPrefixLen};
 
+use crate::progress::{Progress, Screen};
 use engine::Folder;
 use std::io::{Eprint, Input, Read};
-use std::rt::Files;
+use std::rt::{Clock, Files};
 use std::{fs, io};
 
 /// The path of standard input, and in an option of standard output.
@@ -70,19 +71,32 @@ enum Opened<F: Drop, I: Drop> {
 
 /// A file that is opened at its first read. So the files that are read before it are judged first. The path `-` is standard input.
 #[derive(Drop)]
-pub struct LateFile<'a, R: Files + Input + Eprint> {
+pub struct LateFile<'a, R: Files + Input + Screen> {
     rt: &'a R,
     path: &'a str,
     opened: Option<Opened<R::File, R::Reader>>,
+    // How far it is read; `None` for lines that are answered while they arrive.
+    progress: Option<Progress<'a, R>>,
 }
 
-impl<'a, R: Files + Input + Eprint> LateFile<'a, R> {
-    /// The file of this path.
-    pub fn new(rt: &'a R, path: &'a str) -> LateFile<'a, R> {
+impl<'a, R: Files + Input + Screen> LateFile<'a, R> {
+    /// Lines that are answered while they arrive on standard input.
+    pub fn lines(rt: &'a R) -> LateFile<'a, R> {
+        LateFile {
+            rt,
+            path: DASH,
+            opened: None,
+            progress: None,
+        }
+    }
+
+    // The file of this path.
+    fn new(rt: &'a R, path: &'a str) -> LateFile<'a, R> {
         LateFile {
             rt,
             path,
             opened: None,
+            progress: Some(Progress::new(rt, path, "read")),
         }
     }
 
@@ -91,6 +105,15 @@ impl<'a, R: Files + Input + Eprint> LateFile<'a, R> {
         match path {
             Some(path) => Some(LateFile::new(rt, path)),
             None => None,
+        }
+    }
+
+    // So many bytes more are read; none at its end.
+    fn note(&mut self, count: usize) {
+        match &mut self.progress {
+            Some(progress) if count == 0 => progress.end(),
+            Some(progress) => progress.add(count),
+            None => {}
         }
     }
 
@@ -118,16 +141,19 @@ impl<'a, R: Files + Input + Eprint> LateFile<'a, R> {
     }
 }
 
-impl<R: Files + Input + Eprint> Read for LateFile<'_, R> {
+impl<R: Files + Input + Screen> Read for LateFile<'_, R> {
     fn read(&mut self, buf: &mut [u8]) -> io::Result<usize> {
         let read = self.read_some(buf);
-        if let Err(error) = &read {
-            let name = if self.path == DASH {
-                "standard input"
-            } else {
-                self.path
-            };
-            say(self.rt, name, error);
+        match &read {
+            Ok(count) => self.note(*count),
+            Err(error) => {
+                let name = if self.path == DASH {
+                    "standard input"
+                } else {
+                    self.path
+                };
+                say(self.rt, name, error);
+            }
         }
         read
     }

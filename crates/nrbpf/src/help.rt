@@ -1,6 +1,6 @@
 // The program's help and version.
 
-/// The day of the newest change that a user notices (CHANGELOG).
+/// The version of the newest change that a user notices (CHANGELOG).
 pub const VERSION: &str = "2.4.0";
 
 /// The text after the program's commands and options.

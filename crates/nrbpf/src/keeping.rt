@@ -13,7 +13,7 @@ use engine::{
 use std::io::{Eprint, Read, Write};
 
 /// Does a command, and says its notes on standard error.
-pub fn act<R: AllocGlobal + Eprint, C: Command, F: Folder, I: Read + Drop, W: Write>(
+pub fn perform_noting<R: AllocGlobal + Eprint, C: Command, F: Folder, I: Read + Drop, W: Write>(
     rt: &R,
     command: &C,
     telling: Telling,

@@ -7,23 +7,25 @@ mod disk;
 mod help;
 mod keeping;
 mod output;
+mod progress;
 mod tasks;
 
 use commands::perform;
 use disk::{Disk, LateFile, say};
 use engine::{Inputs, Status};
 use output::Output;
+use progress::Screen;
 use std::env::{self, Env};
 use std::io::{self, Eprint, Input, Print};
 use std::process::ExitCode;
-use std::rt::{Clock, Files};
+use std::rt::Files;
 use std::sync::Wait;
 use std::thread::Threads;
 use tasks::{Call, say_sizes};
 
 // Answers a call on standard output, from the files that the call names. Says on standard error what it could not say there. A file that the
 // task does not read is not opened.
-fn answer<R: Files + Input + Print + Eprint + AllocGlobal + Threads + Wait + Clock + Sync>(
+fn answer<R: Files + Input + Print + AllocGlobal + Threads + Wait + Screen + Sync>(
     rt: &R,
     call: &Call,
 ) -> Status {

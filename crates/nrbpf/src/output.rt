@@ -1,6 +1,7 @@
 // Where a command writes: standard output, standard error and files.
 
-use crate::disk::say;
+use crate::disk::{DASH, say};
+use crate::progress::{Progress, Screen};
 use dumps::StateText;
 use engine::{Handed, ReadFault, Reply, Sink, Status, report};
 use std::alloc::{AllocError, Global};
@@ -72,11 +73,16 @@ impl<'a> Target<'a> {
         }
     }
 
+    // How far the file is written.
+    fn progress<'r, R: Screen>(&'r self, rt: &'r R) -> Progress<'r, R> {
+        Progress::new(rt, self.path, "written")
+    }
+
     // Writes a file next to that of the path, and then renames it to the path.
-    fn replace<R: Files>(&self, rt: &R, text: &mut Handed) -> io::Result<()> {
+    fn replace<R: Files + Screen>(&self, rt: &R, text: &mut Handed) -> io::Result<()> {
         let part = self.part.as_str();
         let mut file = fs::create(rt, part)?;
-        let written = match write_text(&mut file, text) {
+        let written = match write_text(&mut file, text, &mut self.progress(rt)) {
             Ok(()) => fs::rename(rt, part, self.path),
             Err(error) => Err(error),
         };
@@ -87,15 +93,19 @@ impl<'a> Target<'a> {
     }
 
     // Puts a text at the path. A plain file is replaced whole, or keeps its bytes. A link, a device or a pipe is written itself.
-    fn save<R: Files>(&self, rt: &R, text: &mut Handed) -> io::Result<()> {
+    fn save<R: Files + Screen>(&self, rt: &R, text: &mut Handed) -> io::Result<()> {
         match fs::symlink_metadata(rt, self.path) {
-            Ok(found) if !found.is_file() => write_text(&mut fs::create(rt, self.path)?, text),
+            Ok(found) if !found.is_file() => write_text(
+                &mut fs::create(rt, self.path)?,
+                text,
+                &mut self.progress(rt),
+            ),
             _ => self.replace(rt, text),
         }
     }
 
-    // Puts a text into the file. No text goes to the path `-` so: it is in what the command writes.
-    fn put<R: Files + Eprint>(&self, rt: &R, text: &mut Handed) -> Status {
+    // Puts a text into the file.
+    fn put<R: Files + Screen>(&self, rt: &R, text: &mut Handed) -> Status {
         match self.save(rt, text) {
             Ok(()) => Status::Good,
             Err(error) => {
@@ -107,27 +117,37 @@ impl<'a> Target<'a> {
 }
 
 // Writes the text of a state, piece by piece.
-fn write_pieces<W: Write>(writer: &mut W, text: &mut StateText) -> io::Result<()> {
+fn write_pieces<R: Screen, W: Write>(
+    writer: &mut W,
+    text: &mut StateText,
+    progress: &mut Progress<'_, R>,
+) -> io::Result<()> {
     let mut room = [0u8; PIECE_BYTES];
     loop {
         let count = text.read(&mut room);
         if count == 0 {
+            progress.end();
             return Ok(());
         }
         writer.write_all(&room[..count])?;
+        progress.add(count);
     }
 }
 
 // Writes a text.
-fn write_text<W: Write>(writer: &mut W, text: &mut Handed) -> io::Result<()> {
+fn write_text<R: Screen, W: Write>(
+    writer: &mut W,
+    text: &mut Handed,
+    progress: &mut Progress<'_, R>,
+) -> io::Result<()> {
     match text {
         Handed::Text(text) => writer.write_all(text),
-        Handed::State(text) => write_pieces(writer, text),
+        Handed::State(text) => write_pieces(writer, text, progress),
     }
 }
 
 /// Puts a text into its file, if there are both and all is well so far.
-pub fn put_after<R: Files + Eprint>(
+pub fn put_after<R: Files + Screen>(
     rt: &R,
     status: Status,
     target: &Option<Target<'_>>,
@@ -136,6 +156,25 @@ pub fn put_after<R: Files + Eprint>(
     match (target, text) {
         (Some(target), Some(mut text)) if status == Status::Good => target.put(rt, &mut text),
         _ => status,
+    }
+}
+
+/// Puts the text of a state into its file, or behind all that is written if the path is `-`, if there are both and all is well so far.
+pub fn put_state<R: Files + Screen, W: Write>(
+    rt: &R,
+    status: Status,
+    target: &Option<Target<'_>>,
+    text: Option<Handed>,
+    writer: &mut W,
+) -> Status {
+    match (target, text) {
+        (Some(target), Some(mut text)) if status == Status::Good && target.path == DASH => {
+            match write_text(writer, &mut text, &mut target.progress(rt)) {
+                Ok(()) => Status::Good,
+                Err(_) => Status::CannotWrite,
+            }
+        }
+        (_, text) => put_after(rt, status, target, text),
     }
 }
 

@@ -11,17 +11,26 @@ use running::Run;
 use serving::ServeOptions;
 use std::io::Eprint;
 
+/// What `explain` writes.
+#[derive(Clone, Copy)]
+pub enum Form {
+    /// Sentences.
+    Words,
+    /// Sentences, after the maps that each program names.
+    WordsWithMaps,
+    /// A graph for Graphviz.
+    Graph,
+    /// A JSON object for each cause of a refusal.
+    Json,
+}
+
 /// Which programs of a manifest are explained, and how.
 #[derive(Clone, Copy)]
 pub struct Explaining<'a> {
     /// The name of the only program to explain.
     pub name: Option<&'a str>,
-    /// Whether the programs are drawn.
-    pub is_graph: bool,
-    /// Whether the answer has the maps that each program names.
-    pub has_maps: bool,
-    /// Whether the answer is a JSON object for each finding.
-    pub is_json: bool,
+    /// What the answer is.
+    pub form: Form,
 }
 
 /// What is run, and how.

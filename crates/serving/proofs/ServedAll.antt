@@ -21,7 +21,7 @@ use Rattle.engine.specs.Report.{Sends, answer_of}
 use Rattle.engine.specs.Texts.{no_memory_line}
 use Rattle.engine.proofs.Export.{reports}
 use Rattle.serving.specs.declared.service.Service.{Service}
-use Rattle.serving.specs.Serving.{IsServiceOf, Stands}
+use Rattle.serving.specs.ServiceKept.{IsServiceOf, Stands}
 use Rattle.serving.specs.ServeAnswer.{Ports, Serves, ServesAll, served_text, nothing_served, service}
 use Rattle.serving.proofs.Served.{none_served}
 use Rattle.serving.proofs.Turned.{between, appends_none, appends_kept, consumes_none, never_good, no_memory_at, none_given, state_served}

@@ -6,18 +6,18 @@ use Rattle.std.proofs.lemmas.List.{append-nil}
 use Rattle.std.proofs.lemmas.Bool.{eqb-false}
 use Rattle.text.specs.Lines.{lines_of}
 use Rattle.loader.specs.CatalogueView.{CatalogueView}
-use Rattle.serving.specs.ServeAnswer.{Serving, Served, served, served_behind, turn_at, behind_line}
+use Rattle.serving.specs.ServeAnswer.{ServiceState, Served, served, served_after, turn_at, after_line}
 use Rattle.serving.specs.ServeLaws.{EachLineEnds}
-use Rattle.serving.specs.Serving.{with_byte}
+use Rattle.serving.specs.ServiceKept.{with_byte}
 
 -- this line is at hand
-abbrev pub at_line : Serving → List ℕ → Serving
+abbrev pub at_line : ServiceState → List ℕ → ServiceState
 at_line s line = record s { left = line }
 
 -- what lines make a service write, and what is known after them
-abbrev pub lines_served : CatalogueView → Serving → List (List ℕ) → Served
+abbrev pub lines_served : CatalogueView → ServiceState → List (List ℕ) → Served
 lines_served c s [] = record { text = []; serving = s }
-lines_served c s (l ∷ ls) = served_behind (turn_at c (at_line s l)).text (lines_served c (behind_line c (at_line s l)) ls)
+lines_served c s (l ∷ ls) = served_after (turn_at c (at_line s l)).text (lines_served c (after_line c (at_line s l)) ls)
 
 -- a beginning of the first line
 abbrev onto : List ℕ → List (List ℕ) → List (List ℕ)
@@ -56,35 +56,35 @@ ends_behind (x ∷ []) = refl
 ends_behind (x ∷ y ∷ front) = ends_behind (y ∷ front)
 
 -- a byte, from what is so after it
-module _ (c : CatalogueView) (s : Serving) (b : ℕ) (bs : List ℕ) where
-  at_feed : served c (behind_line c s) bs ≡ lines_served c (behind_line c s) (lines_of bs)
-      → served_behind (turn_at c s).text (served c (behind_line c s) bs) ≡ lines_served c s ((s.left ++ []) ∷ lines_of bs)
+module _ (c : CatalogueView) (s : ServiceState) (b : ℕ) (bs : List ℕ) where
+  at_feed : served c (after_line c s) bs ≡ lines_served c (after_line c s) (lines_of bs)
+      → served_after (turn_at c s).text (served c (after_line c s) bs) ≡ lines_served c s ((s.left ++ []) ∷ lines_of bs)
   at_feed after_it =
-      subst (λ (x : List ℕ). served_behind (turn_at c s).text (served c (behind_line c s) bs) ≡ lines_served c s (x ∷ lines_of bs))
-      (sym (append-nil s.left)) (ap (served_behind (turn_at c s).text) after_it)
+      subst (λ (x : List ℕ). served_after (turn_at c s).text (served c (after_line c s) bs) ≡ lines_served c s (x ∷ lines_of bs))
+      (sym (append-nil s.left)) (ap (served_after (turn_at c s).text) after_it)
 
   longer : (ls : List (List ℕ)) → HasFirst ls → lines_served c (with_byte s b) (onto (s.left ++ b ∷ []) ls) ≡ lines_served c s (onto s.left (onto_first b ls))
   longer [] none = absurd none
   longer (l ∷ ls) first = ap (λ (x : List ℕ). lines_served c s (x ∷ ls)) (append_assoc s.left (b ∷ []) l)
 
   -- the byte ends the line or does not
-  by_byte : (t : Bool) → (t ≡ true → served c (behind_line c s) bs ≡ lines_served c (behind_line c s) (lines_of bs))
+  by_byte : (t : Bool) → (t ≡ true → served c (after_line c s) bs ≡ lines_served c (after_line c s) (lines_of bs))
       → (t ≡ false → HasFirst (lines_of bs) × (served c (with_byte s b) bs ≡ lines_served c (with_byte s b) (onto (s.left ++ b ∷ []) (lines_of bs))))
-      → cond t (served_behind (turn_at c s).text (served c (behind_line c s) bs)) (served c (with_byte s b) bs) ≡ lines_served c s (onto s.left (cond t ([] ∷ lines_of bs) (onto_first b (lines_of bs))))
+      → cond t (served_after (turn_at c s).text (served c (after_line c s) bs)) (served c (with_byte s b) bs) ≡ lines_served c s (onto s.left (cond t ([] ∷ lines_of bs) (onto_first b (lines_of bs))))
   by_byte true ended on = at_feed (ended refl)
   by_byte false ended on = (on refl).1 ∙ longer (lines_of bs) (on refl).0
 
-from_left : (c : CatalogueView) (s : Serving) (bytes : List ℕ) → Ends bytes → served c s bytes ≡ lines_served c s (onto s.left (lines_of bytes))
+from_left : (c : CatalogueView) (s : ServiceState) (bytes : List ℕ) → Ends bytes → served c s bytes ≡ lines_served c s (onto s.left (lines_of bytes))
 unfolding served
 from_left c s [] ends = absurd ends
 from_left c s (b ∷ []) ends = by_byte c s b [] (b == 10) (λ on. refl) (λ off. absurd (eqb-false b 10 off ends))
 from_left c s (b ∷ x ∷ xs) ends =
     by_byte c s b (x ∷ xs) (b == 10)
-    (λ on. from_left c (behind_line c s) (x ∷ xs) ends ∙ ap (lines_served c (behind_line c s)) (onto_nothing (lines_of (x ∷ xs))))
+    (λ on. from_left c (after_line c s) (x ∷ xs) ends ∙ ap (lines_served c (after_line c s)) (onto_nothing (lines_of (x ∷ xs))))
     (λ off. (has_first x xs, from_left c (with_byte s b) (x ∷ xs) ends))
 
 -- there is no text, or its last line ends
-pub all_served : (c : CatalogueView) (s : Serving) (bytes : List ℕ) → s.left ≡ [] → (bytes ≡ []) ⊎ Ends bytes → served c s bytes ≡ lines_served c s (lines_of bytes)
+pub all_served : (c : CatalogueView) (s : ServiceState) (bytes : List ℕ) → s.left ≡ [] → (bytes ≡ []) ⊎ Ends bytes → served c s bytes ≡ lines_served c s (lines_of bytes)
 unfolding served
 all_served c s bytes none (inl is) = subst (λ (x : List ℕ). served c s x ≡ lines_served c s (lines_of x)) (sym is) refl
 all_served c s bytes none (inr ends) =

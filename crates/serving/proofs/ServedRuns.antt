@@ -12,8 +12,8 @@ use Rattle.std.specs.Str.{is_utf8}
 use Rattle.engine.specs.Answer.{Answer}
 use Rattle.running.specs.RunAnswer.{Turn, line_turn, behind, bad_line, lines_answer}
 use Rattle.running.proofs.Export.{limit_is_unfelt}
-use Rattle.serving.specs.ServeAnswer.{Serving, Served, nothing_served, served_text, text_turn, turn_at}
-use Rattle.serving.specs.ServeLaws.{BeginsAs, ServedIsEndless, ServedIsRun}
+use Rattle.serving.specs.ServeAnswer.{ServiceState, Served, nothing_served, served_text, text_turn, turn_at}
+use Rattle.serving.specs.ServeLaws.{BeginsAs, ServedIsRunWithoutEnd, ServedIsRun}
 use Rattle.serving.specs.StoreText.{asks}
 use Rattle.serving.proofs.ServedLines.{lines_served, all_served, ends_so}
 
@@ -38,7 +38,7 @@ not_true false is = refl
 not_true true is = sym is
 
 module _ (c : CatalogueView) (n : ℕ) (h : History) where
-  abbrev at : List ℕ → Serving
+  abbrev at : List ℕ → ServiceState
   at before = record { has_values = false; number = n; history = h; left = before }
 
   is_turn : (line : List ℕ) → is_utf8 line ≡ true → not (asks line) ≡ true → text_turn false c h line ≡ line_turn ENDLESS c h line
@@ -65,7 +65,7 @@ runs_on c n h (l ∷ ls) texts quiet =
     let turn = turn_at c (at c n h l) in
     line_begins c n h l (lines_served c (at c (next_line n) turn.history []) ls).text ls parts.0 asked.0 (runs_on c (next_line n) turn.history ls parts.1 asked.1)
 
-pub served_is_endless : ServedIsEndless
+pub served_is_endless : ServedIsRunWithoutEnd
 served_is_endless c bytes ends texts quiet =
     subst (λ (t : Served). BeginsAs t.text (lines_answer ENDLESS c 1 [] (lines_of bytes))) (sym (all_served c (nothing_served false) bytes refl (ends_so bytes ends)))
     (runs_on c 1 [] (lines_of bytes) texts quiet)

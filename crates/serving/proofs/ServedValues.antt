@@ -14,7 +14,7 @@ use Rattle.loader.specs.CatalogueView.{CatalogueView}
 use Rattle.oplog.specs.declared.configuration.TheConstants.{ENDLESS}
 use Rattle.oplog.specs.History.{History}
 use Rattle.running.specs.RunAnswer.{Turn, bad_line, line_turn}
-use Rattle.serving.specs.ServeAnswer.{Serving, Served, served, served_behind, nothing_served, text_turn}
+use Rattle.serving.specs.ServeAnswer.{ServiceState, Served, served, served_after, nothing_served, text_turn}
 use Rattle.serving.specs.StoreText.{asks}
 use Rattle.serving.specs.ServeLaws.{ServedIsEncoded, IsServedAlike}
 use Rattle.serving.proofs.KeptLines.{one_mark}
@@ -62,18 +62,18 @@ module _ (c : CatalogueView) (h : History) (line written : List ℕ) (text : is_
 -- ---- all lines
 
 -- with values, and as script lines
-abbrev with_values : ℕ → History → Serving
+abbrev with_values : ℕ → History → ServiceState
 with_values n h = record { has_values = true; number = n; history = h; left = [] }
 
-abbrev of_script : ℕ → History → Serving
+abbrev of_script : ℕ → History → ServiceState
 of_script n h = record { has_values = false; number = n; history = h; left = [] }
 
 after_same : (c : CatalogueView) (n : ℕ) (t u : Turn) (ls ms : List (List ℕ)) → t ≡ u
     → ((h : History) → IsServedAlike (lines_served c (with_values n h) ls) (lines_served c (of_script n h) ms))
-    → IsServedAlike (served_behind t.text (lines_served c (with_values n t.history) ls)) (served_behind u.text (lines_served c (of_script n u.history) ms))
+    → IsServedAlike (served_after t.text (lines_served c (with_values n t.history) ls)) (served_after u.text (lines_served c (of_script n u.history) ms))
 after_same c n t u ls ms is on =
     let next = on u.history in
-    subst (λ (x : Turn). IsServedAlike (served_behind x.text (lines_served c (with_values n x.history) ls)) (served_behind u.text (lines_served c (of_script n u.history) ms))) (sym is)
+    subst (λ (x : Turn). IsServedAlike (served_after x.text (lines_served c (with_values n x.history) ls)) (served_after u.text (lines_served c (of_script n u.history) ms))) (sym is)
     (record { text = ap (λ (x : List ℕ). u.text ++ x) next.text; history = next.history })
 
 alike : (c : CatalogueView) (n m : ℕ) (ls : List (List ℕ)) (script : List ℕ) → list_all is_feedless ls ≡ true → list_all is_utf8 ls ≡ true → encoded_from m ls ≡ Ok script

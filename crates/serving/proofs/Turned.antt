@@ -17,8 +17,8 @@ use Rattle.engine.specs.Report.{Sends}
 use Rattle.oplog.specs.declared.configuration.TheConstants.{ENDLESS}
 use Rattle.running.specs.RunAnswer.{state_of}
 use Rattle.running.proofs.Export as run_turns
-use Rattle.serving.specs.ServeAnswer.{Serving, Served, served, served_text, nothing_served, given_back, AnswersBytes, Ports, Serves}
-use Rattle.serving.specs.Serving.{Stands, TakesBytes, Turns, Going}
+use Rattle.serving.specs.ServeAnswer.{ServiceState, Served, served, served_text, nothing_served, given_back, AnswersBytes, Ports, Serves}
+use Rattle.serving.specs.ServiceKept.{Stands, TakesBytes, Turns, Going}
 use Rattle.serving.proofs.Served.{served_parts, none_served}
 
 -- the state that the lines of an input leave which are answered
@@ -92,7 +92,7 @@ none_given now new got s (inr broke) = subst (λ (x : Status). None ≡ given_ba
 
 -- ---- one turn
 
-module _ (c : CatalogueView) (s : Serving) (service : Service) (given left : Option (List ℕ)) where
+module _ (c : CatalogueView) (s : ServiceState) (service : Service) (given left : Option (List ℕ)) where
   nothing_written : (old new : Option (List ℕ)) → Appends old new [] → Appends old new (served c s []).text
   nothing_written old new a = subst (λ (t : Served). Appends old new t.text) (sym (none_served c s)) a
 
@@ -135,7 +135,7 @@ module _ (c : CatalogueView) (s : Serving) (service : Service) (given left : Opt
 -- ---- turn after turn
 
 module _ (v : Bool) (c : CatalogueView) (before : List ℕ) where
-  abbrev here : Serving
+  abbrev here : ServiceState
   here = (served c (nothing_served v) before).serving
 
   text_both : (bytes : List ℕ) → served_text v c before ++ (served c here bytes).text ≡ served_text v c (before ++ bytes)
@@ -168,7 +168,7 @@ going_first v c service given old stands =
     }
 
 module _ (v : Bool) (c at_turn : CatalogueView) (same : at_turn ≡ c) (service after : Service) (given left rest old now new : Option (List ℕ)) (going : Going v c service (between given left old now)) where
-  pub goes_on : ((s : Serving) → Stands s service → Turns at_turn s after (between left rest now new) None) → Going v c after (between given rest old new)
+  pub goes_on : ((s : ServiceState) → Stands s service → Turns at_turn s after (between left rest now new) None) → Going v c after (between given rest old new)
   goes_on turns =
       let turn : Turns c (served c (nothing_served v) going.bytes).serving after (between left rest now new) None =
       subst (λ (x : CatalogueView). Turns x (served c (nothing_served v) going.bytes).serving after (between left rest now new) None) same (turns _ going.stands) in
@@ -199,7 +199,7 @@ module _ (v : Bool) (c at_turn : CatalogueView) (same : at_turn ≡ c) (service 
   back statuses.Differs bytes state at kept none is = is
 
   pub ends_so : (status : Status) (ended : ServeEnd) → ended.status ≡ status → service.catalogue ≡ c → (Some status ≡ Some statuses.Good → after ≡ service)
-      → ended.state ≡ given_back status after.node.own.replica.state → ((s : Serving) → Stands s service → Turns at_turn s after (between left rest now new) (Some status)) → Serves v c (between given rest old new) ended
+      → ended.state ≡ given_back status after.node.own.replica.state → ((s : ServiceState) → Stands s service → Turns at_turn s after (between left rest now new) (Some status)) → Serves v c (between given rest old new) ended
   ends_so status ended told at kept given_state turns =
       let turn : Turns c (served c (nothing_served v) going.bytes).serving after (between left rest now new) (Some status) =
       subst (λ (x : CatalogueView). Turns x (served c (nothing_served v) going.bytes).serving after (between left rest now new) (Some status)) same (turns _ going.stands) in

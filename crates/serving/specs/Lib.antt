@@ -5,4 +5,4 @@ pub mod StoreText
 -- Laws: how an input is cut, and what is served of a text that could be run.
 pub mod ServeLaws
 -- The steps between reading and writing.
-pub mod Serving
+pub mod ServiceKept

@@ -27,13 +27,13 @@ use Rattle.engine.specs.Engine.{Reports}
 -- ---- lines as they end
 
 -- what is known between two bytes: whether calls have values, the number of the line at hand, the history before it, and what came of it so far
-pub record Serving : Type 0 where
+pub record ServiceState : Type 0 where
   pub has_values : Bool
   pub number : ℕ
   pub history : History
   pub left : List ℕ
 
-abbrev pub nothing_served : Bool → Serving
+abbrev pub nothing_served : Bool → ServiceState
 nothing_served has_values = record { has_values = has_values; number = 1; history = []; left = [] }
 
 -- the line of a script that a line says: the line itself, or if calls have values the one that `encode` makes of it
@@ -53,26 +53,26 @@ text_turn has_values c history line =
     else None
 
 -- the turn of the line at hand, when it ends; a bad line writes that it is, and the history stays
-abbrev pub turn_at : CatalogueView → Serving → Turn
+abbrev pub turn_at : CatalogueView → ServiceState → Turn
 turn_at c s = unwrap_or (text_turn s.has_values c s.history s.left) (record { text = (bad_line s.number).text; history = s.history })
 
 -- the line behind it is at hand then
-abbrev pub behind_line : CatalogueView → Serving → Serving
-behind_line c s = record s { number = next_line s.number; history = (turn_at c s).history; left = [] }
+abbrev pub after_line : CatalogueView → ServiceState → ServiceState
+after_line c s = record s { number = next_line s.number; history = (turn_at c s).history; left = [] }
 
 -- what bytes make a service write, and what stands behind them
 pub record Served : Type 0 where
   pub text : List ℕ
-  pub serving : Serving
+  pub serving : ServiceState
 
 -- with this text before
-abbrev pub served_behind : List ℕ → Served → Served
-served_behind text t = record { text = text ++ t.text; serving = t.serving }
+abbrev pub served_after : List ℕ → Served → Served
+served_after text t = record { text = text ++ t.text; serving = t.serving }
 
 -- a line feed ends a line, which then is answered; a last line that has none is not
-unfoldable pub served : CatalogueView → Serving → List ℕ → Served
+unfoldable pub served : CatalogueView → ServiceState → List ℕ → Served
 served c s [] = record { text = []; serving = s }
-served c s (b ∷ bs) = if b == 10 then served_behind (turn_at c s).text (served c (behind_line c s) bs) else served c (record s { left = s.left ++ b ∷ [] }) bs
+served c s (b ∷ bs) = if b == 10 then served_after (turn_at c s).text (served c (after_line c s) bs) else served c (record s { left = s.left ++ b ∷ [] }) bs
 
 -- what a catalogue's programs answer to an input of script lines, or of calls with values
 abbrev pub served_text : Bool → CatalogueView → List ℕ → List ℕ

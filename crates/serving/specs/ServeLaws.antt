@@ -11,11 +11,11 @@ use Rattle.engine.specs.Answer.{Answer}
 use Rattle.running.specs.RunAnswer.{lines_answer}
 use Rattle.running.specs.LimitLaws.{lines_reached}
 use Rattle.serving.specs.StoreText.{asks}
-use Rattle.serving.specs.ServeAnswer.{Serving, Served, nothing_served, served, served_behind, served_text}
+use Rattle.serving.specs.ServeAnswer.{ServiceState, Served, nothing_served, served, served_after, served_text}
 
 -- how an input is cut doesn't matter
 abbrev pub ServedInParts : Type 0
-ServedInParts = (c : CatalogueView) (s : Serving) (a b : List ℕ) → served c s (a ++ b) ≡ served_behind (served c s a).text (served c (served c s a).serving b)
+ServedInParts = (c : CatalogueView) (s : ServiceState) (a b : List ℕ) → served c s (a ++ b) ≡ served_after (served c s a).text (served c (served c s a).serving b)
 
 -- each line of a text ends with a line feed, and is UTF-8
 abbrev pub EachLineEnds : List ℕ → Type 0
@@ -35,8 +35,8 @@ pub record BeginsAs (text : List ℕ) (run : Answer) : Type 0 where
   pub whole : run.verdict ≡ verdicts.Good → rest ≡ []
 
 -- a text whose lines all end, are UTF-8 and don't ask is served as its lines are run on a history without an end
-abbrev pub ServedIsEndless : Type 0
-ServedIsEndless =
+abbrev pub ServedIsRunWithoutEnd : Type 0
+ServedIsRunWithoutEnd =
     (c : CatalogueView) (bytes : List ℕ) → EachLineEnds bytes → AreTextLines bytes → AskNothing bytes
     → BeginsAs (served_text false c bytes) (lines_answer ENDLESS c 1 [] (lines_of bytes))
 

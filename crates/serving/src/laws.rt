@@ -1,6 +1,6 @@
 // What the definition of a service says, in other words.
 
-ghost use Rattle.serving.specs.ServeLaws.{ServedInParts, ServedIsEncoded, ServedIsEndless, ServedIsRun};
+ghost use Rattle.serving.specs.ServeLaws.{ServedInParts, ServedIsEncoded, ServedIsRunWithoutEnd, ServedIsRun};
 
 /// What `serve` writes doesn't depend on how the reads cut its input: what two parts make it write is what the first does, and then what
 /// the second does on what the first left.
@@ -12,7 +12,7 @@ pub fn served_in_parts()
 /// where they make no more than 1,000,000 updates and installs, as the command `run` runs them: `serve` writes what `run` writes for it,
 /// where that is good, and begins with it where a line is bad. (To `run` a line `?` is bad.)
 pub fn served_is_run()
-    ensures endless { ServedIsEndless }
+    ensures endless { ServedIsRunWithoutEnd }
     ensures run { ServedIsRun }
 {}
 

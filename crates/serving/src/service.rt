@@ -6,8 +6,8 @@ ghost use Rattle.engine.specs.declared.opening.Opened.TheVariants.{On};
 ghost use Rattle.engine.specs.Opening.{IsOpened};
 ghost use Rattle.encoding.specs.Encoded.{encoded};
 ghost use Rattle.running.specs.Running.{IsSteady};
-ghost use Rattle.serving.specs.ServeAnswer.{Serving, nothing_served, turn_at, behind_line, served};
-ghost use Rattle.serving.specs.Serving.{with_byte, AddsServed, Stands, IsSameLine, TakesLeft, TakesSaid, IsAnswered, GoesOn, TakesBytes};
+ghost use Rattle.serving.specs.ServeAnswer.{ServiceState, nothing_served, turn_at, after_line, served};
+ghost use Rattle.serving.specs.ServiceKept.{with_byte, AddsServed, Stands, IsSameLine, TakesLeft, TakesSaid, IsAnswered, GoesOn, TakesBytes};
 
 use crate::store_texts::{asks, put_store};
 use arrayvec::ArrayVec;
@@ -103,7 +103,7 @@ impl Service {
         ensures steady { IsSteady self.new.catalogue self.new.node }
         ensures same { IsSameLine self.old self.new }
         ensures kept { result ≡ Ok false → self.new.node ≡ self.old.node }
-        ensures taken { (s : Serving) → Stands s self.old → TakesLeft self.old self.new s result }
+        ensures taken { (s : ServiceState) → Stands s self.old → TakesLeft self.old self.new s result }
     {
         let kept = self.left.as_slice();
         if asks(kept) {
@@ -127,7 +127,7 @@ impl Service {
         requires steady { IsSteady self.old.catalogue self.old.node }
         ensures steady { IsSteady self.new.catalogue self.new.node }
         ensures same { IsSameLine self.old self.new }
-        ensures answered { (s : Serving) → Stands s self.old → OnOk result (IsAnswered (turn_at self.old.catalogue s) self.new) }
+        ensures answered { (s : ServiceState) → Stands s self.old → OnOk result (IsAnswered (turn_at self.old.catalogue s) self.new) }
     {
         self.answer.clear();
         if self.take_left()? {
@@ -140,8 +140,8 @@ impl Service {
     fn end_line(&mut self, out: &mut Vec<u8>) -> Result<(), AllocError>
         requires steady { IsSteady self.old.catalogue self.old.node }
         ensures steady { IsSteady self.new.catalogue self.new.node }
-        ensures answered { (s : Serving) → Stands s self.old → OnOk result (out.new.items ≡ out.old.items ++ (turn_at self.old.catalogue s).text) }
-        ensures goes_on { OnOk result (GoesOn self.old self.new (λ s. behind_line self.old.catalogue s)) }
+        ensures answered { (s : ServiceState) → Stands s self.old → OnOk result (out.new.items ≡ out.old.items ++ (turn_at self.old.catalogue s).text) }
+        ensures goes_on { OnOk result (GoesOn self.old self.new (λ s. after_line self.old.catalogue s)) }
         ensures kept { OnErr result (out.new.items ≡ out.old.items) }
     {
         self.answer_left()?;
@@ -155,7 +155,7 @@ impl Service {
     fn take_byte(&mut self, byte: u8, out: &mut Vec<u8>) -> Result<(), AllocError>
         requires steady { IsSteady self.old.catalogue self.old.node }
         ensures steady { IsSteady self.new.catalogue self.new.node }
-        ensures answered { (s : Serving) → Stands s self.old → OnOk result (AddsServed self.old.catalogue s (byte ∷ []) out.old.items out.new.items) }
+        ensures answered { (s : ServiceState) → Stands s self.old → OnOk result (AddsServed self.old.catalogue s (byte ∷ []) out.old.items out.new.items) }
         ensures goes_on { OnOk result (GoesOn self.old self.new (λ s. (served self.old.catalogue s (byte ∷ [])).serving)) }
         ensures kept { OnErr result (out.new.items ≡ out.old.items) }
     {
@@ -171,7 +171,7 @@ impl Service {
         requires steady { IsSteady self.old.catalogue self.old.node }
         ensures steady { IsSteady self.new.catalogue self.new.node }
         ensures same { OnOk result (self.new.catalogue ≡ self.old.catalogue) }
-        ensures taken { (s : Serving) → Stands s self.old → TakesBytes self.old.catalogue s bytes.now self.new out.old.items out.new.items result }
+        ensures taken { (s : ServiceState) → Stands s self.old → TakesBytes self.old.catalogue s bytes.now self.new out.old.items out.new.items result }
     {
         for byte in bytes {
             self.take_byte(*byte, out)?;

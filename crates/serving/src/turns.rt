@@ -10,7 +10,7 @@ ghost use Rattle.engine.specs.Report.{Failed, Sends, answer_of};
 ghost use Rattle.engine.specs.Texts.{no_memory_line};
 ghost use Rattle.running.specs.Running.{IsSteady};
 ghost use Rattle.serving.specs.ServeAnswer.{Serves, ServesAll, ServesGiven, ServesRead, given_back, nothing_served, ports, service};
-ghost use Rattle.serving.specs.Serving.{IfOpened, ServesOpened, Stands, TakesTurns};
+ghost use Rattle.serving.specs.ServiceKept.{IfOpened, ServesOpened, Stands, TakesTurns};
 
 use crate::service::Service;
 use engine::texts::no_memory;

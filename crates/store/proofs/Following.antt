@@ -15,7 +15,7 @@ use Rattle.store.specs.Opening.{AreOf}
 use Rattle.store.specs.Pipelines.{AreJoined, views_of}
 use Rattle.store.specs.PolledPipelines.{Follows, MayFollow}
 use Rattle.store.specs.Sessions.{HasRoom, IsOf, StoreView}
-use Rattle.store.proofs.Neighbours.{HasSlot, at_last, caller_is, member_slot, more_members}
+use Rattle.store.proofs.Ascending.{HasSlot, at_last, caller_is, member_slot, more_members}
 
 abbrev K : Type 0
 K = SessionKnown

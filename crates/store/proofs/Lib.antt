@@ -14,7 +14,7 @@ pub mod Explained
 pub mod CallsTold
 pub mod MayInstall
 pub mod Confines
-pub mod Neighbours
+pub mod Ascending
 pub mod AskedEach
 pub mod PolledEach
 pub mod Export

@@ -27,7 +27,7 @@ abbrev pub IsOnNode : Sizes → ℕ → SessionView → Type 0
 IsOnNode config node s = (slot : ℕ) × (slot < config.slots) × (s.session ≡ session config node slot)
 
 -- the sessions are of slots of one node, which ascend
-pub record AreNeighbours (config : Sizes) (sessions : List SessionView) : Type 0 where
+pub record AreAscending (config : Sizes) (sessions : List SessionView) : Type 0 where
   pub node : ℕ
   pub some : 0 < length sessions
   pub slots : (j : ℕ) (s : SessionView) → At j s sessions → IsOnNode config node s

@@ -9,9 +9,9 @@ ghost use Rattle.store_steps.specs.Pipelines.{AreCalls, AreMembers, MayAskAt};
 ghost use Rattle.store_steps.specs.Questions.{first_refused_in};
 ghost use Rattle.store.specs.Looks.{IsRefused};
 ghost use Rattle.store.specs.Opening.{AreOf};
-ghost use Rattle.store.specs.Pipelines.{AreInOrder, AreNeighbours, AsksFirst, EachGoes, EachGoesOn, MayUpdateEach, OthersStay, TellsEach};
+ghost use Rattle.store.specs.Pipelines.{AreInOrder, AreAscending, AsksFirst, EachGoes, EachGoesOn, MayUpdateEach, OthersStay, TellsEach};
 ghost use Rattle.store.specs.Sessions.{IsOf, said};
-ghost use Rattle.store.specs.declared.pipeline.JoinRefused.TheVariants.{NotNeighbours};
+ghost use Rattle.store.specs.declared.pipeline.JoinRefused.TheVariants.{NotAscending};
 
 use crate::answers::Answer;
 use crate::session::{Session, answer_of};
@@ -40,12 +40,12 @@ use verifier::Mode;
 ///
 /// let NotJoined { sessions, refused } = match Pipeline::of(rt.alloc(), &store, sessions) { Err(back) => back, Ok(_) => unreachable!() };
 /// let _closed = match store.close(sessions) { Ok(closed) => closed, Err(_) => unreachable!() };
-/// assert_eq!(rt; refused, JoinRefused::NotNeighbours);
+/// assert_eq!(rt; refused, JoinRefused::NotAscending);
 /// ```
 #[derive(Clone, Copy, Debug, PartialEq, Eq)]
 pub enum JoinRefused {
     /// There is none, or they are not of one node, by ascending slots.
-    NotNeighbours,
+    NotAscending,
     /// There is no memory.
     NoMemory,
 }
@@ -65,7 +65,7 @@ pub enum JoinRefused {
 /// let NotJoined { sessions, refused } = match Pipeline::of(rt.alloc(), &store, sessions) { Err(back) => back, Ok(_) => unreachable!() };
 /// let count = sessions.len();
 /// let _closed = match store.close(sessions) { Ok(closed) => closed, Err(_) => unreachable!() };
-/// assert_eq!(rt; (count, refused), (2, JoinRefused::NotNeighbours));
+/// assert_eq!(rt; (count, refused), (2, JoinRefused::NotAscending));
 /// ```
 pub struct NotJoined {
     /// The sessions.
@@ -157,9 +157,9 @@ impl Asking {
 }
 
 // Whether there are sessions, and they are of one node, by ascending slots.
-fn are_neighbours(store: &Store, sessions: &[Session]) -> bool
+fn are_ascending(store: &Store, sessions: &[Session]) -> bool
     requires own { AreOf store.now sessions.now }
-    ensures neighbours { IsTrue result ↔ AreNeighbours store.now.config sessions.now }
+    ensures ascending { IsTrue result ↔ AreAscending store.now.config sessions.now }
     ensures few { IsTrue result → length sessions.now ≤ 16 }
 {
     let _shared = store.shared(); // its clauses limit the slots of a node
@@ -186,7 +186,7 @@ fn joined(
     mut rooms: Vec<Installed>,
 ) -> Pipeline
     requires own { AreOf store.now sessions.items }
-    requires neighbours { AreNeighbours store.now.config sessions.items }
+    requires ascending { AreAscending store.now.config sessions.items }
     requires few { length sessions.items ≤ 16 }
     requires empty { (members.items ≡ []) × (rooms.items ≡ []) }
     requires space { (16 ≤ vec_capacity members) × (16 ≤ vec_capacity rooms) }
@@ -223,7 +223,7 @@ impl Pipeline {
     ///
     /// # Errors
     ///
-    /// [`NotNeighbours`](JoinRefused::NotNeighbours) where there is none, or they are not of one node, by ascending slots;
+    /// [`NotAscending`](JoinRefused::NotAscending) where there is none, or they are not of one node, by ascending slots;
     /// [`NoMemory`](JoinRefused::NoMemory). All sessions come back.
     ///
     /// # Examples
@@ -242,12 +242,12 @@ impl Pipeline {
     /// ```
     pub fn of(alloc: Global, store: &Store, sessions: Vec<Session>) -> Result<Pipeline, NotJoined>
         requires own { AreOf store.now sessions.items }
-        ensures joined { IfOk result (λ p. (p ≡ sessions.items) × AreNeighbours store.now.config sessions.items) }
+        ensures joined { IfOk result (λ p. (p ≡ sessions.items) × AreAscending store.now.config sessions.items) }
         ensures back { IfErr result (λ e. e.sessions.items ≡ sessions.items) }
-        ensures refused { IfErr result (λ e. (e.refused ≡ NotNeighbours) ↔ (AreNeighbours store.now.config sessions.items → ⊥)) }
+        ensures refused { IfErr result (λ e. (e.refused ≡ NotAscending) ↔ (AreAscending store.now.config sessions.items → ⊥)) }
     {
-        if !are_neighbours(store, &sessions) {
-            let refused = JoinRefused::NotNeighbours;
+        if !are_ascending(store, &sessions) {
+            let refused = JoinRefused::NotAscending;
             return Err(NotJoined { sessions, refused });
         }
         let refused = JoinRefused::NoMemory;

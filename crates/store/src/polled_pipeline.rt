@@ -259,8 +259,8 @@ impl PolledPipeline {
     ///
     /// let catalogue = load_manifest(rt.alloc(), "map array 8 16\n", &[])?;
     /// let config = Config { nodes: 1, slots: 3, window: 16, limit: 100, spare: 0 };
-    /// let (store, mut sessions) = Store::open(rt.alloc(), config, catalogue)?;
     /// let mut polled = PolledPipeline::with_room(rt.alloc())?;
+    /// let (store, mut sessions) = Store::open(rt.alloc(), config, catalogue)?;
     ///
     /// match polled.add(&store, sessions.remove(0)) { Ok(()) => {}, Err(_) => unreachable!() }
     /// match polled.add(&store, sessions.remove(1)) { Ok(()) => {}, Err(_) => unreachable!() } // the third slot
@@ -268,7 +268,7 @@ impl PolledPipeline {
     /// let count = polled.len();
     /// sessions.push_reserved(second);
     /// match polled.take_last() { Some(third) => sessions.push_reserved(third), None => unreachable!() }
-    /// match polled.take_last() { Some(first) => sessions.insert_reserved(0, first), None => unreachable!() }
+    /// match polled.take_last() { Some(first) => sessions.push_reserved(first), None => unreachable!() }
     /// let _closed = match store.close(sessions) { Ok(closed) => closed, Err(_) => unreachable!() };
     /// assert_eq!(rt; count, 2);
     /// ```
@@ -298,8 +298,8 @@ impl PolledPipeline {
     ///
     /// let catalogue = load_manifest(rt.alloc(), "map array 8 16\n", &[])?;
     /// let config = Config { nodes: 1, slots: 1, window: 16, limit: 100, spare: 0 };
-    /// let (store, mut sessions) = Store::open(rt.alloc(), config, catalogue)?;
     /// let mut polled = PolledPipeline::with_room(rt.alloc())?;
+    /// let (store, mut sessions) = Store::open(rt.alloc(), config, catalogue)?;
     ///
     /// match polled.add(&store, sessions.remove(0)) { Ok(()) => {}, Err(_) => unreachable!() }
     /// match polled.take_last() { Some(session) => sessions.push_reserved(session), None => unreachable!() }

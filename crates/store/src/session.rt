@@ -178,7 +178,7 @@ impl Session {
     /// assert_eq!(rt; batches, Batches { count: 2, requests: 2, largest: 1 });
     /// ```
     pub fn batches(&self) -> Batches {
-        self.combining.batches
+        self.combining.batches()
     }
 
     // Has an update performed that is not refused, as the next operation of the history. By six takes: it posts, and then completes. Or by four

@@ -345,6 +345,7 @@ follows_none k n a stands = record {
   goes = λ d. subst (λ q. Goes k.progress.catalogue (sees k.progress (log_from k.progress n) n Absent d) (cond q (Rebases ∷ []) [] ++ []) (sees k.progress (log_from k.progress n) n Absent d)) (sym (never_below n k.progress))
       (Ends (sees k.progress (log_from k.progress n) n Absent d));
   did = did_none k k refl refl;
+  stays = λ same. refl;
 }
 
 -- the session k took the log g and is t then, f once it has put it back, and after once it has raised the completed tail
@@ -373,6 +374,7 @@ module _ (k t f after : K) (g : LogView) (n u m : NodeReplica) (took : Extends k
         (catches_up c1 _ _ _ (has_next g u) (nat_lt up.before.completed m.replica.tail) (follow_step c1 t.progress g u m (above t.progress g u is keeps_up.0 keeps_up.1) keeps_up.0 ran Absent d (λ x. refl)) (raise_part t.progress f after g m is on up Absent d)));
     did = did_then k f after (Took leader (ALog g) ∷ Put leader (ALog g) ∷ []) (Raised m.replica.tail ∷ [])
         (did_both k t f leader q leader x x (ALog g) (ALog g) took_it put_it refl there (log_part x g x_is) (log_part x g x_is)) up.did;
+    stays = λ wrong. cc;
   }
 
 -- the whole look: the session k loaded the completed tail, which was done with the progress p, took its replica and is
@@ -432,6 +434,7 @@ module _ (k t r f : K) (p : L) (done : ℕ) (n m : NodeReplica) (point : ℕ) (g
             nothing = Nothing;
             loaded = done;
             did = looks_did;
+            stays = first.stays;
           };
         },
         refl,

@@ -219,6 +219,7 @@ module _ (k m f : K) (s : IsStill k m) where
             nothing = nothing_on s.nothing r.nothing;
             loaded = r.loaded;
             did = tried_then k m f s.tries r.tries (Read r.loaded ∷ look_deeds (1 + r.node) (nat_lt r.own.replica.tail r.loaded) r.log r.own r.left) s.did r.did;
+            stays = r.stays;
           };
         },
         refl,

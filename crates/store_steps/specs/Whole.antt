@@ -187,6 +187,7 @@ pub record FollowsBy (lacks : Bool) (k after : SessionKnown) (n m : NodeReplica)
   pub up : CatchUp
   pub goes : (d : DeskView) → Goes k.progress.catalogue (sees from log n Absent d) (read_steps log n up) (sees after.progress back m Absent d)
   pub did : Did k after (follow_deeds lacks log m)
+  pub stays : lacks ≡ false → m ≡ n
 
 -- ---- what the whole calls do
 
@@ -236,7 +237,7 @@ pub record LoadsFirst (k after : SessionKnown) : Type 0 where
   pub read : tails_in after.steps ≡ tails_in k.steps ++ seen ∷ more
 
 -- what a look does on the shelf: after tries in vain the session loads the completed tail, and takes the replica of its own node. It takes the log if
--- and only if that replica is below the loaded tail.
+-- and only if that replica is below the loaded tail. Another replica stays as it was.
 pub record LooksOnShelf (k after : SessionKnown) (log : LogView) (own left : NodeReplica) : Type 0 where
   pub node : ℕ
   pub mine : IsSessionOf k.progress.config node k.session
@@ -244,6 +245,7 @@ pub record LooksOnShelf (k after : SessionKnown) (log : LogView) (own left : Nod
   pub nothing : ChangesNothing tries
   pub loaded : ℕ
   pub did : Did k after (tries ++ Read loaded ∷ look_deeds (replica_place k.progress.config node) (nat_lt own.replica.tail loaded) log own left)
+  pub stays : nat_lt own.replica.tail loaded ≡ false → left ≡ own
 
 -- a look at its node's replica, at this point of the history: the completed tail is loaded, and a replica below it catches up with the log; then
 -- a read may be answered there, at the replica's own tail

@@ -12,8 +12,10 @@ pub struct Room {
     pub batch: Batch,
     /// For what their programs answer.
     pub replies: Replies,
-    /// What the session has combined.
-    pub batches: Batches,
+    // How many batches of one request the session has combined.
+    singles: u64,
+    // The other batches that it has combined.
+    shared: Batches,
 }
 
 impl Room {
@@ -22,15 +24,43 @@ impl Room {
         Room {
             batch: Batch::new(),
             replies: Replies::new(0, 0),
-            batches: Batches::none(),
+            singles: 0,
+            shared: Batches::none(),
         }
     }
 
-    // Counts the batch that the room has, with its requests.
+    /// The batches that the session has combined.
+    pub fn batches(&self) -> Batches {
+        self.shared.and(Batches {
+            count: self.singles,
+            requests: self.singles,
+            largest: self.singles.min(1),
+        })
+    }
+
+    // Counts the batch that the room has, with its requests. Most have one.
+    #[inline(always)]
     pub(crate) fn count_batch(&mut self)
         ensures room { (self.new.batch ≡ self.old.batch) × (self.new.replies ≡ self.old.replies) }
     {
-        self.batches = self.batches.and_one(self.batch.records().len() as u64);
+        if self.batch.records().len() == 1 {
+            self.singles = self.singles.wrapping_add(1);
+        } else {
+            self.count_shared();
+        }
+    }
+
+    // Counts a batch of several requests.
+    #[inline(never)]
+    fn count_shared(&mut self)
+        ensures room { (self.new.batch ≡ self.old.batch) × (self.new.replies ≡ self.old.replies) }
+    {
+        let requests = self.batch.records().len() as u64;
+        self.shared = self.shared.and(Batches {
+            count: 1,
+            requests,
+            largest: requests,
+        });
     }
 }
 
@@ -62,14 +92,5 @@ impl Batches {
             requests: self.requests.wrapping_add(others.requests),
             largest: self.largest.max(others.largest),
         }
-    }
-
-    // The sum of these batches and one batch of `requests` requests.
-    pub(crate) fn and_one(self, requests: u64) -> Batches {
-        self.and(Batches {
-            count: 1,
-            requests,
-            largest: requests,
-        })
     }
 }

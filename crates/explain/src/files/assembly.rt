@@ -1,14 +1,16 @@
 // Where a line of assembler text is wrong, and what is wanted there.
 
-ghost use Rattle.std.specs.Prelude.{IfOk};
+ghost use Rattle.std.specs.Prelude.{◌≡◌, ◌+◌, ◌≤◌, length, take, IfOk};
+ghost use Rattle.std.specs.List.{flat_map};
 ghost use Rattle.std.specs.String.{string_bytes};
 ghost use Rattle.asm.specs.Assembled.{assembled};
-ghost use Rattle.explain.specs.Told.{BeginsWith};
-ghost use Rattle.explain.specs.Assembly.{fault_text, IsToldOfText};
+ghost use Rattle.asm.specs.Tokens.{is_blank};
+ghost use Rattle.explain.specs.Assembly.{before_visible, before_word, below, code_of, line_in, shown, IsPlace, IsToldOfText, TellsFault};
 
-use crate::sentences::Word::{Count, Text};
-use crate::sentences::{Written, put, put_all, put_numbers};
+use crate::sentences::Word::Text;
+use crate::sentences::{put, put_all, put_numbers};
 use asm::{AsmError, AsmFault, AsmRefusal, assemble};
+use itoa::Buffer;
 use std::alloc::{AllocError, Global};
 use text::NumberedLines;
 
@@ -118,8 +120,33 @@ struct Parts<'a> {
     operands: Vec<Span>,
 }
 
-fn is_blank(byte: u8) -> bool {
-    matches!(byte, b' ' | b'\t' | b'\r')
+fn is_blank(byte: u8) -> bool
+    ensures { result ≡ is_blank byte }
+{
+    byte == b' ' || byte == b'\t' || byte == b'\r'
+}
+
+// A line without its comment.
+#[tactic(auto, using(crate::proofs::Assembly::code_is))]
+fn code_of(line: &str) -> &str
+    ensures { result.now ≡ code_of line.now }
+{
+    match line.split_once(';') {
+        Some((code, _)) => code,
+        None => line,
+    }
+}
+
+// How many bytes stand before the first visible one.
+fn before_visible(code: &str) -> usize
+    ensures { result ≡ before_visible code.now }
+{
+    for (i, byte) in code.as_bytes().iter().enumerate() {
+        if !is_blank(*byte) {
+            return i;
+        }
+    }
+    code.len()
 }
 
 // The first place from this one on at which no white space is.
@@ -128,9 +155,10 @@ fn visible(code: &str, from: usize) -> usize {
     from.saturating_add(behind.take_while(|byte| is_blank(**byte)).count())
 }
 
-// What stands behind white space, up to white space or a comma.
-fn token(code: &str, from: usize) -> Span {
-    let begin = visible(code, from);
+// What stands at a place, up to white space or a comma.
+fn token(code: &str, begin: usize) -> Span
+    ensures { result.begin ≡ begin }
+{
     let behind = code.as_bytes().iter().skip(begin);
     let own = behind.take_while(|byte| !is_blank(**byte) && **byte != b',');
     let end = begin.saturating_add(own.count());
@@ -139,9 +167,11 @@ fn token(code: &str, from: usize) -> Span {
 
 impl<'a> Parts<'a> {
     // Splits a line into its parts, with at most as many operands as its word has.
-    fn of(alloc: Global, line: &'a str) -> Result<Parts<'a>, AllocError> {
-        let code = line.split_once(';').map_or(line, |(code, _)| code);
-        let word = token(code, 0);
+    fn of(alloc: Global, line: &'a str) -> Result<Parts<'a>, AllocError>
+        ensures { IfOk result (λ p. p.word.begin ≡ before_word line.now) }
+    {
+        let code = code_of(line);
+        let word = token(code, before_visible(code));
         let kinds = kinds_of(code.get(word.begin..word.end).unwrap_or(""));
         let mut operands = Vec::new(alloc);
         let mut at = word.end;
@@ -153,7 +183,7 @@ impl<'a> Parts<'a> {
                 }
                 at = comma.saturating_add(1);
             }
-            let operand = token(code, at);
+            let operand = token(code, visible(code, at));
             operands.push(operand)?;
             at = operand.end;
         }
@@ -232,7 +262,9 @@ impl<'a> Parts<'a> {
     }
 
     // What is wanted in the line where it is wrong in this way, and where.
-    fn wanted(&self, why: AsmFault) -> Result<Wanted, AllocError> {
+    fn wanted(&self, why: AsmFault) -> Result<Wanted, AllocError>
+        ensures { IfOk result (λ w. IsPlace why self.now.word.begin w.0) }
+    {
         let begin = self.word.begin;
         let last = self.operands.last();
         let target = last.map_or(self.word.end, |operand| operand.begin);
@@ -248,20 +280,54 @@ impl<'a> Parts<'a> {
     }
 }
 
-// Adds white space up to a place of a line, so that what follows stands below it.
-fn put_below(out: &mut String, line: &str, at: usize) -> Written {
-    for byte in line.as_bytes().iter().take(at) {
-        out.push_str(match *byte {
-            b'\t' => "\t",
-            0x80..=0xbf => "",
-            _ => " ",
-        })?;
-    }
-    Ok(())
+// How many bytes of a line stand before the place that is wrong, and what is wanted there.
+fn wanted_in(alloc: Global, line: &str, why: AsmFault) -> Result<(usize, String), AllocError>
+    ensures place { IfOk result (λ w. IsPlace why (before_word line.now) w.0) }
+    ensures within { IfOk result (λ w. w.0 ≤ length line.now) }
+{
+    let parts = Parts::of(alloc, line)?;
+    let (at, what) = parts.wanted(why)?;
+    let mut wanted = String::new(alloc);
+    put(&mut wanted, what, &[Text(parts.text(parts.word))])?;
+    Ok((at.min(line.len()), wanted))
 }
 
-// The line of this number.
-fn line_at(text: &str, wanted: u32) -> &str {
+// The column of what stands behind so many bytes of a line.
+fn column_of(line: &str, at: usize) -> usize
+    requires { at ≤ length line.now }
+    ensures { result ≡ at + 1 }
+{
+    at.min(line.len()) + 1
+}
+
+// What stands below a byte.
+fn below(byte: u8) -> &'static str
+    ensures { result.now ≡ below byte }
+{
+    match byte {
+        b'\t' => "\t",
+        0x80..=0xbf => "",
+        _ => " ",
+    }
+}
+
+// White space below so many bytes of a line, so that what follows stands below the next one.
+fn space_below(alloc: Global, line: &str, at: usize) -> Result<String, AllocError>
+    requires { at ≤ length line.now }
+    ensures { IfOk result (λ s. string_bytes s ≡ flat_map below (take at line.now)) }
+{
+    let (bytes, _) = line.as_bytes().split_at(at);
+    let mut out = String::new(alloc);
+    for byte in bytes {
+        out.push_str(below(*byte))?;
+    }
+    Ok(out)
+}
+
+// The line of this number; empty where none has it.
+fn line_at(text: &str, wanted: u32) -> &str
+    ensures { result.now ≡ line_in text.now wanted }
+{
     let mut lines = NumberedLines::new(text);
     while let Some((number, line)) = lines.take_line() {
         if number == wanted {
@@ -271,31 +337,35 @@ fn line_at(text: &str, wanted: u32) -> &str {
     ""
 }
 
-// What is wanted in a refused text: the column, what is wanted there, the line, and a mark below the column.
-fn wanted_text(alloc: Global, text: &str, refusal: AsmRefusal) -> Result<String, AllocError> {
-    let line = line_at(text, refusal.line);
-    let parts = Parts::of(alloc, line)?;
-    let (at, wanted) = parts.wanted(refusal.why)?;
-    let mut out = String::new(alloc);
-    let column = Count(at.saturating_add(1));
-    put(&mut out, " column {0}: wanted ", &[column])?;
-    put(&mut out, wanted, &[Text(parts.text(parts.word))])?;
-    let shown = Text(line.strip_suffix('\r').unwrap_or(line));
-    put(&mut out, "\n    {0}\n    ", &[shown])?;
-    put_below(&mut out, line, at)?;
-    out.push_str("^\n")?;
-    Ok(out)
+// A line without the carriage return at its end.
+#[tactic(auto, using(crate::proofs::Assembly::shown_is))]
+fn shown(line: &str) -> &str
+    ensures { result.now ≡ shown line.now }
+{
+    match line.strip_suffix('\r') {
+        Some(front) => front,
+        None => line,
+    }
 }
 
-// What is said of a refused text.
+// What is said of a refused text: the line and the rule, the column and what is wanted there, the line, and a mark below the column.
 fn told(alloc: Global, text: &str, refusal: AsmRefusal) -> Result<String, AllocError>
-    ensures { IfOk result (λ s. BeginsWith (fault_text refusal) (string_bytes s)) }
+    ensures { IfOk result (λ s. TellsFault refusal (line_in text.now refusal.line) (string_bytes s)) }
 {
-    let wanted = wanted_text(alloc, text, refusal)?;
+    let line = line_at(text, refusal.line);
+    let (at, wanted) = wanted_in(alloc, line, refusal.why)?;
+    let space = space_below(alloc, line, at)?;
     let mut out = String::new(alloc);
     let number = u32::from(refusal.why.number());
     put_numbers(&mut out, "line ", refusal.line, ": A", number)?;
-    put_all(&mut out, &[",", wanted.as_str()])?;
+    let mut digits = Buffer::new();
+    let column = digits.format(column_of(line, at));
+    put_all(
+        &mut out,
+        &[",", " column ", column, ": wanted ", wanted.as_str()],
+    )?;
+    let pieces = ["\n    ", shown(line), "\n    ", space.as_str(), "^\n"];
+    put_all(&mut out, &pieces)?;
     Ok(out)
 }
 
@@ -306,7 +376,8 @@ fn told(alloc: Global, text: &str, refusal: AsmRefusal) -> Result<String, AllocE
 ///
 /// The system has no memory left.
 pub fn explain_assembly(alloc: Global, text: &str) -> Result<String, AllocError>
-    ensures told { IfOk result (λ s. IsToldOfText (assembled text.now) (string_bytes s)) }
+    // The text says the line and the rule, the column, some words, the line, and has a mark below the column.
+    ensures told { IfOk result (λ s. IsToldOfText text.now (assembled text.now) (string_bytes s)) }
 {
     match assemble(alloc, text) {
         Ok(_) => Ok(String::new(alloc)),

@@ -1,12 +1,12 @@
 // The listing of a program.
 
-ghost use Rattle.std.specs.Prelude.{◌≡◌, ◌≤◌, ◌^◌, ◌-◌, ◌++◌, ◌==◌, if◌then◌else◌, ℕ, List, length, replicate, codes, option_map, unwrap_or, IfOk, OnOk};
+ghost use Rattle.std.specs.Prelude.{◌≡◌, ◌<◌, ◌≤◌, ◌^◌, ◌-◌, ◌++◌, ◌==◌, if◌then◌else◌, ℕ, List, [], None, length, replicate, codes, option_map, unwrap_or, IfOk, OnOk};
 ghost use Rattle.std.specs.String.{string_bytes};
 ghost use Rattle.insn.specs.declared.instruction.TheConstants.{MAX_SLOTS};
 ghost use Rattle.insn.specs.Layout.{size};
 ghost use Rattle.asm.specs.Text.{line_text};
 ghost use Rattle.loader.specs.Spelling.{mode_word};
-ghost use Rattle.explain.specs.Listing.{line_of, head_text, left_text, margin, aside, last_listed, verdict_on, AddsListing, BeginUpto, CanBeJudged, Explains, IsLine};
+ghost use Rattle.explain.specs.Listing.{line_of, head_text, left_text, margin, aside, last_listed, verdict_on, AddsListing, BeginUpto, CanBeJudged, Explains, ExplainsLong, FitsStore, IsLine};
 ghost use Rattle.explain.specs.Slots.{told_upto};
 ghost use Rattle.explain.specs.Study.{AddsLines, HasSlot, IsStudy};
 
@@ -210,15 +210,22 @@ fn put_lines(out: &mut String, study: &Study<'_>) -> Written
 ///
 /// The system has no memory left.
 pub fn explain_program(alloc: Global, subject: Subject<'_>) -> Result<String, AllocError>
-    // The text names the program and lists its instructions. If it is refused, the text says the rule and the slot before all else of the refusal.
+    // The text names the program and lists its instructions. If it is refused, the text says the rule and the slot before all else of the
+    // refusal; and after a refusal of the structure it says the rule of kinds that is broken first, and where, if one is.
     ensures told { CanBeJudged subject.entry → IfOk result (λ s. Explains subject.entry (string_bytes s)) }
+    // Of a program with more than 4,096 slots it says the name and that its structure is refused.
+    ensures long { FitsStore subject.entry → MAX_SLOTS < size subject.entry.program.now → IfOk result (λ s. ExplainsLong subject.entry (string_bytes s)) }
+    // It is empty where no store has such maps or such an argument.
+    ensures nothing { (FitsStore subject.entry → ⊥) → IfOk result (λ s. string_bytes s ≡ []) }
 {
     let Some(study) = Study::of(alloc, subject)? else {
         return Ok(String::new(alloc));
     };
+    let mut lines = String::new(alloc);
+    put_lines(&mut lines, &study)?;
     let mut out = String::new(alloc);
     put_head(&mut out, &subject)?;
-    put_lines(&mut out, &study)?;
+    out.push_str(lines.as_str())?;
     put_refusal(&mut out, &study)?;
     Ok(out)
 }
@@ -230,7 +237,9 @@ pub fn explain_program(alloc: Global, subject: Subject<'_>) -> Result<String, Al
 /// The system has no memory left.
 pub fn explain_refusal(alloc: Global, subject: Subject<'_>) -> Result<Option<Reason>, AllocError>
     // The rule and the slot are those of `verify`.
-    ensures refused { CanBeJudged subject.entry → IfOk result (λ o. option_map (λ r. r.refused) o ≡ verdict_on subject.entry) }
+    ensures refused { FitsStore subject.entry → IfOk result (λ o. option_map (λ r. r.refused) o ≡ verdict_on subject.entry) }
+    // There is none where no store has such maps or such an argument.
+    ensures nothing { (FitsStore subject.entry → ⊥) → IfOk result (λ o. o ≡ None) }
 {
     let Some(study) = Study::of(alloc, subject)? else {
         return Ok(None);

@@ -2,12 +2,12 @@
 
 use crate::keeping::{destination_of, elsewhere};
 use crate::output::{Target, no_memory, put_after, say_text};
+use crate::progress::Screen;
 use crate::tasks::{Call, Task};
 use clap::{ArgMatches, Command, arg};
 use console::Assemble;
 use engine::{Destination, Folder, Inputs, Notes, Performed, Sink, Source, Status, perform_kept};
 use std::alloc::{AllocError, Global};
-use std::io::Eprint;
 use std::rt::Files;
 
 // The help's text after the arguments.
@@ -77,7 +77,7 @@ pub fn task<'a>(_matches: &ArgMatches<'a>) -> Option<Task<'a>> {
 
 /// Assembles a text into the file that a call names, or to the writer. Says the notes of it on standard error. A refusal goes
 /// to the writer, and the file keeps its bytes.
-pub fn perform<R: Files + AllocGlobal + Eprint, F: Folder, I: Source + Drop, W: Sink>(
+pub fn perform<R: Files + AllocGlobal + Screen, F: Folder, I: Source + Drop, W: Sink>(
     rt: &R,
     call: &Call<'_>,
     inputs: &mut Inputs<'_, F, I>,

@@ -1,7 +1,7 @@
 // The command `check`.
 
 use crate::commands::options;
-use crate::keeping::act;
+use crate::keeping::perform_noting;
 use crate::tasks::Task;
 use clap::{ArgMatches, Command};
 use console::{Check, CheckMaps};
@@ -71,7 +71,7 @@ pub fn perform<R: AllocGlobal + Eprint, F: Folder, I: Read + Drop, W: Write>(
     writer: &mut W,
 ) -> Status {
     if has_maps {
-        return act(rt, &CheckMaps, telling, inputs, writer);
+        return perform_noting(rt, &CheckMaps, telling, inputs, writer);
     }
-    act(rt, &Check, telling, inputs, writer)
+    perform_noting(rt, &Check, telling, inputs, writer)
 }

@@ -1,6 +1,6 @@
 // The command `decode`.
 
-use crate::keeping::act;
+use crate::keeping::perform_noting;
 use crate::tasks::Task;
 use clap::{ArgMatches, Command, arg};
 use console::Decode;
@@ -63,5 +63,5 @@ pub fn perform<R: AllocGlobal + Eprint, F: Folder, I: Read + Drop, W: Write>(
     inputs: &mut Inputs<'_, F, I>,
     writer: &mut W,
 ) -> Status {
-    act(rt, &Decode, telling, inputs, writer)
+    perform_noting(rt, &Decode, telling, inputs, writer)
 }

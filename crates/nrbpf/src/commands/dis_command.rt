@@ -1,6 +1,6 @@
 // The command `dis`.
 
-use crate::keeping::act;
+use crate::keeping::perform_noting;
 use crate::tasks::Task;
 use clap::{ArgMatches, Command, arg};
 use console::Disassemble;
@@ -57,5 +57,5 @@ pub fn perform<R: AllocGlobal + Eprint, F: Folder, I: Read + Drop, W: Write>(
     inputs: &mut Inputs<'_, F, I>,
     writer: &mut W,
 ) -> Status {
-    act(rt, &command, telling, inputs, writer)
+    perform_noting(rt, &command, telling, inputs, writer)
 }

@@ -1,8 +1,8 @@
 // The command `explain`.
 
 use crate::commands::options;
-use crate::keeping::act;
-use crate::tasks::{Explaining, Task};
+use crate::keeping::perform_noting;
+use crate::tasks::{Explaining, Form, Task};
 use clap::{ArgMatches, Command, arg};
 use console::{Draw, Explain, Find};
 use engine::{Folder, Inputs, Status, Telling};
@@ -38,12 +38,13 @@ the arrow of a jump.
 
 With `--maps` the answer begins with what `nrbpf check --maps` writes. A graph stays the same.
 
-With `--json` the answer is a line for each of these findings instead, a JSON object, and nothing if all is good:
+With `--json` the answer is a JSON object a line for each cause of a refusal instead, and nothing if all is good:
 
     {\"line\":3,\"program\":\"p\",\"file\":\"p.hex\",\"refusal\":\"V6\",\"slot\":0,\"way\":[0],\"wrong\":\"..\",\"todo\":\"..\"}
 
 `line` is the manifest's. `refusal` is C1, C2, C5, or for a program D1 to D9 or V1 to V18 with its `slot`. V6 to V18
-have a `way` to the slot. `--graph` and `--maps` change nothing then.
+have a `way` to the slot. A NAME that no line has gives `missing`, a file that is not UTF-8 its `file` and that as its
+`refusal`. `--graph` and `--maps` change nothing then.
 
 With `--large` maps may be as large as `nrbpf check --large` allows. Without it, the answer says of which maps
 `--large` would allow.
@@ -68,15 +69,17 @@ pub fn arguments<'a>(alloc: Global) -> Result<Command<'a>, AllocError> {
 
 /// The task that the command's words ask for.
 pub fn task<'a>(matches: &ArgMatches<'a>) -> Option<Task<'a>> {
-    let (name, is_graph) = (matches.get_str("NAME"), matches.get_flag("graph"));
-    let has_maps = matches.get_flag("maps");
-    let is_json = matches.get_flag("json");
-    Some(Task::Explain(Explaining {
-        name,
-        is_graph,
-        has_maps,
-        is_json,
-    }))
+    let name = matches.get_str("NAME");
+    let form = if matches.get_flag("json") {
+        Form::Json
+    } else if matches.get_flag("graph") {
+        Form::Graph
+    } else if matches.get_flag("maps") {
+        Form::WordsWithMaps
+    } else {
+        Form::Words
+    };
+    Some(Task::Explain(Explaining { name, form }))
 }
 
 /// Explains the programs of a manifest, or only the one of a name. Or draws them, or finds what is wrong.
@@ -87,23 +90,18 @@ pub fn perform<R: AllocGlobal + Eprint, F: Folder, I: Read + Drop, W: Write>(
     inputs: &mut Inputs<'_, F, I>,
     writer: &mut W,
 ) -> Status {
-    let Explaining {
-        name,
-        is_graph,
-        has_maps,
-        is_json,
-    } = asked;
+    let Explaining { name, form } = asked;
     let folder = inputs.folder;
-    if is_json {
-        return act(rt, &Find { folder, name }, telling, inputs, writer);
+    match form {
+        Form::Json => perform_noting(rt, &Find { folder, name }, telling, inputs, writer),
+        Form::Graph => perform_noting(rt, &Draw { name }, telling, inputs, writer),
+        Form::Words | Form::WordsWithMaps => {
+            let explain = Explain {
+                folder,
+                name,
+                has_maps: matches!(form, Form::WordsWithMaps),
+            };
+            perform_noting(rt, &explain, telling, inputs, writer)
+        }
     }
-    if is_graph {
-        return act(rt, &Draw { name }, telling, inputs, writer);
-    }
-    let explain = Explain {
-        folder,
-        name,
-        has_maps,
-    };
-    act(rt, &explain, telling, inputs, writer)
 }

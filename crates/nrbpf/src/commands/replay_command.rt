@@ -1,7 +1,7 @@
 // The command `replay`.
 
 use crate::commands::options;
-use crate::keeping::act;
+use crate::keeping::perform_noting;
 use crate::tasks::Task;
 use clap::{ArgMatches, Command, arg};
 use engine::{Folder, Inputs, Status, Telling};
@@ -92,7 +92,7 @@ pub fn perform<R: AllocGlobal + Eprint, F: Folder, I: Read + Drop, W: Write>(
     writer: &mut W,
 ) -> Status {
     if inputs.history.is_some() {
-        return act(rt, &ReplayTimed { spare }, telling, inputs, writer);
+        return perform_noting(rt, &ReplayTimed { spare }, telling, inputs, writer);
     }
-    act(rt, &Replay { spare }, telling, inputs, writer)
+    perform_noting(rt, &Replay { spare }, telling, inputs, writer)
 }

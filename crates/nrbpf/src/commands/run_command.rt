@@ -3,12 +3,12 @@
 use crate::commands::options;
 use crate::keeping::{destination_of, elsewhere};
 use crate::output::{Target, no_memory, put_after};
+use crate::progress::Screen;
 use crate::tasks::{Running, Task};
 use clap::{ArgMatches, Command, arg};
 use engine::{Folder, Inputs, Notes, Performed, Sink, Source, Status, perform_kept};
 use running::{CalledRun, DumpedRun, Run};
 use std::alloc::{AllocError, Global};
-use std::io::Eprint;
 use std::rt::Files;
 
 // The help's text after the arguments.
@@ -99,7 +99,7 @@ pub fn task<'a>(matches: &ArgMatches<'a>) -> Option<Task<'a>> {
 }
 
 /// Runs a script. Puts the state that it leaves into the file of a path, if no line was bad and all was written.
-pub fn perform<R: Files + AllocGlobal + Eprint, F: Folder, I: Source + Drop, W: Sink>(
+pub fn perform<R: Files + AllocGlobal + Screen, F: Folder, I: Source + Drop, W: Sink>(
     rt: &R,
     asked: Running,
     dump: Option<&str>,

@@ -1,7 +1,7 @@
 // The command `schedule`.
 
 use crate::commands::options;
-use crate::keeping::act;
+use crate::keeping::perform_noting;
 use crate::tasks::{Task, config_of};
 use clap::{ArgMatches, Command, arg};
 use engine::{Folder, Inputs, Status, Telling};
@@ -100,5 +100,5 @@ pub fn perform<R: AllocGlobal + Eprint, F: Folder, I: Read + Drop, W: Write>(
     inputs: &mut Inputs<'_, F, I>,
     writer: &mut W,
 ) -> Status {
-    act(rt, &Schedule { config }, telling, inputs, writer)
+    perform_noting(rt, &Schedule { config }, telling, inputs, writer)
 }

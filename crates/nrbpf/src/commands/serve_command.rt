@@ -1,9 +1,10 @@
 // The command `serve`.
 
 use crate::commands::options;
-use crate::disk::{DASH, LateFile};
+use crate::disk::LateFile;
 use crate::keeping::destination_of;
 use crate::output::{Target, no_memory, put_after};
+use crate::progress::Screen;
 use crate::tasks::Task;
 use clap::{ArgMatches, Command};
 use dumps::StateText;
@@ -12,7 +13,7 @@ use loader::StoreState;
 use running::dump_to;
 use serving::{ServeEnd, ServeOptions};
 use std::alloc::{AllocError, Global};
-use std::io::{Eprint, Input};
+use std::io::Input;
 use std::rt::Files;
 
 // The help's text after the arguments.
@@ -25,7 +26,7 @@ is answered on standard output as soon as the line has ended: all lines that wer
     bump                                    line 2 bad
     peek 00000000                           read 1 reply 1 steps 6
 
-Each line has one answer. Comments and empty lines have none. A line gets `line N bad` if it is no line of
+Each line has one answer of one line, except `?`. Comments and empty lines have none. A line gets `line N bad` if it is no line of
 a script, has more than 512 bytes, or is not UTF-8. Such a line changes nothing, and the service goes on. Lines count
 from 1, comments and empty lines too. If the last line has no line feed, it is neither answered nor run: its client
 went away before the line was whole. A refused line changes nothing. The history of a service has no end: no update or
@@ -85,7 +86,7 @@ fn dump_after<W: Sink>(alloc: Global, state: &StoreState, writer: &mut W) -> Sta
 
 /// Answers the lines of standard input while they arrive. Puts the state that they leave into the file of a path, if standard input has
 /// ended.
-pub fn perform<R: Files + Input + AllocGlobal + Eprint, F: Folder, I: Source + Drop, W: Sink>(
+pub fn perform<R: Files + Input + AllocGlobal + Screen, F: Folder, I: Source + Drop, W: Sink>(
     rt: &R,
     options: ServeOptions,
     path: Option<&str>,
@@ -95,7 +96,7 @@ pub fn perform<R: Files + Input + AllocGlobal + Eprint, F: Folder, I: Source + D
     let Ok(target) = Target::of(rt.alloc(), path) else {
         return no_memory(writer);
     };
-    let mut lines = LateFile::new(rt, DASH);
+    let mut lines = LateFile::lines(rt);
     let ServeEnd { status, state } = serving::serve(
         rt.alloc(),
         options,

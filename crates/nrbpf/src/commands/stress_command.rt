@@ -2,14 +2,15 @@
 
 use crate::commands::options;
 use crate::keeping::destination_of;
-use crate::output::{Target, no_memory, put_after};
+use crate::output::{Target, no_memory, put_after, put_state};
+use crate::progress::Screen;
 use crate::tasks::{Call, Task, config_of};
 use clap::{ArgMatches, Command, arg};
 use engine::{Destination, Folder, Inputs, Performed, Status};
 use oplog::Config;
 use std::alloc::{AllocError, Global};
 use std::io::{Eprint, Read, Write};
-use std::rt::{Clock, Files};
+use std::rt::Files;
 use std::sync::Wait;
 use std::thread::Threads;
 use stress::{Counts, Leaving, OpenGate, Stress};
@@ -77,7 +78,7 @@ pub fn task<'a>(matches: &ArgMatches<'a>) -> Option<Task<'a>> {
     Some(Task::Stress(config_of(matches)?))
 }
 
-// Where the times of calls and the state that they leave go. A state on standard output is written after a file of the times.
+// Where the times of calls and the state that they leave go. A state for standard output is written behind a file of the times, so it goes elsewhere too.
 fn leaving_of(call: &Call<'_>) -> Leaving {
     let times = destination_of(call.times);
     let state = match (times, destination_of(call.output)) {
@@ -121,7 +122,7 @@ fn say_counts<R: Eprint>(rt: &R, counts: Counts) {
 /// Makes the calls of a script on threads, from the state of a file or from a new one. If all was written, puts the times of its calls and the
 /// state that it leaves into files. Says how many calls there were.
 pub fn perform<
-    R: Files + AllocGlobal + Eprint + Threads + Wait + Clock + Sync,
+    R: Files + AllocGlobal + Threads + Wait + Screen + Sync,
     F: Folder,
     I: Read + Drop,
     W: Write,
@@ -158,5 +159,5 @@ pub fn perform<
         say_counts(rt, left.counts);
     }
     let status = put_after(rt, status, &times, left.times);
-    put_after(rt, status, &state, left.state)
+    put_state(rt, status, &state, left.state, writer)
 }

@@ -1,7 +1,7 @@
 use Rattle.std.proofs.Common.{◌≡◌}
 use Rattle.running.specs.Running.{IsSteady}
 use Rattle.serving.specs.ServeAnswer.{ports}
-use Rattle.serving.specs.Serving.{Going}
+use Rattle.serving.specs.ServiceKept.{Going}
 use Rattle.serving.proofs.turns.serve_input.Given as goal
 
 abbrev pub invariant-loop : goal.invariant-loop

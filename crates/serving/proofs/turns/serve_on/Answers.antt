@@ -1,6 +1,6 @@
 use Rattle.std.proofs.Common.{subst}
 use Rattle.std.specs.Prelude.{IfOk}
-use Rattle.serving.specs.Serving.{IsServiceOf}
+use Rattle.serving.specs.ServiceKept.{IsServiceOf}
 use Rattle.serving.proofs.ServedAll.{none_opened, served_on}
 use Rattle.serving.proofs.turns.serve_on.Goals as goal
 

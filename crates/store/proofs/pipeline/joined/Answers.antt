@@ -1,7 +1,7 @@
 use Rattle.std.proofs.Common.{rules, ◌<◌, ◌∷◌, [], List, length, length-append, refl, sym, ap, ◌∙◌, subst, arith}
 use Rattle.loader.specs.Installed.{InstalledView}
 use Rattle.store_steps.specs.declared.pipelines.Member.{Member}
-use Rattle.store.proofs.Neighbours.{Joining, all_joined, first_out, joining_first, joining_more, none_left}
+use Rattle.store.proofs.Ascending.{Joining, all_joined, first_out, joining_first, joining_more, none_left}
 use Rattle.store.proofs.pipeline.joined.Goals as goal
 
 pub loop-session-init : goal.loop-session-init
@@ -47,7 +47,7 @@ invariant_of-result c =
     let came = i.came.0 in
     let kept = i.kept in
     let holds = c.args.sessions.ok.0 in (
-      (all_joined c.args.store.now c.args.sessions.items c.loop-session.members.items c.loop-session.rooms.items c.loop-session.sessions.items i.joining none c.requires.own c.requires.neighbours c.requires.few).0,
+      (all_joined c.args.store.now c.args.sessions.items c.loop-session.members.items c.loop-session.rooms.items c.loop-session.sessions.items i.joining none c.requires.own c.requires.ascending c.requires.few).0,
       none,
       omega (arith, left, past, total, came, kept, holds),
       (let roomy = i.space.0 in let space = c.requires.space.0 in omega (arith, roomy, space)),

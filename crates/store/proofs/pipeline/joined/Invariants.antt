@@ -1,6 +1,6 @@
 -- After k rounds k sessions have come into the pipeline.
 use Rattle.std.proofs.Common.{◌≡◌, ◌+◌, length, vec_capacity}
-use Rattle.store.proofs.Neighbours.{Joining}
+use Rattle.store.proofs.Ascending.{Joining}
 use Rattle.store.proofs.pipeline.joined.Given as goal
 
 abbrev pub invariant-loop-session : goal.invariant-loop-session

@@ -1,7 +1,7 @@
 use Rattle.std.proofs.Common.{rules, ◌<◌, ◌-◌, length, refl, sym, ap, ◌∙◌, arith}
 use Rattle.store_steps.specs.declared.pipelines.Member.{Member}
 use Rattle.store.proofs.Following.{is_last}
-use Rattle.store.proofs.Neighbours.{at_read}
+use Rattle.store.proofs.Ascending.{at_read}
 use Rattle.store.proofs.polled_pipeline.follows.Goals as goal
 
 pub returns-then-last-caller : goal.returns-then-last-caller
@@ -22,9 +22,9 @@ returns-then-last-caller-2 c = record {
   follows = (
     λ e. absurd cc,
     λ f.
-        let some : 0 < length c.args.members.now = search rules in
         let q = c.index-members-members.result in
         let is = c.index-members-members.is in
+        let some : 0 < length c.args.members.now = search rules in
         let at = at_read c.args.members.now (length c.args.members.now - 1) q (omega (arith, some)) is in
         let high = c.if-last-caller-2.true in
         let low = (f.last q at).1 in

@@ -2,7 +2,7 @@ use Rattle.std.proofs.Common.{◌++◌, refl, ◌∙◌, ap, sym, subst}
 use Rattle.std.proofs.lemmas.List.{append-nil}
 use Rattle.std.proofs.lemmas.Result.{err_from_is_err_and}
 use Rattle.serving.specs.ServeAnswer.{Served}
-use Rattle.serving.specs.Serving.{Stands}
+use Rattle.serving.specs.ServiceKept.{Stands}
 use Rattle.serving.proofs.Served.{none_served, text_on, stands_on}
 use Rattle.serving.proofs.service.Service.take.Goals as goal
 

@@ -2,7 +2,7 @@ use Rattle.std.proofs.Common.{◌≡◌, ◌++◌, ap, sym, subst, ◌∙◌}
 use Rattle.std.specs.Prelude.{OnOk}
 use Rattle.std.proofs.lemmas.List.{append-nil}
 use Rattle.serving.specs.ServeAnswer.{Served}
-use Rattle.serving.specs.Serving.{Stands}
+use Rattle.serving.specs.ServiceKept.{Stands}
 use Rattle.serving.proofs.Served.{one_feed, one_byte}
 use Rattle.serving.proofs.LineTurns.{on_ok}
 use Rattle.serving.proofs.service.Service.take_byte.Goals as goal

@@ -1,5 +1,5 @@
 use Rattle.std.proofs.Common.{rules, ◌<◌, ◌∷◌, [], length, length-append, ap, ◌∙◌, subst, arith}
-use Rattle.store.proofs.Neighbours.{Leaving, at_read, first_out, leaving_first, leaving_more}
+use Rattle.store.proofs.Ascending.{Leaving, at_read, first_out, leaving_first, leaving_more}
 use Rattle.store.proofs.pipeline.Pipeline.into_sessions.Goals as goal
 
 pub loop-member-init : goal.loop-member-init

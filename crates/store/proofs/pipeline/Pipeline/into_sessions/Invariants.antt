@@ -1,6 +1,6 @@
 -- After k rounds k sessions have left the pipeline.
 use Rattle.std.proofs.Common.{◌≡◌, ◌+◌, ◌≤◌, length, vec_capacity}
-use Rattle.store.proofs.Neighbours.{Leaving}
+use Rattle.store.proofs.Ascending.{Leaving}
 use Rattle.store.proofs.pipeline.Pipeline.into_sessions.Given as goal
 
 abbrev pub invariant-loop-member : goal.invariant-loop-member

@@ -6,7 +6,7 @@ use Rattle.store.specs.Opening.{AreOf}
 use Rattle.store.specs.PolledPipelines.{AreListed, AreWaiting, Follows, MayFollow}
 use Rattle.store.specs.Sessions.{IsOf}
 use Rattle.store.proofs.Following.{follows_too, may_follow, one_more}
-use Rattle.store.proofs.Neighbours.{HasSlot, has_slot, member_slot, seat_seen}
+use Rattle.store.proofs.Ascending.{HasSlot, has_slot, member_slot, seat_seen}
 use Rattle.store.proofs.PolledEach.{all_idle, listed_new, posted_is}
 use Rattle.store.proofs.polled_pipeline.PolledPipeline.add.Goals as goal
 

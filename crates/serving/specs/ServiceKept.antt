@@ -15,18 +15,18 @@ use Rattle.serving.specs.declared.turns.ServeEnd.{ServeEnd}
 use Rattle.running.specs.declared.single_node.SingleNode.{SingleNode}
 use Rattle.running.specs.RunAnswer.{Turn, line_turn}
 use Rattle.running.specs.Running.{Follows, LineTaken}
-use Rattle.serving.specs.ServeAnswer.{Serves, Serving, Ports, nothing_served, text_turn, served, served_text, AnswersBytes}
+use Rattle.serving.specs.ServeAnswer.{Serves, ServiceState, Ports, nothing_served, text_turn, served, served_text, AnswersBytes}
 
 -- one more byte of the line at hand
-abbrev pub with_byte : Serving → ℕ → Serving
+abbrev pub with_byte : ServiceState → ℕ → ServiceState
 with_byte s b = record s { left = s.left ++ b ∷ [] }
 
 -- P holds of what is served, or answered in its place, if that was opened
 abbrev pub IfOpened : {E : Type 0} → Result Opened E → (Result CatalogueView Answer → Type 0) → Type 0
 IfOpened opened P = (on : Result CatalogueView Answer) → IfOk opened (λ o. on_which o ≡ on) → P on
 
--- of a line that is longer than any good one, its first bytes are enough
-pub record Stands (s : Serving) (service : Service) : Type 0 where
+-- the service is in the state s; of a line that is longer than any good one it keeps the first bytes
+pub record Stands (s : ServiceState) (service : Service) : Type 0 where
   pub has_values : service.has_values ≡ s.has_values
   pub number : service.number ≡ s.number
   pub follows : Follows ENDLESS service.catalogue s.history service.node
@@ -54,12 +54,12 @@ TakesSaid c said node after old new r =
     (limit : ℕ) (h : History) → Follows limit c h node → IfOk r (λ good. LineTaken limit c (option_and_then (line_turn limit c h) said) good after old new)
 
 -- what the line at hand does was done, unless memory runs out
-abbrev pub TakesLeft : {E : Type 0} → Service → Service → Serving → Result Bool E → Type 0
+abbrev pub TakesLeft : {E : Type 0} → Service → Service → ServiceState → Result Bool E → Type 0
 TakesLeft old new s r =
     IfOk r (λ good. LineTaken ENDLESS old.catalogue (text_turn s.has_values old.catalogue s.history s.left) good new.node old.answer.items new.answer.items)
 
 -- the text that these bytes are served with is put behind what was there
-abbrev pub AddsServed : CatalogueView → Serving → List ℕ → List ℕ → List ℕ → Type 0
+abbrev pub AddsServed : CatalogueView → ServiceState → List ℕ → List ℕ → List ℕ → Type 0
 AddsServed c s bytes before after = after ≡ before ++ (served c s bytes).text
 
 -- the turn of the line at hand was taken, and its text is the answer
@@ -68,21 +68,21 @@ pub record IsAnswered (turn : Turn) (service : Service) : Type 0 where
   pub follows : Follows ENDLESS service.catalogue turn.history service.node
 
 -- a service goes on as it stood, on the same catalogue
-abbrev pub GoesOn : Service → Service → (Serving → Serving) → Type 0
-GoesOn old new next = (new.catalogue ≡ old.catalogue) × ((s : Serving) → Stands s old → Stands (next s) new)
+abbrev pub GoesOn : Service → Service → (ServiceState → ServiceState) → Type 0
+GoesOn old new next = (new.catalogue ≡ old.catalogue) × ((s : ServiceState) → Stands s old → Stands (next s) new)
 
 -- these bytes' answers stand behind a text, and the service behind them; where memory runs out, those of a beginning
-abbrev pub TakesBytes : {E : Type 0} → CatalogueView → Serving → List ℕ → Service → List ℕ → List ℕ → Result (Unit {0}) E → Type 0
+abbrev pub TakesBytes : {E : Type 0} → CatalogueView → ServiceState → List ℕ → Service → List ℕ → List ℕ → Result (Unit {0}) E → Type 0
 TakesBytes c s bytes new before after (Ok u) = (after ≡ before ++ (served c s bytes).text) × Stands (served c s bytes).serving new
 TakesBytes c s bytes new before after (Err e) = (k : ℕ) × (after ≡ before ++ (served c s (take k bytes)).text)
 
 -- what a turn read is answered, and the service stands behind it; or how it ended
-abbrev pub TurnEnds : CatalogueView → Serving → List ℕ → Service → Option (List ℕ) → Option (List ℕ) → Option Status → Type 0
+abbrev pub TurnEnds : CatalogueView → ServiceState → List ℕ → Service → Option (List ℕ) → Option (List ℕ) → Option Status → Type 0
 TurnEnds c s bytes service old new None = Appends old new (served c s bytes).text × Stands (served c s bytes).serving service
 TurnEnds c s bytes service old new (Some status) = AnswersBytes old new status (λ b. (served c s b).text) bytes
 
 -- a turn of a service that stands so: where it ended well, its input is at its end and nothing was read
-pub record Turns (c : CatalogueView) (s : Serving) (service : Service) (at : Ports) (ended : Option Status) : Type 0 where
+pub record Turns (c : CatalogueView) (s : ServiceState) (service : Service) (at : Ports) (ended : Option Status) : Type 0 where
   pub bytes : List ℕ
   pub read : Consumes at.given at.left bytes
   pub whole : ended ≡ Some statuses.Good → IsAtEnd at.left × (bytes ≡ [])
@@ -90,7 +90,7 @@ pub record Turns (c : CatalogueView) (s : Serving) (service : Service) (at : Por
 
 -- `Turns` from any state that the service is in
 abbrev pub TakesTurns : Ports → Service → Service → Option Status → Type 0
-TakesTurns at old new ended = (s : Serving) → Stands s old → Turns old.catalogue s new at ended
+TakesTurns at old new ended = (s : ServiceState) → Stands s old → Turns old.catalogue s new at ended
 
 -- turns were taken, and the service stands behind all that they read
 pub record Going (has_values : Bool) (c : CatalogueView) (service : Service) (at : Ports) : Type 0 where

@@ -1,13 +1,13 @@
 use Rattle.std.proofs.Common.{rules, ◌<◌, length, refl, arith}
-use Rattle.store.proofs.Neighbours.{all_checked, are_no_neighbours, at_read, has_slot, none_checked, one_checked}
-use Rattle.store.proofs.pipeline.are_neighbours.Goals as goal
-use Rattle.store.proofs.pipeline.are_neighbours.Goals.{then-caller-node-via-then-caller-node, then-caller-node-via-else-caller-node+then-caller-lowest}
+use Rattle.store.proofs.Ascending.{all_checked, are_no_neighbours, at_read, has_slot, none_checked, one_checked}
+use Rattle.store.proofs.pipeline.are_ascending.Goals as goal
+use Rattle.store.proofs.pipeline.are_ascending.Goals.{then-caller-node-via-then-caller-node, then-caller-node-via-else-caller-node+then-caller-lowest}
 
 pub loop-number-init : goal.loop-number-init
 loop-number-init c = record { checked = none_checked c.args.store.now.config c.args.sessions.now _ }
 
-pub returns-then-caller-node-clause-neighbours : goal.returns-then-caller-node-clause-neighbours
-returns-then-caller-node-clause-neighbours c =
+pub returns-then-caller-node-clause-ascending : goal.returns-then-caller-node-clause-ascending
+returns-then-caller-node-clause-ascending c =
     let store = c.args.store.now in
     let sessions = c.args.sessions.now in
     let n = c.loop-number.number in
@@ -48,8 +48,8 @@ loop-number-preserved c =
           (has_slot store t c.caller-caller.result (c.requires.own n t at_t) c.caller-caller.ensures.own c.caller-caller.ensures.within) c.if-caller-node.false (omega (arith, low));
     }
 
-pub returns-clause-neighbours : goal.returns-clause-neighbours
-returns-clause-neighbours c =
+pub returns-clause-ascending : goal.returns-clause-ascending
+returns-clause-ascending c =
     let past = c.loop-number-test.false in
     let upto = c.loop-number.auto.number-end in
     let some : 0 < length c.args.sessions.now = search rules in

@@ -1,4 +1,4 @@
--- The sessions of a pipeline: whether they are neighbours, how they come into it, and how they leave it.
+-- The sessions of a pipeline: whether they are of one node and ascend, how they come into it, and how they leave it.
 use Rattle.std.proofs.Common.{◌≡◌, ℕ, zero, suc, ◌+◌, ◌*◌, ◌/◌, ◌%◌, ◌<◌, ◌≤◌, List, [], ◌∷◌, ◌++◌, append-nil, append_assoc, length, length-append, sym, refl, ap, ◌∙◌, subst, arith, ◌⊎◌, inl, inr, ⊎_elim}
 use Rattle.std.proofs.lemmas.Bool.{cases_lt}
 use Rattle.std.proofs.lemmas.List.{length-map}
@@ -20,7 +20,7 @@ use Rattle.store_steps.specs.Standing.{SessionKnown, StoreSeat}
 use Rattle.store_steps.specs.Views.{IsIdle, SessionView, session_view}
 use Rattle.store_steps.proofs.Export.{seen_as}
 use Rattle.store.specs.Opening.{AreOf}
-use Rattle.store.specs.Pipelines.{AreJoined, AreNeighbours, IsOnNode, views_of}
+use Rattle.store.specs.Pipelines.{AreJoined, AreAscending, IsOnNode, views_of}
 use Rattle.store.specs.Sessions.{HasRoom, IsOf, StoreView, known_of}
 
 abbrev K : Type 0
@@ -107,7 +107,7 @@ module _ (config : Sizes) (sessions : List SessionView) (node : ℕ) where
           top : (base : ℕ) → s.session ≡ base + caller.slot → s.session < base + (caller.slot + 1)
           top base e = omega (arith, e)
 
-  pub all_checked : (n lowest : ℕ) → Checked config sessions node n lowest → n ≡ length sessions → 0 < length sessions → AreNeighbours config sessions
+  pub all_checked : (n lowest : ℕ) → Checked config sessions node n lowest → n ≡ length sessions → 0 < length sessions → AreAscending config sessions
   all_checked n lowest c all some = record {
     node = node;
     some = some;
@@ -117,7 +117,7 @@ module _ (config : Sizes) (sessions : List SessionView) (node : ℕ) where
 
   -- one of another node than the first, or of a lower slot than the next one may have
   pub are_no_neighbours : (n lowest : ℕ) (s t : SessionView) (first caller : Caller) → Checked config sessions node n lowest → At 0 s sessions → HasSlot config s first → first.node ≡ node → At n t sessions → HasSlot config t caller
-      → (caller.node ≡ node → lowest ≤ caller.slot → ⊥) → AreNeighbours config sessions → ⊥
+      → (caller.node ≡ node → lowest ≤ caller.slot → ⊥) → AreAscending config sessions → ⊥
   are_no_neighbours n lowest s t first caller c at_s has_s of at_t has_t differs are =
       let a = are.slots 0 s at_s in
       let b = are.slots n t at_t in
@@ -205,7 +205,7 @@ joining_more all ms rooms before rest s seat caller room g is shelf known idle h
   members = more_members ms rooms (record { seat = seat; caller = caller }) room g.members idle has;
 }
 
--- ---- neighbours in the pipeline
+-- ---- the sessions in the pipeline
 
 pub has_slot : (store : StoreView) (s : SessionView) (caller : Caller) → IsOf store s → s.session ≡ session s.progress.config caller.node caller.slot → caller.slot < s.progress.config.slots → HasSlot store.config s caller
 has_slot store s caller of own within = record { own = own ∙ ap (λ z. session z caller.node caller.slot) of.config; within = subst (λ (z : Sizes). caller.slot < z.slots) of.config within }
@@ -217,7 +217,7 @@ member_slot store m i of =
     has_slot store (session_view m.seat) m.caller of (ap (λ (z : SessionView). z.session) seen ∙ (i.free.own ∙ ap (λ (z : SessionView). session z.progress.config m.caller.node m.caller.slot) (sym seen)))
     (subst (λ (z : SessionView). m.caller.slot < z.progress.config.slots) (sym seen) i.free.within)
 
-module _ (store : StoreView) (ms : List Member) (rooms : List InstalledView) (are : AreIdleMembers ms rooms) (own : AreOf store (views_of ms)) (near : AreNeighbours store.config (views_of ms)) where
+module _ (store : StoreView) (ms : List Member) (rooms : List InstalledView) (are : AreIdleMembers ms rooms) (own : AreOf store (views_of ms)) (near : AreAscending store.config (views_of ms)) where
   node_is : (j : ℕ) (m : Member) → At j m ms → m.caller.node ≡ near.node
   node_is j m at =
       let there = at_map (λ (z : Member). session_view z.seat) ms j m at in
@@ -242,11 +242,11 @@ module _ (store : StoreView) (ms : List Member) (rooms : List InstalledView) (ar
     ascend = ascend;
   }
 
-pub all_joined : (store : StoreView) (all : List SessionView) (ms : List Member) (rooms : List InstalledView) (rest : List SessionView) → Joining all ms rooms rest → rest ≡ [] → AreOf store all → AreNeighbours store.config all → length all ≤ 16 → AreJoined ms rooms × (views_of ms ≡ all)
+pub all_joined : (store : StoreView) (all : List SessionView) (ms : List Member) (rooms : List InstalledView) (rest : List SessionView) → Joining all ms rooms rest → rest ≡ [] → AreOf store all → AreAscending store.config all → length all ≤ 16 → AreJoined ms rooms × (views_of ms ≡ all)
 all_joined store all ms rooms rest g none own near few =
     let is : views_of ms ≡ all = sym (append-nil (views_of ms)) ∙ (ap (λ z. views_of ms ++ z) (sym none) ∙ g.split) in
     let long : length ms ≡ length all = sym (length-map ms (λ (z : Member). session_view z.seat)) ∙ ap length is in
-    (are_joined store ms rooms g.members (subst (AreOf store) (sym is) own) (subst (AreNeighbours store.config) (sym is) near) (omega (arith, few, long)), is)
+    (are_joined store ms rooms g.members (subst (AreOf store) (sym is) own) (subst (AreAscending store.config) (sym is) near) (omega (arith, few, long)), is)
 
 -- ---- out of the pipeline
 

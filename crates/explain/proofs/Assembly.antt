@@ -1,0 +1,102 @@
+-- The line of assembler text that is shown, and what stands below it.
+use Rattle.std.proofs.Common.{◌≡◌, ℕ, ◌+◌, ◌<◌, ◌≤◌, Bool, true, false, eqb, cond, List, [], ◌∷◌, ◌++◌, length, take, drop, get_or, Option, Some, None, refl, sym, ap, subst, ◌∙◌, arith}
+use Rattle.std.specs.Prelude.{◌-◌, ◌≢◌, min, not, MatchOption, codes, decimal, slice_index}
+use Rattle.std.specs.Borrow.{Bor}
+use Rattle.std.specs.List.{concat, flat_map, position_or_len}
+use Rattle.std.proofs.lemmas.List.Folds.{concat-append}
+use Rattle.std.proofs.lemmas.List.Sums.{position_or_len_is, prefix_len-le-length}
+use Rattle.std.proofs.lemmas.Bool.{eqb-true}
+use Rattle.std.proofs.lemmas.List.{drop_all, drop_more, length-append, take-append-drop}
+use Rattle.std.proofs.Math.Nat.{min-eq_left}
+use Rattle.std.proofs.Math.Seq.{take-length, take-append_seam, get_or-append_seam}
+use Rattle.std.proofs.lemmas.Str.Pattern.{IsSplitOnceResult, split_once_first}
+use Rattle.asm.specs.declared.refusals.AsmFault.{AsmFault}
+use Rattle.asm.specs.declared.refusals.AsmRefusal.{AsmRefusal}
+use Rattle.asm.specs.Refusal.{fault_number}
+use Rattle.asm.specs.declared.refusals.AsmFault.TheVariants.{UnknownWord, BadOperand, OutOfRange, UnknownLabel, LabelTwice, JumpTooFar, TooLong, TextBehind}
+use Rattle.asm.specs.Tokens.{is_blank}
+use Rattle.explain.specs.Assembly.{before_visible, before_word, below, code_of, fault_text, shown, wanted_text, IsPlace}
+use Rattle.explain.proofs.Pieces.{both}
+
+-- a line up to its comment
+pub code_is : (bs : List ℕ) (r : Option (Bor (List ℕ) × Bor (List ℕ))) → IsSplitOnceResult 59 bs r → MatchOption r (bs ≡ code_of bs) (λ x. x.0.now ≡ code_of bs)
+code_is bs None h = sym (ap (λ n. take n bs) (split_once_first 59 bs None h (omega arith)) ∙ take-length bs)
+code_is bs (Some x) h = (split_once_first 59 bs (Some x) h (omega arith)).1
+
+-- the first visible byte, or none
+pub visible_at : (bs : List ℕ) (i : ℕ) → i < length bs → ((k : ℕ) → k < i → not (is_blank (get_or bs k 0)) ≡ false) → not (is_blank (get_or bs i 0)) ≡ true → i ≡ before_visible bs
+visible_at bs i lt none here = sym (position_or_len_is (λ c. not (is_blank c)) bs i 0 (omega arith) none (λ _. here))
+
+pub none_visible : (bs : List ℕ) → ((k : ℕ) → k < length bs → not (is_blank (get_or bs k 0)) ≡ false) → length bs ≡ before_visible bs
+none_visible bs none = sym (position_or_len_is (λ c. not (is_blank c)) bs (length bs) 0 (omega arith) none (λ lt. absurd (omega arith)))
+
+-- a place is within the line
+pub within_line : (line : List ℕ) → before_word line ≤ length line
+within_line line =
+    let n = position_or_len (λ c. eqb c 59) line in
+    let within : before_word line ≤ length (take n line) = prefix_len-le-length (λ c. not (not (is_blank c))) (code_of line) in
+    omega (arith, within, length-append (take n line) (drop n line), ap length (take-append-drop n line))
+
+word_within : (line : List ℕ) (at : ℕ) → at ≡ before_word line → min at (length line) ≡ before_word line
+word_within line at is = min-eq_left (subst (λ n. n ≤ length line) (sym is) (within_line line)) ∙ is
+
+-- ---- the line that is shown
+
+abbrev shown_by : Bool → ℕ → List ℕ → List ℕ
+shown_by b n bs = cond b (take n bs) bs
+
+shown_front : (xs : List ℕ) → xs ≡ shown (xs ++ 13 ∷ [])
+shown_front xs =
+    let n : length (xs ++ 13 ∷ []) - 1 ≡ length xs = omega (arith, length-append xs (13 ∷ [])) in
+    let here : eqb (get_or (xs ++ 13 ∷ []) (length xs) 0) 13 ≡ true = ap (λ c. eqb c 13) (get_or-append_seam xs 13 [] 0) in
+    sym (ap (λ k. shown_by (eqb (get_or (xs ++ 13 ∷ []) k 0) 13) k (xs ++ 13 ∷ [])) n ∙ ap (λ b. shown_by b (length xs) (xs ++ 13 ∷ [])) here ∙ take-append_seam xs (13 ∷ []))
+
+pub shown_whole : (bs : List ℕ) → ((front : List ℕ) → bs ≢ front ++ (13 ∷ [])) → bs ≡ shown bs
+shown_whole [] other = refl
+shown_whole (c ∷ cs) other = by (eqb (get_or (c ∷ cs) n 0) 13) refl ∙ ap (λ k. shown_by (eqb (get_or (c ∷ cs) k 0) 13) k (c ∷ cs)) last
+  where
+    n : ℕ
+    n = length cs
+
+    last : n ≡ length (c ∷ cs) - 1
+    last = omega arith
+
+    lt : n < length (c ∷ cs)
+    lt = omega arith
+
+    by : (b : Bool) → eqb (get_or (c ∷ cs) n 0) 13 ≡ b → (c ∷ cs) ≡ shown_by b n (c ∷ cs)
+    by false is = refl
+    by true is =
+        let byte : get_or (c ∷ cs) n 0 ≡ 13 = eqb-true _ _ is in
+        absurd (other (take n (c ∷ cs)) (sym (take-append-drop n (c ∷ cs)) ∙ ap (λ t. take n (c ∷ cs) ++ t) (drop_more (c ∷ cs) n 0 lt ∙ ap (λ d. d ∷ drop (n + 1) (c ∷ cs)) byte ∙ ap (λ t. 13 ∷ t) (drop_all (n + 1) (c ∷ cs) (omega arith)))))
+
+pub shown_is : (bs : List ℕ) (r : Option (Bor (List ℕ))) → MatchOption r ((front : List ℕ) → bs ≢ front ++ (13 ∷ [])) (λ x. bs ≡ x.now ++ (13 ∷ [])) → MatchOption r (bs ≡ shown bs) (λ x. x.now ≡ shown bs)
+shown_is bs None other = shown_whole bs other
+shown_is bs (Some x) is = shown_front x.now ∙ ap shown (sym is)
+
+-- within the line is the place of its word
+pub place_within : (why : AsmFault) (line : List ℕ) (at : ℕ) → IsPlace why (before_word line) at → IsPlace why (before_word line) (min at (length line))
+place_within UnknownWord line at is = word_within line at is
+place_within LabelTwice line at is = word_within line at is
+place_within TooLong line at is = word_within line at is
+place_within BadOperand line at is = tt
+place_within OutOfRange line at is = tt
+place_within UnknownLabel line at is = tt
+place_within JumpTooFar line at is = tt
+place_within TextBehind line at is = tt
+
+-- ---- what is told
+
+pub told_whole : (e : AsmRefusal) (at : ℕ) (wanted line number column words here space base first second all : List ℕ)
+    → base ≡ [] → number ≡ decimal (fault_number e.why) → column ≡ decimal (at + 1) → words ≡ wanted → here ≡ shown line → space ≡ flat_map below (take at line)
+    → first ≡ base ++ concat (codes "line " ∷ decimal e.line ∷ codes ": A" ∷ number ∷ [])
+    → second ≡ first ++ concat (codes "," ∷ codes " column " ∷ column ∷ codes ": wanted " ∷ words ∷ [])
+    → all ≡ second ++ concat (codes "\n    " ∷ here ∷ codes "\n    " ∷ space ∷ codes "^\n" ∷ []) → all ≡ fault_text e ++ wanted_text at wanted line
+told_whole e at wanted line number column words here space base first second all empty number_is column_is words_are here_is space_is put_first put_second put_all =
+    let a = codes "line " ∷ decimal e.line ∷ codes ": A" ∷ number ∷ [] in
+    let b = codes "," ∷ codes " column " ∷ column ∷ codes ": wanted " ∷ words ∷ [] in
+    let d = codes "\n    " ∷ here ∷ codes "\n    " ∷ space ∷ codes "^\n" ∷ [] in
+    let front = codes "line " ∷ decimal e.line ∷ codes ": A" ∷ number ∷ codes "," ∷ [] in
+    let back = codes " column " ∷ column ∷ codes ": wanted " ∷ words ∷ codes "\n    " ∷ here ∷ codes "\n    " ∷ space ∷ codes "^\n" ∷ [] in
+    let same : concat front ++ concat back ≡ fault_text e ++ wanted_text at wanted line = rw (number_is, column_is, words_are, here_is, space_is) refl in
+    both (a ++ b) d base second all (both a b base first second put_first put_second) put_all ∙ ap (λ t. t ++ concat ((a ++ b) ++ d)) empty ∙ concat-append front back ∙ same
