@@ -232,8 +232,8 @@ void nrbpf_raw_new_lane(struct nrbpf_raw_lane *at);
 void nrbpf_raw_drop_lane(struct nrbpf_raw_lane *at);
 
 /* Moves a session from its handle into a lane, after the lane's others. Then its handle is closed, and its memory is as good as room. The lane's handle gets
- * the status: 0; H2 if a handle is not open; H3 if an update is posted; H6 if the session is of another store or node than the lane's, or not of a higher slot,
- * or the lane has 16. With any other status than 0 both are as they were. */
+ * the status: 0; H2 if a handle is not open; H3 if an update is posted; H6 if the session is of another node than the lane's, or not of a higher slot, or the
+ * lane has 16. With any other status than 0 both are as they were. A session of another store than the lane's is the host's mistake. */
 void nrbpf_raw_join(struct nrbpf_raw_lane *at, struct nrbpf_raw_session *session);
 
 /* Moves the last session of a lane to a handle, which it writes into the room at `session`. Both handles get the status: 0; H2 if there is none; H3 if a list

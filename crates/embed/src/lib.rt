@@ -10,7 +10,7 @@ ghost use Rattle.host_calls.specs.Calls.{Goes};
 ghost use Rattle.host_calls.specs.Stores.{Closes, Finds, Gives, IsItsOwn, Takes};
 ghost use Rattle.host_calls.specs.Leaving.{Leaves};
 ghost use Rattle.host_calls.specs.Openings.{IsOpened};
-ghost use Rattle.host_calls.specs.Lanes.{IsNewLane, Joins, Leaves as LeavesLane, UpdatesEach};
+ghost use Rattle.host_calls.specs.Lanes.{IsNewLane, Joins, JoinsOneStore, Leaves as LeavesLane, UpdatesEach};
 ghost use Rattle.host_calls.specs.Loadings.{IsLoaded};
 ghost use Rattle.host_calls.specs.Looks.{Answers, Gets, Scans, Snaps};
 ghost use Rattle.host_calls.specs.Describing.{DescribesMap, DescribesProgram, DescribesStore};
@@ -216,11 +216,11 @@ pub unsafe extern "C" fn nrbpf_raw_drop_lane(at: *mut u8)
     drop_lane(&mut *(at as *mut LaneHandle));
 }
 
-/// Moves a session from its handle into a lane.
+/// Moves a session from its handle into a lane, whose sessions are of its store. Its handle is closed then, and is as it was where the session is refused.
 #[unsafe(no_mangle)]
 pub unsafe extern "C" fn nrbpf_raw_join(at: *mut u8, session: *mut u8)
     ghost values: { LaneHandle × SessionHandle }
-    requires* { sem 𝓛 (holds_lane at values.0) ∗ sem 𝓛 (holds_session session values.1) }
+    requires* { sem 𝓛 (holds_lane at values.0) ∗ sem 𝓛 (holds_session session values.1) ∗ ⌜ JoinsOneStore values.0 values.1 ⌝ }
     ensures* { ∃ₛ (λ after. ∃ₛ (λ left. sem 𝓛 (holds_lane at after) ∗ sem 𝓛 (holds_session session left) ∗ ⌜ Joins values.0 values.1 after left ⌝)) }
 {
     join(

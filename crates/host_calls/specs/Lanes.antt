@@ -1,8 +1,7 @@
 -- What a call on a lane's handle tells.
-use Rattle.std.specs.Prelude.{◌≡◌, ℕ, ◌<◌, ◌≤◌, List, [], ◌∷◌, ◌++◌, None, Some, Option, Result, Ok, Err, MatchOption, length, map, drop}
+use Rattle.std.specs.Prelude.{◌≡◌, ℕ, ◌<◌, ◌≤◌, List, [], ◌∷◌, ◌++◌, None, Some, Option, Result, Ok, Err, IfSome, MatchOption, length, map, drop}
 use Rattle.ownlock.specs.Seats.{At}
 use Rattle.verifier.specs.declared.refusal.Mode.TheVariants.{Update}
-use Rattle.accounts.specs.declared.sessions.Pending.{Pending}
 use Rattle.replica.specs.Refusals.{store_fault_number}
 use Rattle.replica.specs.declared.refusals.StoreRefused.{StoreRefused}
 use Rattle.store_steps.specs.Questions.{first_refused_in}
@@ -13,17 +12,18 @@ use Rattle.store.specs.declared.answers.Answer.{Answer}
 use Rattle.store.specs.Pipelines.{AreInOrder, EachGoesOn, OthersStay}
 use Rattle.store.specs.PolledPipelines.{AreWaiting, EachAsks, EachIsTold, EachLooks, MayFollow}
 use Rattle.store.specs.Sessions.{StoreView}
+use Rattle.host_calls.specs.declared.attached.Attached.{Attached}
 use Rattle.host_calls.specs.declared.handles.Asking.{Asking}
 use Rattle.host_calls.specs.declared.handles.LaneAnswered.{LaneAnswered}
 use Rattle.host_calls.specs.declared.handles.LaneHandle.{LaneHandle}
 use Rattle.host_calls.specs.declared.handles.Outcome.{Outcome}
 use Rattle.host_calls.specs.declared.handles.SessionHandle.{SessionHandle}
-use Rattle.host_calls.specs.declared.handles.TheConstants.{MOST_ASKED}
+use Rattle.host_calls.specs.declared.lanes.Lane.{Lane}
 use Rattle.host_calls.specs.declared.lanes.Listed.{Listed}
 use Rattle.host_calls.specs.declared.lanes.Listed.TheVariants.{Busy, Again, Answered, Refused, NotOpen, NoWord}
 use Rattle.host_calls.specs.Looks.{questions_of}
 use Rattle.host_calls.specs.Statuses.{again, busy, done, ended, is_out, no_memory, no_word, not_open, not_ours, refusal, letter_S}
-use Rattle.host_calls.specs.Views.{AttachedView}
+use Rattle.host_calls.specs.Views.{AttachedView, IsSame}
 
 -- the sessions of a lane
 abbrev pub sessions_in : List AttachedView → List SessionView
@@ -32,6 +32,15 @@ sessions_in lane = map (λ (a : AttachedView). a.session) lane
 -- all sessions are of this store
 abbrev pub AreOneLane : StoreView → List AttachedView → Type 0
 AreOneLane store lane = (j : ℕ) (a : AttachedView) → At j a lane → a.store ≡ store
+
+-- no list is out
+abbrev pub IsIdleLane : List AttachedView → Type 0
+IsIdleLane lane = AreWaiting 0 (sessions_in lane)
+
+-- the same sessions, each of the same store and from the same place
+pub record AreSame (old new : List AttachedView) : Type 0 where
+  pub count : length new ≡ length old
+  pub each : (j : ℕ) (a b : AttachedView) → At j a old → At j b new → IsSame a b
 
 -- a new handle has a lane without sessions; or none, where there is no memory
 abbrev pub IsNewLane : LaneHandle → Type 0
@@ -57,8 +66,9 @@ has_outcomes answers before = map outcome_of answers ++ drop (length answers) be
 -- each session that waited has the answer of its number, and later answers have higher indexes; or each waits still
 abbrev pub TellsOutList : List Outcome → List Outcome → (old new : List SessionView) → ℕ → Listed → Type 0
 TellsOutList before after old new count (Answered n) =
-    (answers : List (Result Answer StoreRefused)) × (length answers ≡ count) × (n ≡ count) × (after ≡ has_outcomes answers before) × EachIsTold old new answers (Some answers) × AreInOrder answers
-TellsOutList before after old new count Again = (after ≡ before) × ((answers : List (Result Answer StoreRefused)) → length answers ≡ count → EachIsTold {A = ℕ} old new answers None)
+    (answers : List (Result Answer StoreRefused)) × (length answers ≡ count) × (n ≡ count) × (after ≡ has_outcomes answers before)
+    × EachIsTold {A = Unit {0}} old new answers (Some tt) × AreInOrder answers
+TellsOutList before after old new count Again = (after ≡ before) × EachIsTold {A = Unit {0}} old new [] None
 TellsOutList before after old new count told = ⊥
 
 -- a list that isn't refused: each session has only looked, where another was in the way; else each call is posted, once, by the session of its number
@@ -72,12 +82,26 @@ TellsBegun store calls before after old new told =
     MatchOption (first_refused_in Update store.catalogue 0 calls) (TellsNewList calls before after old new told)
     (λ (why : QuestionRefused). (told ≡ Refused (refusal letter_S (store_fault_number why.refused)) why.number) × (after ≡ before) × (new ≡ old))
 
--- the whole: by whether a list is out, which then has so many calls
+-- nothing has changed, and this is told
+abbrev pub TellsNoList : List Outcome → List Outcome → (old new : List AttachedView) → (told words : Listed) → Type 0
+TellsNoList before after old new told words = (told ≡ words) × (after ≡ before) × (new ≡ old)
+
+-- there is a session for each, and room for what becomes of it
+abbrev pub HasRoomFor : List Asking → List Outcome → List AttachedView → Type 0
+HasRoomFor asked before old = (length asked ≤ length old) × (length asked ≤ length before)
+
+-- the whole: by whether a list is out, which has so many calls
 pub record TellsList (asked : List Asking) (before after : List Outcome) (old new : List AttachedView) (told : Listed) : Type 0 where
-  pub long : length after ≡ length before
-  pub fresh : AreWaiting 0 (sessions_in old) → 0 < length asked → length asked ≤ length old → length asked ≤ length before
-      → (store : StoreView) → AreOneLane store old → EachGoesOn store (sessions_in old) (sessions_in new) × OthersStay (length asked) (sessions_in old) (sessions_in new) × TellsBegun store (questions_of asked) before after (sessions_in old) (sessions_in new) told
-  pub out : (count : ℕ) → 0 < count → AreWaiting count (sessions_in old) → count ≤ length old → count ≤ length before → TellsOutList before after (sessions_in old) (sessions_in new) count told
+  pub out : ℕ
+  pub waiting : AreWaiting out (sessions_in old) × (out ≤ length old)
+  pub same : AreSame old new
+  pub goes_on : 0 < out → out ≤ length before → OthersStay out (sessions_in old) (sessions_in new) × TellsOutList before after (sessions_in old) (sessions_in new) out told
+      × ((store : StoreView) → AreOneLane store old → EachGoesOn store (sessions_in old) (sessions_in new))
+  pub short : 0 < out → length before < out → TellsNoList before after old new told NoWord
+  pub begins : out ≡ 0 → 0 < length asked → HasRoomFor asked before old → OthersStay (length asked) (sessions_in old) (sessions_in new)
+      × ((store : StoreView) → AreOneLane store old → EachGoesOn store (sessions_in old) (sessions_in new) × TellsBegun store (questions_of asked) before after (sessions_in old) (sessions_in new) told)
+  pub none : out ≡ 0 → length asked ≡ 0 → TellsNoList before after old new told (Answered 0)
+  pub long : out ≡ 0 → (HasRoomFor asked before old → ⊥) → TellsNoList before after old new told NoWord
 
 -- ---- what is written
 
@@ -108,17 +132,41 @@ pub record UpdatesEach (asked : List Asking) (outcomes given : List Outcome) (be
   pub noted : after.answered ≡ list_noted before.answered told
   pub tells : MatchOption before.own ((told ≡ NotOpen) × (after.own ≡ None) × (given ≡ outcomes)) (λ l. MatchOption after.own ⊥ (λ l'. TellsList asked outcomes given l l' told))
 
--- the session is the lane's last one now, and its handle is closed; or both are as they were, for this reason
-abbrev pub JoinsTo : (lane now : List AttachedView) → AttachedView → (session left : SessionHandle) → ℕ → Type 0
-JoinsTo lane now a session left status =
-    MatchOption left.own ((status ≡ done) × (now ≡ lane ++ a ∷ [])) (λ b. (left ≡ session) × (now ≡ lane) × (status ≡ not_ours → MayJoin lane a → ⊥))
+-- the sessions of both handles, where they have some, are of one store
+abbrev pub JoinsOneStore : LaneHandle → SessionHandle → Type 0
+JoinsOneStore h session = IfSome h.own (λ (l : Lane). IfSome session.own (λ (a : Attached). AreOneLane a.store l))
+
+-- both are as they were, for this reason
+abbrev pub StaysOut : (lane now : List AttachedView) → (session left : SessionHandle) → (status why : ℕ) → Type 0
+StaysOut lane now session left status why = (now ≡ lane) × (left ≡ session) × (status ≡ why)
+
+-- nothing is out for the session, nor for the lane
+abbrev pub AreIdleBoth : List AttachedView → AttachedView → Type 0
+AreIdleBoth lane a = IsIdleLane lane × (a.session.note.pending ≡ None)
+
+-- then the session is the lane's last one now, and its handle is closed; or both are as they were, since it may not come after the others
+abbrev pub JoinsIdle : (lane now : List AttachedView) → AttachedView → (session left : SessionHandle) → ℕ → Type 0
+JoinsIdle lane now a session left status =
+    MatchOption left.own ((now ≡ lane ++ a ∷ []) × (left ≡ record session { own = None }) × (status ≡ done))
+    (λ b. (MayJoin lane a → ⊥) × StaysOut lane now session left status not_ours)
+
+pub record JoinsTo (lane now : List AttachedView) (a : AttachedView) (session left : SessionHandle) (status : ℕ) : Type 0 where
+  pub idle : AreIdleBoth lane a → JoinsIdle lane now a session left status
+  pub out : (AreIdleBoth lane a → ⊥) → StaysOut lane now session left status is_out
 
 pub record Joins (before : LaneHandle) (session : SessionHandle) (after : LaneHandle) (left : SessionHandle) : Type 0 where
   pub joins : MatchOption before.own ((after.own ≡ None) × (left ≡ session) × (after.answered.status ≡ not_open))
-      (λ l. MatchOption after.own ⊥ (λ l'. MatchOption session.own ((l' ≡ l) × (left ≡ session) × (after.answered.status ≡ not_open)) (λ a. JoinsTo l l' a session left after.answered.status)))
+      (λ l. MatchOption after.own ⊥ (λ l'. MatchOption session.own (StaysOut l l' session left after.answered.status not_open) (λ a. JoinsTo l l' a session left after.answered.status)))
 
--- the lane's last session is at this handle now; or there is none, or a list is out
+-- the lane's last session is at this handle now; or there is none
+abbrev pub LeavesIdle : (lane now : List AttachedView) → SessionHandle → ℕ → Type 0
+LeavesIdle lane now given status = MatchOption given.own ((lane ≡ []) × (now ≡ []) × (status ≡ not_open)) (λ a. (lane ≡ now ++ a ∷ []) × (status ≡ done))
+
+pub record LeavesFrom (lane now : List AttachedView) (given : SessionHandle) (status : ℕ) : Type 0 where
+  pub idle : IsIdleLane lane → LeavesIdle lane now given status
+  pub out : (IsIdleLane lane → ⊥) → (given.own ≡ None) × (now ≡ lane) × (status ≡ is_out)
+
 pub record Leaves (before after : LaneHandle) (given : SessionHandle) : Type 0 where
   pub same : given.answered.status ≡ after.answered.status
   pub leaves : MatchOption before.own ((after.own ≡ None) × (given.own ≡ None) × (after.answered.status ≡ not_open))
-      (λ l. MatchOption after.own ⊥ (λ l'. MatchOption given.own (l' ≡ l) (λ a. (l ≡ l' ++ a ∷ []) × (after.answered.status ≡ done))))
+      (λ l. MatchOption after.own ⊥ (λ l'. LeavesFrom l l' given after.answered.status))

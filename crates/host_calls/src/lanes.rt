@@ -1,9 +1,11 @@
 // Several sessions of one node at one handle, and the lists of updates that they ask for.
 
-ghost use Rattle.std.specs.Prelude.{◌≡◌, ◌≤◌, ◌<◌, ◌++◌, ◌∷◌, [], length, map, take, IfErr, IfOk, IfSome, MatchOption};
+ghost use Rattle.std.specs.Prelude.{◌≡◌, ◌≤◌, ◌<◌, ◌++◌, ◌∷◌, [], length, None, true, false, IfErr, IfOk, MatchOption};
 ghost use Rattle.std.specs.Arc.{arc_value};
-ghost use Rattle.host_calls.specs.Lanes.{IsNewLane, Joins, Leaves, MayJoin, TellsList, UpdatesEach, has_outcomes, list_noted, list_number, list_status, outcome_of};
-ghost use Rattle.host_calls.specs.Views.{AttachedView};
+ghost use Rattle.store.specs.Opening.{AreOf};
+ghost use Rattle.store.specs.Pipelines.{EachGoesOn, OthersStay};
+ghost use Rattle.store.specs.PolledPipelines.{AreWaiting};
+ghost use Rattle.host_calls.specs.Lanes.{AreOneLane, IsIdleLane, IsNewLane, JoinsOneStore, Joins, Leaves, MayJoin, TellsBegun, TellsList, TellsOutList, UpdatesEach, has_outcomes, list_noted, list_status, outcome_of};
 
 use crate::attached::{Attached, questions, those_asked};
 use crate::handles::{Asking, LaneAnswered, LaneHandle, MOST_ASKED, Outcome, SessionHandle};
@@ -13,7 +15,7 @@ use crate::statuses::{
 use std::alloc::{AllocError, Global};
 use std::marker::Model;
 use std::sync::Arc;
-use store::{Answer, Polled, PolledPipeline, QuestionRefused, Session, Store, StoreRefused};
+use store::{Answer, Polled, PolledPipeline, Question, Store, StoreRefused};
 
 /// Where a session of a lane is from: its store, and its place in the pool of that.
 #[derive(Drop)]
@@ -90,6 +92,57 @@ fn write_each(answers: &[Result<Answer, StoreRefused>], outcomes: &mut [Outcome]
     }
 }
 
+// Goes on with the list of so many calls that is out.
+fn go_on(
+    sessions: &mut PolledPipeline,
+    store: &Store,
+    count: usize,
+    outcomes: &mut [Outcome],
+) -> Listed
+    requires own { AreOf store.now sessions.old }
+    requires few { (count ≤ MOST_ASKED) × (count ≤ length sessions.old) }
+    requires waiting { AreWaiting count sessions.old }
+    requires room { count ≤ length outcomes.old }
+    ensures sessions { EachGoesOn store.now sessions.old sessions.new }
+    ensures others { OthersStay count sessions.old sessions.new }
+    ensures tells { TellsOutList outcomes.old outcomes.new sessions.old sessions.new count result }
+{
+    let mut room = [Err(StoreRefused::Ended); MOST_ASKED];
+    let answers = &mut room[..count];
+    let Some(()) = sessions.poll(store, answers) else {
+        return Listed::Again;
+    };
+    write_each(answers, outcomes);
+    Listed::Answered {
+        count: count as u64,
+    }
+}
+
+// Asks for a list of updates, where none is out.
+fn begin(
+    sessions: &mut PolledPipeline,
+    store: &Store,
+    calls: &[Question<'_>],
+    outcomes: &mut [Outcome],
+) -> Listed
+    requires own { AreOf store.now sessions.old }
+    requires few { (length calls.now ≤ MOST_ASKED) × (length calls.now ≤ length sessions.old) }
+    requires idle { AreWaiting 0 sessions.old }
+    requires room { length calls.now ≤ length outcomes.old }
+    ensures sessions { EachGoesOn store.now sessions.old sessions.new }
+    ensures others { OthersStay (length calls.now) sessions.old sessions.new }
+    ensures tells { TellsBegun store.now calls.now outcomes.old outcomes.new sessions.old sessions.new result }
+{
+    match sessions.try_invoke_each(store, calls) {
+        Err(why) => Listed::Refused {
+            status: refusal(b'S', why.refused.number()),
+            number: why.number as u64,
+        },
+        Ok(None) => Listed::Busy,
+        Ok(Some(())) => go_on(sessions, store, calls.len(), outcomes),
+    }
+}
+
 impl Lane {
     /// A lane without a session, and room for sixteen.
     pub fn new(alloc: Global) -> Result<Lane, AllocError>
@@ -101,30 +154,40 @@ impl Lane {
     }
 
     /// Whether a list is out.
-    pub fn is_waiting(&self) -> bool {
-        self.sessions.waiting() > 0
+    pub fn is_waiting(&self) -> bool
+        ensures idle { result ≡ false → IsIdleLane self.now }
+        ensures out { result ≡ true → IsIdleLane self.now → ⊥ }
+    {
+        let out = self.sessions.waiting();
+        if out > 0 {
+            return true;
+        }
+        false
     }
 
     /// Adds a session after the others, for which nothing is out: of their store and their node, of a higher slot.
     pub fn join(&mut self, attached: Attached) -> Result<(), Attached>
-        requires idle { attached.session.note.pending ≡ None }
+        requires own { AreOneLane attached.store self.old }
+        requires idle { IsIdleLane self.old × (attached.session.note.pending ≡ None) }
         ensures joined { IfOk result (λ _. self.new ≡ self.old ++ attached ∷ []) }
         ensures back { IfErr result (λ back. (back ≡ attached) × (self.new ≡ self.old)) }
         ensures refused { IfErr result (λ _. MayJoin self.old attached → ⊥) }
     {
         let Lane { sessions, homes } = self;
-        let (store, place, session) = attached.into_parts();
-        match sessions.add(&store, session) {
-            Ok(()) => {
-                homes.push_reserved(Home { store, place });
-                Ok(())
-            }
-            Err(session) => Err(Attached::new(store, place, Polled::new(session))),
+        if homes.len() >= MOST_ASKED {
+            return Err(attached);
         }
+        let (store, place, session) = attached.into_parts();
+        let Err(session) = sessions.add(&store, session) else {
+            homes.push_reserved(Home { store, place });
+            return Ok(());
+        };
+        Err(Attached::new(store, place, Polled::new(session)))
     }
 
-    /// Takes the last session out.
+    /// Takes the last session out, where no list is out.
     pub fn leave(&mut self) -> Option<Attached>
+        requires idle { IsIdleLane self.old }
         ensures left { MatchOption result ((self.old ≡ []) × (self.new ≡ [])) (λ a. self.old ≡ self.new ++ a ∷ []) }
     {
         let Lane { sessions, homes } = self;
@@ -135,48 +198,30 @@ impl Lane {
         Some(Attached::new(store, place, Polled::new(session)))
     }
 
-    // Goes on with the list that is out.
-    fn go_on(&mut self, outcomes: &mut [Outcome]) -> Listed {
-        let Lane { sessions, homes } = self;
-        let count = sessions.waiting();
-        let mut room = [Err(StoreRefused::Ended); MOST_ASKED];
-        let answers = &mut room[..count];
-        let Some(()) = sessions.poll(&homes[0].store, answers) else {
-            return Listed::Again;
-        };
-        write_each(answers, outcomes);
-        Listed::Answered {
-            count: count as u64,
-        }
-    }
-
     /// Asks for a list of updates, or goes on with the one that is out.
     pub fn update_each(&mut self, asked: &[Asking<'_>], outcomes: &mut [Outcome]) -> Listed
         ensures tells { TellsList asked.now outcomes.old outcomes.new self.old self.new result }
     {
-        let out = self.sessions.waiting();
+        let Lane { sessions, homes } = self;
+        let out = sessions.waiting();
         if out > 0 {
             if outcomes.len() < out {
                 return Listed::NoWord;
             }
-            return self.go_on(outcomes);
+            return go_on(sessions, &homes[0].store, out, outcomes);
         }
-        if asked.len() > self.sessions.len() || outcomes.len() < asked.len() {
+        if asked.len() > sessions.len() {
+            return Listed::NoWord;
+        }
+        if outcomes.len() < asked.len() {
             return Listed::NoWord;
         }
         if asked.is_empty() {
             return Listed::Answered { count: 0 };
         }
         let questions = questions(asked);
-        let Lane { sessions, homes } = &mut *self;
-        match sessions.try_invoke_each(&homes[0].store, those_asked(&questions, asked)) {
-            Err(why) => Listed::Refused {
-                status: refusal(b'S', why.refused.number()),
-                number: why.number as u64,
-            },
-            Ok(None) => Listed::Busy,
-            Ok(Some(())) => self.go_on(outcomes),
-        }
+        let calls = those_asked(&questions, asked);
+        begin(sessions, &homes[0].store, calls, outcomes)
     }
 }
 
@@ -225,8 +270,9 @@ pub fn drop_lane(handle: &mut LaneHandle)
     handle.own = None;
 }
 
-/// Moves a session from its handle into a lane.
+/// Moves a session from its handle into a lane, whose sessions are of its store.
 pub fn join(handle: &mut LaneHandle, session: &mut SessionHandle)
+    requires own { JoinsOneStore handle.old session.old }
     ensures joins { Joins handle.old session.old handle.new session.new }
 {
     let LaneHandle { own, answered } = handle;
