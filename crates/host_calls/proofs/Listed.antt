@@ -1,5 +1,5 @@
 -- What is told of a list that was begun, and went on.
-use Rattle.std.proofs.Common.{◌≡◌, ℕ, zero, suc, ◌<◌, ◌≤◌, List, length, refl, sym, ap, ◌∙◌, subst, arith, None, Some, Option, MatchOption, Result}
+use Rattle.std.proofs.Common.{◌≡◌, ℕ, ◌<◌, ◌≤◌, List, length, sym, ap, ◌∙◌, subst, arith, None, Some, Option, MatchOption}
 use Rattle.std.proofs.lemmas.Option.{none-some}
 use Rattle.ownlock.specs.Seats.{At}
 use Rattle.accounts.proofs.Export.{at_below, at_one, at_there}

@@ -1,11 +1,11 @@
 -- A session moves into a lane, or out of it, by their handles.
-use Rattle.std.proofs.Common.{◌≡◌, List, [], ◌∷◌, ◌++◌, refl, sym, ap, ◌∙◌, subst, None, Some, Option, MatchOption, Bool, true, false}
+use Rattle.std.proofs.Common.{◌≡◌, List, [], ◌∷◌, ◌++◌, refl, sym, subst, None, Some, Option, MatchOption, Bool, true, false}
 use Rattle.accounts.specs.declared.sessions.Pending.{Pending}
 use Rattle.host_calls.specs.declared.attached.Attached.{Attached}
 use Rattle.host_calls.specs.declared.handles.LaneHandle.{LaneHandle}
 use Rattle.host_calls.specs.declared.handles.SessionHandle.{SessionHandle}
 use Rattle.host_calls.specs.declared.lanes.Lane.{Lane}
-use Rattle.host_calls.specs.Lanes.{AreIdleBoth, IsIdleLane, Joins, JoinsIdle, JoinsTo, Leaves, LeavesFrom, LeavesIdle, MayJoin, StaysOut}
+use Rattle.host_calls.specs.Lanes.{AreIdleBoth, IsIdleLane, Joins, JoinsTo, Leaves, LeavesFrom, MayJoin, StaysOut}
 use Rattle.host_calls.specs.Statuses.{done, not_open, not_ours}
 use Rattle.host_calls.specs.Views.{AttachedView}
 
@@ -17,7 +17,7 @@ pub joins_open : (before after : LaneHandle) (session left : SessionHandle) (l l
     → JoinsTo l l' a session left after.answered.status → Joins before session after left
 joins_open before after session left l l' a was is had to = record {
   joins = subst (λ (z : Option Lane × (Option Lane × Option Attached)). MatchOption z.0 ((after.own ≡ None) × (left ≡ session) × (after.answered.status ≡ not_open))
-  (λ m. MatchOption z.1.0 ⊥ (λ m'. MatchOption z.1.1 (StaysOut m m' session left after.answered.status not_open) (λ b. JoinsTo m m' b session left after.answered.status))))
+      (λ m. MatchOption z.1.0 ⊥ (λ m'. MatchOption z.1.1 (StaysOut m m' session left after.answered.status not_open) (λ b. JoinsTo m m' b session left after.answered.status))))
       (λ i. ((sym was) i, ((sym is) i, (sym had) i))) to;
 }
 
@@ -42,7 +42,7 @@ pub leaves_open : (before after : LaneHandle) (given : SessionHandle) (l l' : La
 leaves_open before after given l l' a was is own same ok idle less = record {
   same = same;
   leaves = subst (λ (z : Option Lane × Option Lane). MatchOption z.0 ((after.own ≡ None) × (given.own ≡ None) × (after.answered.status ≡ not_open))
-  (λ m. MatchOption z.1 ⊥ (λ m'. LeavesFrom m m' given after.answered.status)))
+      (λ m. MatchOption z.1 ⊥ (λ m'. LeavesFrom m m' given after.answered.status)))
       (λ i. ((sym was) i, (sym is) i)) (record {
         idle = λ _. subst (λ (o : Option Attached). MatchOption o ((l ≡ []) × (l' ≡ []) × (after.answered.status ≡ not_open)) (λ b. (l ≡ l' ++ b ∷ []) × (after.answered.status ≡ done))) (sym own) (less, ok);
         out = λ busy. absurd (busy idle);

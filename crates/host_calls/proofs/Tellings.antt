@@ -1,9 +1,8 @@
 -- What a list on a lane tells, by what it does on the sessions there.
-use Rattle.std.proofs.Common.{◌≡◌, ℕ, ◌<◌, ◌≤◌, List, [], ◌∷◌, length, get_or, refl, sym, ap, ◌∙◌, subst, arith}
+use Rattle.std.proofs.Common.{◌≡◌, ℕ, ◌<◌, ◌≤◌, List, length, get_or, refl, sym, ap, ◌∙◌, subst, arith}
 use Rattle.std.specs.Arc.{arc_value}
 use Rattle.ownlock.specs.Seats.{At}
 use Rattle.store_steps.specs.Views.{SessionView}
-use Rattle.store.specs.Opening.{AreOf}
 use Rattle.store.specs.Pipelines.{EachGoesOn, OthersStay}
 use Rattle.store.specs.PolledPipelines.{AreWaiting}
 use Rattle.store.specs.Sessions.{StoreView}
@@ -109,8 +108,10 @@ module _ (homes : List Home) (ss : List SessionView) (lane : List AttachedView) 
         same = same;
         goes_on = λ more _. absurd (omega (arith, none, more));
         short = λ more _. absurd (omega (arith, none, more));
-        begins = λ _ _ _. (both (OthersStay (length asked)) others,
-        λ z one. (goes z one, both (λ x y. TellsBegun z (questions_of asked) before after x y told) (subst (λ (y : StoreView). TellsBegun y (questions_of asked) before after ss new told) (only z one) t)));
+        begins = λ _ _ _. (
+          both (OthersStay (length asked)) others,
+          λ z one. (goes z one, both (λ x y. TellsBegun z (questions_of asked) before after x y told) (subst (λ (y : StoreView). TellsBegun y (questions_of asked) before after ss new told) (only z one) t)),
+        );
         none = λ _ empty. absurd (omega (arith, some, empty));
         long = λ _ never. absurd (never ((let long = long_lane in omega (arith, fits, long)), room));
       }

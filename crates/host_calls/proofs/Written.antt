@@ -1,5 +1,5 @@
 -- A list is written over the first of another, one more at a time.
-use Rattle.std.proofs.Common.{◌≡◌, ℕ, zero, suc, ◌+◌, ◌<◌, ◌≤◌, List, [], ◌∷◌, ◌++◌, length, get_or, set, map, take, drop, refl, sym, ap, ◌∙◌, subst, arith}
+use Rattle.std.proofs.Common.{◌≡◌, ℕ, zero, suc, ◌+◌, ◌<◌, ◌≤◌, List, [], ◌∷◌, ◌++◌, length, get_or, set, map, take, drop, refl, ap, ◌∙◌, arith}
 
 module _ {A B : Type 0} (f : A → B) where
   put_one : (xs : List A) (ys : List B) (k : ℕ) (d : A) → k < length xs → length xs ≤ length ys

@@ -168,11 +168,7 @@ fn empty_places(alloc: Global, count: usize) -> Result<Vec<Option<Attached>>, Al
 }
 
 // Seats a session at its place.
-fn seat(
-    store: &Arc<Store, Global>,
-    place: usize,
-    session: Session,
-) -> Result<Attached, AllocError>
+fn seat(store: &Arc<Store, Global>, place: usize, session: Session) -> Result<Attached, AllocError>
     requires own { IsOf (arc_value store.now) session }
     ensures seat { IfOk result (λ a. a ≡ record { store = arc_value store.now; place = place; session = session }) }
 {

@@ -1,4 +1,4 @@
-use Rattle.std.proofs.Common.{rules, subst}
+use Rattle.std.proofs.Common.{subst}
 use Rattle.std.proofs.lemmas.List.Elements.{All-push, All-same}
 use Rattle.store.specs.Sessions.{IsOf, StoreView}
 use Rattle.host_calls.specs.Seating.{IsSeatOf}

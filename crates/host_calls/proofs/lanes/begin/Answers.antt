@@ -1,4 +1,4 @@
-use Rattle.std.proofs.Common.{rules, ◌≡◌, None, Ok, Option, subst}
+use Rattle.std.proofs.Common.{Ok, Option, subst}
 use Rattle.verifier.specs.declared.refusal.Mode.TheVariants.{Update}
 use Rattle.store_steps.specs.Questions.{first_refused_in}
 use Rattle.store.specs.PolledPipelines.{TellsListed}

@@ -1,4 +1,4 @@
-use Rattle.std.proofs.Common.{rules, ◌≡◌, sym, ap, ◌∙◌, Some, None, Option, refl}
+use Rattle.std.proofs.Common.{◌≡◌, sym, ap, ◌∙◌, Some, Option, refl}
 use Rattle.host_calls.specs.declared.attached.Attached.{Attached}
 use Rattle.host_calls.specs.Lanes.{AreIdleBoth}
 use Rattle.host_calls.proofs.Moves.{joins_done, joins_not, joins_open, none_if}

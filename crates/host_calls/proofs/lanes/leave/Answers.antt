@@ -1,4 +1,4 @@
-use Rattle.std.proofs.Common.{rules, ◌≡◌, sym, ◌∙◌, Some, refl}
+use Rattle.std.proofs.Common.{refl}
 use Rattle.host_calls.proofs.Moves.{leaves_open}
 use Rattle.host_calls.proofs.lanes.leave.Goals as goal
 

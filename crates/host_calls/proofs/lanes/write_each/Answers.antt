@@ -1,4 +1,4 @@
-use Rattle.std.proofs.Common.{◌∙◌, ap, arith, refl, set, length, ◌≡◌}
+use Rattle.std.proofs.Common.{◌∙◌, ap, arith, refl, set}
 use Rattle.host_calls.specs.Lanes.{outcome_of}
 use Rattle.host_calls.proofs.Written.{all_put, put_on}
 use Rattle.host_calls.proofs.lanes.write_each.Goals as goal

@@ -1,11 +1,11 @@
-use Rattle.std.proofs.Common.{rules, ◌≡◌, ◌<◌, ◌∷◌, ◌++◌, [], List, length, sym, ap, ◌∙◌, subst, arith}
+use Rattle.std.proofs.Common.{rules, ◌≡◌, ◌∷◌, ◌++◌, [], List, length, sym, ap, ◌∙◌, subst, arith}
 use Rattle.std.specs.Arc.{arc_value}
 use Rattle.store_steps.specs.Views.{SessionView}
 use Rattle.store.specs.Opening.{AreOf}
 use Rattle.store.specs.PolledPipelines.{AreWaiting, MayFollow}
 use Rattle.store.specs.Sessions.{IsOf, StoreView}
 use Rattle.host_calls.specs.declared.lanes.Home.{Home}
-use Rattle.host_calls.specs.Homes.{AreAtHome, attached_at, attached_of}
+use Rattle.host_calls.specs.Homes.{AreAtHome, attached_of}
 use Rattle.host_calls.specs.Lanes.{AreOneLane}
 use Rattle.host_calls.proofs.Homes.{home_more, one_behind, own_of, seen}
 use Rattle.host_calls.proofs.lanes.Lane.join.Goals as goal
@@ -23,8 +23,7 @@ returns-then-len-ge-MOST_ASKED-clause-refused c may =
 pub add-requires-clause-own : goal.add-requires-clause-own
 add-requires-clause-own c =
     let l = c.self.inside in
-    let is : c.args.attached.store ≡ c.deref.result.now = search rules in
-    (
+    let is : c.args.attached.store ≡ c.deref.result.now = search rules in (
       subst (λ (z : StoreView). AreOf z l.sessions) is (own_of l.homes.items l.sessions c.args.attached.store c.self.invariant.0 (subst (AreOneLane c.args.attached.store) (sym c.self.view_is) c.requires.own)),
       subst (λ (z : StoreView). IsOf z c.into_parts-store.result.2) is c.into_parts-store.ensures.own,
     )

@@ -1,4 +1,4 @@
-use Rattle.std.proofs.Common.{◌≡◌, ◌∷◌, ◌++◌, [], List, length, sym, ap, ◌∙◌, subst, arith}
+use Rattle.std.proofs.Common.{◌∷◌, ◌++◌, [], List, sym, ap, ◌∙◌, subst, arith}
 use Rattle.store_steps.specs.Views.{SessionView}
 use Rattle.store.specs.PolledPipelines.{AreWaiting}
 use Rattle.store.specs.Sessions.{IsOf}
@@ -33,5 +33,5 @@ returns c =
     let out = home_less homes ss h s (subst (λ (z : List Home × List SessionView). AreAtHome z.0 z.1) (λ i. (c.in-Some.ensures.items i, c.in_ok-session.ensures.last i)) c.self.invariant.0) in
     record {
       left = sym c.self.view_is ∙ ((λ i. attached_of (c.in-Some.ensures.items i) (c.in_ok-session.ensures.last i)) ∙ (one_behind homes ss h s out.home.count
-      ∙ ap (λ z. attached_of homes ss ++ z ∷ []) (ap (attached_at h) (sym c.new.ensures.same) ∙ sym c.new-2.ensures)));
+          ∙ ap (λ z. attached_of homes ss ++ z ∷ []) (ap (attached_at h) (sym c.new.ensures.same) ∙ sym c.new-2.ensures)));
     }

@@ -1,4 +1,4 @@
-use Rattle.std.proofs.Common.{rules, ◌≡◌, ◌<◌, ◌≤◌, List, length, get_or, sym, subst, arith}
+use Rattle.std.proofs.Common.{rules, ◌≡◌, ◌<◌, ◌≤◌, List, length, get_or, subst, arith}
 use Rattle.std.specs.Arc.{arc_value}
 use Rattle.store_steps.specs.declared.steps.Question.{Question}
 use Rattle.store.specs.Opening.{AreOf}
