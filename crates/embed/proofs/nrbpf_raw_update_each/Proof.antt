@@ -35,40 +35,33 @@ nrbpf_raw_update_each_spec 𝓤 𝓛 𝓜 𝓡 wired =
     regoal ! (λ p. prop (WpFn 𝓤 𝓛.H 𝓣.C 𝓣.Λ code.function (rawptr_vals p ++ (shr_slice_vals asked ++ (mut_slice_vals outcomes ++ []))) (W.post (y p)))) e refl $
     enter ! _ _ _ _ _ $ alloc_all ! (λ l. pass_all ! refl ((tt, tt), ((tt, (tt, (record { fits = are.1.0.0.1.0 }, tt))), ((tt, (tt, (record { fits = are.1.1.0.0.1.0 }, tt))), tt))) $
     -- [the handle; what the others own; the tokens; the locals]
-    sets ! (of_opd ! (get ! refl)) refl (tt, tt) $
-    sets ! (addr ! (through ! refl (stop !))) refl (tt, tt) $
+    sets ! (of_opd ! (get ! refl)) refl (tt, tt) $ sets ! (addr ! (through ! refl (stop !))) refl (tt, tt) $
     sets ! (addr ! (from ! (fld ! refl (hop ! (look_in_at ! 3 (sub ! 0 refl (whole !))) (stop !))))) refl (tt, tt) $
-    sets ! (agg ! (and_then ! (get ! refl) (and_then ! (get_in ! (fld ! refl (stop !)) (sub ! 1 refl (whole !))) (no_more !)))) refl (tt, (tt, (record { fits = are.1.1.0.0.1.0 }, tt))) $
-    lend ! tt R 0 value b o (λ α γ.
+    sets ! (agg ! (and_then ! (get ! refl) (and_then ! (get_in ! (fld ! refl (stop !)) (sub ! 1 refl (whole !))) (no_more !)))) refl (tt, (tt, (record { fits = are.1.1.0.0.1.0 }, tt))) $ lend ! tt R 0 value b o (λ α γ.
     -- [the loan; the lender's part; the token of α; what the others own; the tokens; the locals]
     let r = loan R b o γ value in
     let z : G.Ghost = (((α ∷ [], κs), (full_share, qs), bounds, (r, a.1), (mut_vals r, (shr_slice_vals asked, (mut_slice_vals outcomes, tt)))), tt) in
     nothing ! $ move ! (4 ∷ 0 ∷ []) $ join ! $ move ! (4 ∷ 0 ∷ []) $ join ! $ move ! (1 ∷ 0 ∷ []) $ join ! $
     -- [what is passed; the lender's part; the token of α; the tokens; the locals]
-    move ! (3 ∷ []) $ use1 𝓛 (‵ (flft κs.0 qs.0) ⊛ (‵ (flft κs.1.0 qs.1.0) ⊛ (‵ (flft κs.1.1.0 qs.1.1.0) ⊛ ‵ ftrue))) (id⊢ 𝓤 _) $ move ! (3 ∷ 0 ∷ []) $ join ! $ join ! $
-    nothing ! $ move ! (1 ∷ 0 ∷ []) $ use2 𝓛 (raw (G.pre z)) (id⊢ 𝓤 _) $
+    move ! (3 ∷ []) $ use1 𝓛 (‵ (flft κs.0 qs.0) ⊛ (‵ (flft κs.1.0 qs.1.0) ⊛ (‵ (flft κs.1.1.0 qs.1.1.0) ⊛ ‵ ftrue))) (id⊢ 𝓤 _) $ move ! (3 ∷ 0 ∷ []) $ join ! $ join ! $ nothing ! $ move ! (1 ∷ 0 ∷ []) $ use2 𝓛 (raw (G.pre z)) (id⊢ 𝓤 _) $
     calls_at ! (framed 𝓤 𝓛.H 𝓜 (tables 𝓤 𝓛.H 𝓜 𝓡 𝓡.env)) G (met 𝓤 𝓛 𝓜 𝓡 (code.calls-host_calls::lanes::update_each 𝓡.env wired)) z
     (and_then ! (get ! refl) (and_then ! (get ! refl) (and_then ! (get ! refl) (no_more !)))) (λ v.
     use1 𝓛 (later (some (λ (u : Unit {0}). ((‵ (flft (α ∷ []) full_share) ⊛ (‵ (flft κs.0 qs.0) ⊛ (‵ (flft κs.1.0 qs.1.0) ⊛ (‵ (flft κs.1.1.0 qs.1.1.0) ⊛ ‵ ftrue)))) ⊛ ‵ (unit.own_val u (v ∷ []))) ⊛
     some (λ (ws : R.Denot × (Unit {0} × (List Outcome × Unit {0}))). ‵ (lasts g.ended z.0.0 z.0.3 ws) ⊛ raw (fact 𝓤 (UpdatesEach asked.now outcomes.now ws.1.1.0 value ws.0)))))) (id⊢ 𝓤 _) $
     await ! tt $ pick ! (λ u. split ! $ split ! $ split ! $ lft_end ! tt $ move ! (2 ∷ []) $ feq_l ! (λ is_unit.
-    lands_as ! (ap only is_unit) refl (tt, tt) $
-    sets ! (of_opd ! (unit_lit !)) refl (tt, tt) $
+    lands_as ! (ap only is_unit) refl (tt, tt) $ sets ! (of_opd ! (unit_lit !)) refl (tt, tt) $
     -- [α is over; the tokens; what the call tells; the lender's part; the locals]
     move ! (2 ∷ []) $ pick ! (λ ws. split ! $ move ! (1 ∷ []) $ heard ! (UpdatesEach asked.now outcomes.now ws.1.1.0 value ws.0) (λ told. fsplit ! $ fsplit ! $
     -- [the loan's last value; its borrow; the other last values; α is over; the tokens; the lender's part; the locals]
     move ! (3 ∷ 5 ∷ 0 ∷ []) $ use3 𝓛 (later (‵ (lies_at R full_share (block_ptr b o) ws.0))) (ref_back 𝓛 R (α ∷ []) γ ws.0 b o) $ await ! tt $
     -- [the handle; its borrow; the other last values; the tokens; the locals]
-    move ! (2 ∷ []) $
-    fsplit ! $ drop ! $ fsplit ! $ fsplit ! $ fsplit ! $ move ! (1 ∷ []) $ feq_l ! (λ same.
+    move ! (2 ∷ []) $ fsplit ! $ drop ! $ fsplit ! $ fsplit ! $ fsplit ! $ move ! (1 ∷ []) $ feq_l ! (λ same.
     -- [the last values of the slices, with their borrows; nothing; the handle; its borrow; the tokens; the locals]
     returns ! (look_at ! 0 refl) $ free_all ! refl $ keep ! (3 ∷ 0 ∷ 1 ∷ 5 ∷ []) $
     use0 𝓛 (raw (fact 𝓤 (UpdatesEach asked.now outcomes.now ws.1.1.0 value ws.0))) (fact_i 𝓤 (UpdatesEach asked.now outcomes.now ws.1.1.0 value ws.0) (emp 𝓤) told) $ move ! (1 ∷ 0 ∷ []) $
     let Left = λ (x : R.Denot). sep 𝓤 (sem 𝓛 (lies_at R full_share (block_ptr b o) x)) (fact 𝓤 (UpdatesEach asked.now outcomes.now ws.1.1.0 value x)) in
     use2 𝓛 (raw (ex 𝓤 Left)) (ex_i 𝓤 Left ws.0) $
     -- [what is left; the last values, with their borrows; the tokens]
-    suffices ! _ (ends_at 𝓛 f.ended stayed c (y (block_ptr b o)) vunit tt (tt, (tt, (ws.1.1.0, tt))) (tt, (tt, (same, tt)))) $
-    nothing ! $ move ! (2 ∷ 3 ∷ []) $ join ! $ join ! $ nothing ! $ join ! $ nothing ! $ join ! $
+    suffices ! _ (ends_at 𝓛 f.ended stayed c (y (block_ptr b o)) vunit tt (tt, (tt, (ws.1.1.0, tt))) (tt, (tt, (same, tt)))) $ nothing ! $ move ! (2 ∷ 3 ∷ []) $ join ! $ join ! $ nothing ! $ join ! $ nothing ! $ join ! $
     -- [what is had of the parameters; what is left; the tokens]
-    move ! (2 ∷ []) $ use1 𝓛 (raw (alive 𝓛 f.signature κs qs)) (id⊢ 𝓤 _) $ move ! (1 ∷ 2 ∷ []) $
-    feq_i ! _ (vunit ∷ []) _ refl $ move ! (3 ∷ 1 ∷ 0 ∷ []) $ group ! 3 $ done !))))))))))
+    move ! (2 ∷ []) $ use1 𝓛 (raw (alive 𝓛 f.signature κs qs)) (id⊢ 𝓤 _) $ move ! (1 ∷ 2 ∷ []) $ feq_i ! _ (vunit ∷ []) _ refl $ move ! (3 ∷ 1 ∷ 0 ∷ []) $ group ! 3 $ done !))))))))))
