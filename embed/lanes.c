@@ -35,6 +35,9 @@ static nrbpf_status add_slot(nrbpf_store *store, const struct place *place) {
         return (nrbpf_status)store->raw.status;
     }
     nrbpf_raw_join(place->list, store->moved);
+    if (place->list->status != NRBPF_OK) {
+        nrbpf_raw_detach(&store->raw, store->moved);
+    }
     return (nrbpf_status)place->list->status;
 }
 
