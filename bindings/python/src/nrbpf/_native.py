@@ -8,7 +8,7 @@ import os
 import platform
 import sys
 
-VERSION = 2003
+VERSION = 2004
 
 
 class File(c.Structure):
