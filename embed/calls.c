@@ -37,7 +37,7 @@ static nrbpf_status told(const struct nrbpf_raw_session *raw, nrbpf_error *why) 
 
 // Makes the call that the session's words ask for, or goes on with what is posted.
 static nrbpf_status go_on(struct place *place, nrbpf_answer *out, nrbpf_error *why) {
-    struct nrbpf_raw_session *const raw = &place->raw;
+    struct nrbpf_raw_session *const raw = place->raw;
     nrbpf_raw_call(raw);
     if (raw->status == NRBPF_OK) {
         place->is_posted = 0;
@@ -74,9 +74,9 @@ static inline nrbpf_status run(nrbpf_session *session, uint64_t call, uint16_t p
     if (call == NRBPF_RAW_UPDATE) {
         place->updates = place->updates + 1;
     }
-    place->raw.call = call;
-    place->raw.program = program;
-    put_bytes(&place->raw, argument, len);
+    place->raw->call = call;
+    place->raw->program = program;
+    put_bytes(place->raw, argument, len);
     return go_on(place, out, NULL);
 }
 
@@ -114,15 +114,15 @@ static nrbpf_status install(nrbpf_session *session, uint64_t call, const nrbpf_c
     if (status != NRBPF_OK) {
         return refused(why, status);
     }
-    if (program->len > sizeof place->raw.bytes) {
+    if (program->len > sizeof place->raw->bytes) {
         return refused(why, program->mode > NRBPF_MODE_READ ? NRBPF_H5 : NRBPF_S6);
     }
     place->updates = place->updates + 1;
-    place->raw.call = call;
-    place->raw.program = program->maps;
-    place->raw.mode = program->mode;
-    place->raw.argument = program->argument_len;
-    put_bytes(&place->raw, program->bytes, program->len);
+    place->raw->call = call;
+    place->raw->program = program->maps;
+    place->raw->mode = program->mode;
+    place->raw->argument = program->argument_len;
+    put_bytes(place->raw, program->bytes, program->len);
     return go_on(place, out, why);
 }
 
@@ -186,11 +186,11 @@ nrbpf_status nrbpf_try_get(nrbpf_session *session, uint32_t map, const void *key
     if (own_len > 0) {
         memcpy(own_key, key, own_len);
     }
-    nrbpf_raw_get(&place->raw, map, own_key, own_len, to, value_len);
-    status = told(&place->raw, NULL);
+    nrbpf_raw_get(place->raw, map, own_key, own_len, to, value_len);
+    status = told(place->raw, NULL);
     if (status == NRBPF_OK) {
-        out->point = place->raw.point;
-        out->is_there = (uint32_t)place->raw.count;
+        out->point = place->raw->point;
+        out->is_there = (uint32_t)place->raw->count;
     }
     return status;
 }
@@ -215,12 +215,12 @@ nrbpf_status nrbpf_try_scan(nrbpf_session *session, uint32_t map, uint32_t from,
         return NRBPF_H7;
     }
     struct place *const place = place_of(session);
-    const struct nrbpf_raw_session *const raw = &place->raw;
+    const struct nrbpf_raw_session *const raw = place->raw;
     nrbpf_status status = usable(place, session);
     if (status != NRBPF_OK) {
         return status;
     }
-    nrbpf_raw_scan(&place->raw, map, from, keys_at, keys_room, values_at, values_room);
+    nrbpf_raw_scan(place->raw, map, from, keys_at, keys_room, values_at, values_room);
     status = told(raw, NULL);
     if (status == NRBPF_OK) {
         out->point = raw->point;
@@ -275,10 +275,10 @@ nrbpf_status nrbpf_try_read_each(nrbpf_session *session, const nrbpf_question *q
     if (status != NRBPF_OK) {
         return refused(why, status);
     }
-    nrbpf_raw_read_each(&place->raw, asked, count, own_replies, count);
-    status = told(&place->raw, why);
+    nrbpf_raw_read_each(place->raw, asked, count, own_replies, count);
+    status = told(place->raw, why);
     if (status == NRBPF_OK) {
-        *point = place->raw.point;
+        *point = place->raw->point;
         for (size_t i = 0; i < count; i++) {
             replies[i] = own_replies[i];
         }
@@ -307,10 +307,10 @@ nrbpf_status nrbpf_try_snapshot(nrbpf_session *session, nrbpf_state *into, uint6
     if (status != NRBPF_OK) {
         return status;
     }
-    nrbpf_raw_snapshot(&place->raw, raw_state_of(into));
-    status = told(&place->raw, NULL);
+    nrbpf_raw_snapshot(place->raw, raw_state_of(into));
+    status = told(place->raw, NULL);
     if (status == NRBPF_OK) {
-        *point = place->raw.point;
+        *point = place->raw->point;
     }
     return status;
 }
@@ -338,8 +338,8 @@ nrbpf_status nrbpf_try_map_info(nrbpf_session *session, uint32_t map, nrbpf_map_
     if (status != NRBPF_OK) {
         return status;
     }
-    nrbpf_raw_map_info(&place->raw, &raw);
-    status = told(&place->raw, NULL);
+    nrbpf_raw_map_info(place->raw, &raw);
+    status = told(place->raw, NULL);
     if (status == NRBPF_OK) {
         nrbpf_map_facts facts;
         facts.point = raw.point;
@@ -391,8 +391,8 @@ nrbpf_status nrbpf_try_program_info(nrbpf_session *session, uint16_t program, nr
     }
     memset(&raw, 0, sizeof raw);
     raw.program = program;
-    nrbpf_raw_program_info(&place->raw, &raw);
-    status = told(&place->raw, NULL);
+    nrbpf_raw_program_info(place->raw, &raw);
+    status = told(place->raw, NULL);
     if (status == NRBPF_OK) {
         const nrbpf_program_facts facts = facts_of(&raw);
         put_facts(out, size, &facts, sizeof facts);
@@ -423,8 +423,8 @@ nrbpf_status nrbpf_try_stats(nrbpf_session *session, nrbpf_counts *out, size_t s
     if (status != NRBPF_OK) {
         return status;
     }
-    nrbpf_raw_stats(&place->raw, &raw);
-    status = told(&place->raw, NULL);
+    nrbpf_raw_stats(place->raw, &raw);
+    status = told(place->raw, NULL);
     if (status == NRBPF_OK) {
         nrbpf_counts counts;
         memset(&counts, 0, sizeof counts);

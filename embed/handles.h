@@ -15,7 +15,7 @@ enum { MOST_SESSIONS = 128, TURNS = 512, SPINS = 9 };
 // address of the place, with the session's turn in its low bits. No code reads through a handle.
 // So the handle of a detached session is found to be none, also after the place has another session.
 // A handle comes again after TURNS turns.
-// A lane has a place for each of its slots. Its handle is that of its first place.
+// A lane has one place, whose handle is the lane's.
 struct place {
     alignas(TURNS) nrbpf_session *handle;       // of the session that is attached, or null; of a lane's place the store, which is no session's
     int is_posted;                              // whether there is an update or an install to continue
@@ -24,18 +24,19 @@ struct place {
     uint64_t updates;                           // updates and installs
     uint64_t waits;                             // calls that waited for another session
     nrbpf_store *of;
-    struct place *next;                         // of a lane's place: that of its next slot, or null
-    nrbpf_lane *lane;                           // of a lane's first place: the lane's handle; else null
-    struct place *unposted;                     // of the same: that of the first call of the list that is not posted, or null
-    struct place *last;                         // of the same: that of the last call of the list, or null if there is no list to continue
+    nrbpf_lane *lane;                           // of a lane's place: the lane's handle; else null
     uint32_t slots;                             // of the same: how many the lane has
-    struct nrbpf_raw_session raw;
+    struct nrbpf_raw_session *raw;
+    struct nrbpf_raw_lane *list;                // a lane without sessions, unless the place is a lane's
 };
 
 struct nrbpf_store {
     pthread_mutex_t mutex;                      // of `raw`, and of each place's handle and turn
     struct nrbpf_raw_store raw;
     struct place places[MOST_SESSIONS + 1];     // one more than can be attached, so that there is always one to try with
+    size_t count;                               // how many of them have raw handles: one more than the store has sessions
+    struct nrbpf_raw_session *moved;            // room for a session that joins a lane or leaves it
+    void *rooms;                                // the memory of all raw handles
 };
 
 static inline nrbpf_session *next_handle(const struct place *place) {

@@ -1,9 +1,8 @@
-// lanes.c: lanes of nrbpf.h. Each slot of a lane is a session with a place of its own. A list is posted slot by slot. The session of its last call then takes
-// all of them along, as nrbpf_update does with whatever is posted, and each session collects its own answer.
+// lanes.c: lanes of nrbpf.h. The sessions of a lane are at its raw handle, and ask for a list together.
 #include "handles.h"
 #include <assert.h>
 
-static_assert((int)NRBPF_MOST_SLOTS <= (int)MOST_SESSIONS, "a lane has a place for each slot");
+static_assert((int)NRBPF_MOST_SLOTS <= (int)MOST_SESSIONS, "a node has a session for each slot of a lane");
 
 // ---- Attaching
 
@@ -11,40 +10,38 @@ static nrbpf_lane *lane_at(const struct place *place) {
     return (nrbpf_lane *)next_handle(place);
 }
 
-// The first place of a lane, of an earlier one too.
-static struct place *first_of(const nrbpf_lane *lane) {
+// The place of a lane, of an earlier one too.
+static struct place *place_of_lane(const nrbpf_lane *lane) {
     return place_of((const nrbpf_session *)lane);
 }
 
-// Gives the sessions of these places back.
-static void give_back_each(nrbpf_store *store, struct place *first) {
-    while (first) {
-        struct place *const next = first->next;
-        nrbpf_raw_detach(&store->raw, &first->raw);
-        first->next = NULL;
-        first->lane = NULL;
-        end_session(first);
-        first = next;
+// Gives the sessions of a lane back, the last one first, and ends it.
+static void give_back_each(nrbpf_store *store, struct place *place) {
+    for (;;) {
+        nrbpf_raw_leave(place->list, store->moved);
+        if (place->list->status != NRBPF_OK) {
+            break;
+        }
+        nrbpf_raw_detach(&store->raw, store->moved);
     }
+    place->lane = NULL;
+    end_session(place);
 }
 
-// Puts a session of the store's node `raw.node` at a place, after the lane's others: H1.
-static nrbpf_status add_slot(nrbpf_store *store, struct place **after) {
-    struct place *const place = free_place(store);
-    nrbpf_raw_attach(&store->raw, &place->raw);
+// Adds a session of the store's node `raw.node` to a lane: H1. The store gives sessions by ascending slots, as the lane wants them.
+static nrbpf_status add_slot(nrbpf_store *store, const struct place *place) {
+    nrbpf_raw_attach(&store->raw, store->moved);
     if (store->raw.status != NRBPF_OK) {
         return (nrbpf_status)store->raw.status;
     }
-    place->handle = (nrbpf_session *)store;
-    place->is_posted = 0;
-    place->next = NULL;
-    *after = place;
-    return NRBPF_OK;
+    nrbpf_raw_join(place->list, store->moved);
+    if (place->list->status != NRBPF_OK) {
+        nrbpf_raw_detach(&store->raw, store->moved);
+    }
+    return (nrbpf_status)place->list->status;
 }
 
 nrbpf_status nrbpf_attach_lane(nrbpf_store *store, uint32_t node, uint32_t slots, nrbpf_lane **out) {
-    struct place *first = NULL;
-    struct place **after = &first;
     nrbpf_status status = NRBPF_OK;
     if (!store || !out) {
         return NRBPF_H7;
@@ -53,29 +50,30 @@ nrbpf_status nrbpf_attach_lane(nrbpf_store *store, uint32_t node, uint32_t slots
         return NRBPF_H5;
     }
     pthread_mutex_lock(&store->mutex);
+    struct place *const place = free_place(store);
+    place->handle = (nrbpf_session *)store;
     store->raw.node = node;
     for (uint32_t i = 0; i < slots && status == NRBPF_OK; i++) {
-        status = add_slot(store, after);
-        after = *after ? &(*after)->next : after;
+        status = add_slot(store, place);
     }
     if (status == NRBPF_OK) {
-        first->lane = lane_at(first);
-        first->slots = slots;
-        first->last = NULL;
-        *out = first->lane;
+        place->lane = lane_at(place);
+        place->slots = slots;
+        place->is_posted = 0;
+        *out = place->lane;
     } else {
-        give_back_each(store, first);
+        give_back_each(store, place);
     }
     pthread_mutex_unlock(&store->mutex);
     return status;
 }
 
 // Whether the lane of this handle takes a list: H2, H3.
-static nrbpf_status usable(const struct place *first, const nrbpf_lane *lane) {
-    if (first->lane != lane) {
+static nrbpf_status usable(const struct place *place, const nrbpf_lane *lane) {
+    if (place->lane != lane) {
         return NRBPF_H2;
     }
-    if (first->last) {
+    if (place->is_posted) {
         return NRBPF_H3;
     }
     return NRBPF_OK;
@@ -85,12 +83,12 @@ nrbpf_status nrbpf_detach_lane(nrbpf_lane *lane) {
     if (!lane) {
         return NRBPF_H7;
     }
-    struct place *const first = first_of(lane);
-    nrbpf_store *const store = first->of;
+    struct place *const place = place_of_lane(lane);
+    nrbpf_store *const store = place->of;
     pthread_mutex_lock(&store->mutex);
-    const nrbpf_status status = usable(first, lane);
+    const nrbpf_status status = usable(place, lane);
     if (status == NRBPF_OK) {
-        give_back_each(store, first);
+        give_back_each(store, place);
     }
     pthread_mutex_unlock(&store->mutex);
     return status;
@@ -107,164 +105,99 @@ static int has_null(const nrbpf_question *calls, size_t count) {
     return 0;
 }
 
-// Whether a call asks for the same program as the one before it, with as long an argument. The store refuses by these two alone.
-static int is_alike(const nrbpf_question *calls, size_t i) {
-    return i > 0 && calls[i].program == calls[i - 1].program && calls[i].len == calls[i - 1].len;
-}
-
-// Writes each call into the words of its place, if the store refuses none: S1 to S3. Nothing is posted.
-static nrbpf_status put_each(struct place *first, const nrbpf_question *calls, size_t count, nrbpf_error *why) {
-    struct place *place = first;
-    for (size_t i = 0; i < count; i++) {
-        place->raw.call = NRBPF_RAW_CHECK;
-        place->raw.program = calls[i].program;
-        put_bytes(&place->raw, calls[i].argument, calls[i].len);
-        place->raw.status = NRBPF_OK;
-        if (!is_alike(calls, i)) {
-            nrbpf_raw_call(&place->raw);
-        }
-        if (place->raw.status != NRBPF_OK) {
-            const nrbpf_status status = refused(why, (nrbpf_status)place->raw.status);
-            if (why) {
-                why->slot = (uint32_t)i;
-            }
-            return status;
-        }
-        place->raw.call = i + 1 < count ? NRBPF_RAW_POST : NRBPF_RAW_UPDATE;
-        first->last = place;
-        place = place->next;
-    }
-    first->unposted = first;
-    return NRBPF_OK;
-}
-
-// Makes the call of a place, or continues it. Its status.
-static nrbpf_status go_on(struct place *place) {
-    nrbpf_raw_call(&place->raw);
-    place->is_posted = place->raw.status == NRBPF_POSTED;
-    return (nrbpf_status)place->raw.status;
-}
-
-// Posts the calls that are not posted, in their order, until another session is in the way. Whether all are posted.
-static int post_each(struct place *first) {
-    while (first->unposted) {
-        struct place *const place = first->unposted;
-        if (go_on(place) == NRBPF_BUSY) {
-            return 0;
-        }
-        first->unposted = place == first->last ? NULL : place->next;
-    }
-    return 1;
-}
-
-// Continues the list: OK if each call has its status. First the last call's session goes on: if it took the others along, they have no answer before it.
-static nrbpf_status continue_each(struct place *first) {
-    struct place *const last = first->last;
-    if (!post_each(first)) {
-        return first->unposted == first ? NRBPF_BUSY : NRBPF_POSTED;
-    }
-    if (last->is_posted && go_on(last) == NRBPF_POSTED) {
-        return NRBPF_POSTED;
-    }
-    for (struct place *place = first; place != last; place = place->next) {
-        if (place->is_posted && go_on(place) == NRBPF_POSTED) {
-            return NRBPF_POSTED;
-        }
-    }
-    return NRBPF_OK;
-}
-
-// Writes what became of each call of the list, which is over then: S4 if one got S4.
-static nrbpf_status outcomes_of(struct place *first, nrbpf_outcome *outcomes) {
-    struct place *const last = first->last;
-    nrbpf_status told = NRBPF_OK;
-    for (struct place *place = first;; place = place->next) {
-        const struct nrbpf_raw_session *const raw = &place->raw;
-        const int is_done = raw->status == NRBPF_OK;
-        outcomes->point = is_done ? raw->point : 0;
-        outcomes->reply = is_done ? raw->reply : 0;
-        outcomes->status = (nrbpf_status)raw->status;
-        told = is_done ? told : outcomes->status;
-        outcomes++;
-        if (place == last) {
-            break;
-        }
-    }
-    first->last = NULL;
-    return told;
-}
-
-// What a list is told that was continued so.
-static nrbpf_status told_each(struct place *first, nrbpf_status status, nrbpf_outcome *outcomes, nrbpf_error *why) {
+// Asks for these updates, or goes on with the list that is posted. The host's outcomes are written last, and may be where its calls are.
+static nrbpf_status go_on(struct place *place, const struct nrbpf_raw_question *asked, size_t count, nrbpf_outcome *outcomes, nrbpf_error *why) {
+    struct nrbpf_raw_outcome told[NRBPF_MOST_SLOTS];
+    const struct nrbpf_raw_lane *const list = place->list;
+    nrbpf_raw_update_each(place->list, asked, count, told, NRBPF_MOST_SLOTS);
+    nrbpf_status status = (nrbpf_status)list->status;
+    place->is_posted = status == NRBPF_POSTED;
     if (status == NRBPF_OK) {
-        status = outcomes_of(first, outcomes);
-        return status == NRBPF_OK ? status : refused(why, status);
+        for (size_t i = 0; i < list->count; i++) {
+            outcomes[i].point = told[i].point;
+            outcomes[i].reply = told[i].reply;
+            outcomes[i].status = (nrbpf_status)told[i].status;
+            status = told[i].status != NRBPF_OK ? outcomes[i].status : status;
+        }
     }
-    if (status == NRBPF_BUSY) {
-        first->last = NULL;
+    if (status >> 8 != 0) {
+        refused(why, status);
+        if (why) {
+            why->slot = (uint32_t)list->slot;
+        }
     }
     return status;
 }
 
-// Begins a list: OK if each call has its status.
-static nrbpf_status begin(nrbpf_lane *lane, const nrbpf_question *calls, size_t count, const nrbpf_outcome *outcomes, nrbpf_error *why) {
-    if (!lane || (!calls && count > 0) || (!outcomes && count > 0)) {
-        return refused(why, NRBPF_H7);
+// The updates of a list, as the library reads them.
+static void write_questions(struct nrbpf_raw_question *asked, const nrbpf_question *calls, size_t count) {
+    for (size_t i = 0; i < count; i++) {
+        asked[i].argument.at = calls[i].len > 0 ? (const uint8_t *)calls[i].argument : (const uint8_t *)"";
+        asked[i].argument.length = calls[i].len;
+        asked[i].program = calls[i].program;
     }
-    struct place *const first = first_of(lane);
-    nrbpf_status status = usable(first, lane);
+}
+
+// Whether the lane takes this list: H7, H2, H3, H5.
+static nrbpf_status may_begin(const nrbpf_lane *lane, const nrbpf_question *calls, size_t count, const nrbpf_outcome *outcomes) {
+    if (!lane || (!calls && count > 0) || (!outcomes && count > 0)) {
+        return NRBPF_H7;
+    }
+    const struct place *const place = place_of_lane(lane);
+    const nrbpf_status status = usable(place, lane);
+    if (status != NRBPF_OK) {
+        return status;
+    }
+    if (count > place->slots) {
+        return NRBPF_H5;
+    }
+    return has_null(calls, count) ? NRBPF_H7 : NRBPF_OK;
+}
+
+nrbpf_status nrbpf_try_update_each(nrbpf_lane *lane, const nrbpf_question *calls, size_t count, nrbpf_outcome *outcomes, nrbpf_error *why) {
+    struct nrbpf_raw_question asked[NRBPF_MOST_SLOTS];
+    const nrbpf_status status = may_begin(lane, calls, count, outcomes);
     if (status != NRBPF_OK) {
         return refused(why, status);
-    }
-    if (count > first->slots) {
-        return refused(why, NRBPF_H5);
-    }
-    if (has_null(calls, count)) {
-        return refused(why, NRBPF_H7);
     }
     if (count == 0) {
         return NRBPF_OK;
     }
-    status = put_each(first, calls, count, why);
-    if (status != NRBPF_OK) {
-        first->last = NULL;
-        return status;
-    }
-    return continue_each(first);
-}
-
-nrbpf_status nrbpf_try_update_each(nrbpf_lane *lane, const nrbpf_question *calls, size_t count, nrbpf_outcome *outcomes, nrbpf_error *why) {
-    const nrbpf_status status = begin(lane, calls, count, outcomes, why);
-    if (status >> 8 != 0 || count == 0) {
-        return status;
-    }
-    return told_each(first_of(lane), status, outcomes, why);
+    write_questions(asked, calls, count);
+    return go_on(place_of_lane(lane), asked, count, outcomes, why);
 }
 
 nrbpf_status nrbpf_update_each(nrbpf_lane *lane, const nrbpf_question *calls, size_t count, nrbpf_outcome *outcomes, nrbpf_error *why) {
-    nrbpf_status status = begin(lane, calls, count, outcomes, why);
+    struct nrbpf_raw_question asked[NRBPF_MOST_SLOTS];
+    nrbpf_status status = may_begin(lane, calls, count, outcomes);
     unsigned tries = 0;
-    if (status >> 8 != 0 || count == 0) {
-        return status;
+    if (status != NRBPF_OK) {
+        return refused(why, status);
     }
-    while (status != NRBPF_OK) {
+    if (count == 0) {
+        return NRBPF_OK;
+    }
+    write_questions(asked, calls, count);
+    status = go_on(place_of_lane(lane), asked, count, outcomes, why);
+    while (status == NRBPF_BUSY || status == NRBPF_POSTED) {
         pause_behind(tries);
         tries = one_more(tries);
-        status = continue_each(first_of(lane));
+        status = go_on(place_of_lane(lane), asked, count, outcomes, why);
     }
-    return told_each(first_of(lane), status, outcomes, why);
+    return status;
 }
 
 nrbpf_status nrbpf_poll_each(nrbpf_lane *lane, nrbpf_outcome *outcomes) {
+    const struct nrbpf_raw_question none = {{(const uint8_t *)"", 0}, 0};
     if (!lane || !outcomes) {
         return NRBPF_H7;
     }
-    struct place *const first = first_of(lane);
-    if (first->lane != lane) {
+    struct place *const place = place_of_lane(lane);
+    if (place->lane != lane) {
         return NRBPF_H2;
     }
-    if (!first->last) {
+    if (!place->is_posted) {
         return NRBPF_H11;
     }
-    return told_each(first, continue_each(first), outcomes, NULL);
+    return go_on(place, &none, 0, outcomes, NULL);
 }

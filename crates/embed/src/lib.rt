@@ -1,5 +1,5 @@
 //! A store for programs of other languages: the calls of `host_calls`, exported. They take and give numbers, texts and memory of the host's, in which
-//! four kinds of handle lie.
+//! five kinds of handle lie.
 #![tactic(auto)]
 
 ghost use Rattle.std.specs.Prelude.{◌≡◌, None};
@@ -10,12 +10,14 @@ ghost use Rattle.host_calls.specs.Calls.{Goes};
 ghost use Rattle.host_calls.specs.Stores.{Closes, Finds, Gives, IsItsOwn, Takes};
 ghost use Rattle.host_calls.specs.Leaving.{Leaves};
 ghost use Rattle.host_calls.specs.Openings.{IsOpened};
+ghost use Rattle.host_calls.specs.Lanes.{IsNewLane, Joins, JoinsOneStore, Leaves as LeavesLane, UpdatesEach};
 ghost use Rattle.host_calls.specs.Loadings.{IsLoaded};
 ghost use Rattle.host_calls.specs.Looks.{Answers, Gets, Scans, Snaps};
 ghost use Rattle.host_calls.specs.Describing.{DescribesMap, DescribesProgram, DescribesStore};
 ghost use Rattle.host_calls.specs.Measuring.{Measures};
 ghost use Rattle.host_calls.specs.States.{Dumps, GivesPart, Makes, Returns};
-ghost use Rattle.host_calls.specs.Rooms.{holds_facts, holds_map, holds_program, holds_session, holds_state, holds_stats, holds_store, holds_text};
+ghost use Rattle.host_calls.specs.Rooms.{holds_facts, holds_lane, holds_map, holds_program, holds_session, holds_state, holds_stats, holds_store, holds_text};
+ghost use Rattle.host_calls.specs.contracts.handles.LaneHandle.{the_row as the_lane};
 ghost use Rattle.host_calls.specs.contracts.handles.SessionHandle.{the_row as the_session};
 ghost use Rattle.host_calls.specs.contracts.handles.StateHandle.{the_row as the_state};
 ghost use Rattle.host_calls.specs.contracts.handles.StoreHandle.{the_row as the_store};
@@ -26,7 +28,10 @@ use host_calls::closing::{close_into, drop_state};
 use host_calls::describing::{
     MapWords, ProgramWords, StoreWords, describe_map, describe_program, describe_store,
 };
-use host_calls::handles::{Asking, Opening, SessionHandle, StateHandle, StoreHandle, TextHandle};
+use host_calls::handles::{
+    Asking, LaneHandle, Opening, Outcome, SessionHandle, StateHandle, StoreHandle, TextHandle,
+};
+use host_calls::lanes::{drop_lane, join, leave, make_lane, update_each};
 use host_calls::loading::load_text;
 use host_calls::looks::{get, read_each, scan, snapshot};
 use host_calls::measuring::{StatWords, measure};
@@ -60,6 +65,14 @@ pub extern "C" fn nrbpf_raw_session_size() -> usize
     ensures size { result ≡ type_size the_session }
 {
     std::mem::size_of::<SessionHandle>()
+}
+
+/// How many bytes a lane's handle takes.
+#[unsafe(no_mangle)]
+pub extern "C" fn nrbpf_raw_lane_size() -> usize
+    ensures size { result ≡ type_size the_lane }
+{
+    std::mem::size_of::<LaneHandle>()
 }
 
 /// How many bytes a state's handle takes.
@@ -182,6 +195,65 @@ pub unsafe extern "C" fn nrbpf_raw_call(at: *mut u8)
     ensures* { ∃ₛ (λ after. sem 𝓛 (holds_session at after) ∗ ⌜ Goes value after ⌝) }
 {
     call(&mut *(at as *mut SessionHandle));
+}
+
+/// Writes the handle of a lane without sessions. It has none where there is no memory.
+#[unsafe(no_mangle)]
+pub unsafe extern "C" fn nrbpf_raw_new_lane(alloc: Global, at: *mut u8)
+    requires* { sem 𝓛 (room_at the_lane at) }
+    ensures* { ∃ₛ (λ given. sem 𝓛 (holds_lane at given) ∗ ⌜ IsNewLane given ⌝) }
+{
+    std::ptr::write(at as *mut LaneHandle, make_lane(alloc));
+}
+
+/// Ends a lane. Its handle is room then.
+#[unsafe(no_mangle)]
+pub unsafe extern "C" fn nrbpf_raw_drop_lane(at: *mut u8)
+    ghost value: { LaneHandle }
+    requires* { sem 𝓛 (holds_lane at value) }
+    ensures* { sem 𝓛 (room_at the_lane at) }
+{
+    drop_lane(&mut *(at as *mut LaneHandle));
+}
+
+/// Moves a session from its handle into a lane, whose sessions are of its store. Its handle is closed then, and is as it was where the session is refused.
+#[unsafe(no_mangle)]
+pub unsafe extern "C" fn nrbpf_raw_join(at: *mut u8, session: *mut u8)
+    ghost values: { LaneHandle × SessionHandle }
+    requires* { sem 𝓛 (holds_lane at values.0) ∗ sem 𝓛 (holds_session session values.1) ∗ ⌜ JoinsOneStore values.0 values.1 ⌝ }
+    ensures* { ∃ₛ (λ after. ∃ₛ (λ left. sem 𝓛 (holds_lane at after) ∗ sem 𝓛 (holds_session session left) ∗ ⌜ Joins values.0 values.1 after left ⌝)) }
+{
+    join(
+        &mut *(at as *mut LaneHandle),
+        &mut *(session as *mut SessionHandle),
+    );
+}
+
+/// Takes the last session out of a lane, and writes its handle. It is closed where there is none.
+#[unsafe(no_mangle)]
+pub unsafe extern "C" fn nrbpf_raw_leave(at: *mut u8, room: *mut u8)
+    ghost value: { LaneHandle }
+    requires* { sem 𝓛 (holds_lane at value) ∗ sem 𝓛 (room_at the_session room) }
+    ensures* { ∃ₛ (λ after. ∃ₛ (λ given. sem 𝓛 (holds_lane at after) ∗ sem 𝓛 (holds_session room given) ∗ ⌜ LeavesLane value after given ⌝)) }
+{
+    std::ptr::write(
+        room as *mut SessionHandle,
+        leave(&mut *(at as *mut LaneHandle)),
+    );
+}
+
+/// Asks for a list of updates, or goes on with the one that is out, and puts what became of each into `outcomes`, at its number.
+#[unsafe(no_mangle)]
+pub unsafe extern "C" fn nrbpf_raw_update_each(
+    at: *mut u8,
+    questions: &[Asking],
+    outcomes: &mut [Outcome],
+)
+    ghost before: { LaneHandle }
+    requires* { sem 𝓛 (holds_lane at before) }
+    ensures* { ∃ₛ (λ after. sem 𝓛 (holds_lane at after) ∗ ⌜ UpdatesEach questions.now outcomes.old outcomes.new before after ⌝) }
+{
+    update_each(&mut *(at as *mut LaneHandle), questions, outcomes);
 }
 
 /// Makes a new state of the store's sizes, and writes its handle. That has none where there is none.

@@ -8,3 +8,8 @@ mod Seats
 mod Gathered
 mod FileTexts
 mod CatchingUp
+mod Homes
+mod Listed
+mod Tellings
+mod Written
+mod Moves

@@ -1,8 +1,6 @@
 -- Sessions are popped from those of a fresh store, and put at their places.
 use Rattle.std.proofs.Common.{◌≡◌, ◌≢◌, ℕ, zero, suc, ◌+◌, ◌<◌, ◌≤◌, ◌⊎◌, inl, inr, ⊎_elim, List, [], ◌∷◌, ◌++◌, length, None, Some, Option, MatchOption, set, refl, sym, ap, subst, ◌∙◌, arith}
 use Rattle.std.proofs.lemmas.List.{get_or-set_other, get_or-set_same, length-append}
-use Rattle.std.specs.declared.alloc.Global.{Global}
-use Rattle.std.specs.declared.boxed.Box.{Box}
 use Rattle.store_steps.specs.Views.{SessionView}
 use Rattle.store.specs.Sessions.{StoreView, fresh_session, fresh_sessions}
 use Rattle.host_calls.specs.declared.attached.Attached.{Attached}
@@ -58,9 +56,9 @@ abbrev pub seat_of : StoreView → ℕ → SessionView → AttachedView
 seat_of s m z = record { store = s; place = m; session = z }
 
 -- once it is put, the places from its own on have their sessions
-pub put_there : (s : StoreView) (places : List (Option (Box Attached Global))) (m count : ℕ) (a : Box Attached Global) → length places ≡ count → m < count → a.value ≡ fresh_seat s m
+pub put_there : (s : StoreView) (places : List (Option Attached)) (m count : ℕ) (a : Attached) → length places ≡ count → m < count → a ≡ fresh_seat s m
     → ((k : ℕ) → suc m ≤ k → k < count → IsSeat s places k) → (k : ℕ) → m ≤ k → k < count → IsSeat s (set places m (Some a)) k
 put_there s places m count a room there is rest k from below = ⊎_elim
-    (λ e. subst (λ i. IsSeat s (set places m (Some a)) i) (sym e) (subst (λ o. MatchOption o ⊥ (λ b. b.value ≡ fresh_seat s m)) (sym (get_or-set_same places m (Some a) None (omega (arith, there, room)))) is))
-    (λ n. subst (λ o. MatchOption o ⊥ (λ b. b.value ≡ fresh_seat s k)) (sym (get_or-set_other places m k (Some a) None n)) (rest k (omega (arith, from, n)) below))
+    (λ e. subst (λ i. IsSeat s (set places m (Some a)) i) (sym e) (subst (λ o. MatchOption o ⊥ (λ b. b ≡ fresh_seat s m)) (sym (get_or-set_same places m (Some a) None (omega (arith, there, room)))) is))
+    (λ n. subst (λ o. MatchOption o ⊥ (λ b. b ≡ fresh_seat s k)) (sym (get_or-set_other places m k (Some a) None n)) (rest k (omega (arith, from, n)) below))
     (same_or k m)

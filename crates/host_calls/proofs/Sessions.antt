@@ -8,7 +8,7 @@ use Rattle.std.specs.List.{All}
 use Rattle.ownlock.specs.Seats.{At}
 
 module _ {A : Type 0} where
-  stands : (xs : List A) (k : ℕ) (d : A) → k < length xs → At k (get_or xs k d) xs
+  pub stands : (xs : List A) (k : ℕ) (d : A) → k < length xs → At k (get_or xs k d) xs
   stands [] k d below = absurd (not-suc-le-zero below)
   stands (x ∷ xs) zero d below = refl
   stands (x ∷ xs) (suc k) d below = stands xs k d (le_of_suc-le-suc below)

@@ -126,7 +126,7 @@ written before told = record {
 -- on a closed handle it says so; else the session goes on as it tells, and the handle stays open
 abbrev pub TellsHandle : (before after : SessionHandle) → CallResult → Type 0
 TellsHandle before after told =
-    MatchOption before.own ((told ≡ NotOpen) × (after.own ≡ None)) (λ b. MatchOption after.own ⊥ (λ b'. TellsAttached before.asked b.value b'.value told))
+    MatchOption before.own ((told ≡ NotOpen) × (after.own ≡ None)) (λ b. MatchOption after.own ⊥ (λ b'. TellsAttached before.asked b b' told))
 
 pub record Goes (before after : SessionHandle) : Type 0 where
   pub asked : after.asked ≡ before.asked

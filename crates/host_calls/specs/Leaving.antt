@@ -2,8 +2,6 @@
 use Rattle.std.specs.Prelude.{◌≡◌, ◌⊎◌, ℕ, ◌++◌, List, [], ◌∷◌, Bool, true, false, None, Some, Option, MatchOption, is_some}
 use Rattle.std.specs.List.{list_all}
 use Rattle.std.specs.Arc.{arc_value}
-use Rattle.std.specs.declared.alloc.Global.{Global}
-use Rattle.std.specs.declared.boxed.Box.{Box}
 use Rattle.loader.specs.StoreState.{StoreState}
 use Rattle.store.specs.Opening.{ClosedView, IsClosed, last_state}
 use Rattle.store_steps.specs.Views.{SessionView}
@@ -19,12 +17,12 @@ use Rattle.host_calls.specs.Stores.{IsStatusAlone}
 -- ---- the state
 
 -- the session at a place
-abbrev pub sessions_at : Option (Box Attached Global) → List SessionView
+abbrev pub sessions_at : Option Attached → List SessionView
 sessions_at None = []
-sessions_at (Some a) = a.value.session ∷ []
+sessions_at (Some a) = a.session ∷ []
 
 -- the sessions at places, the last first
-abbrev pub sessions_back : List (Option (Box Attached Global)) → List SessionView
+abbrev pub sessions_back : List (Option Attached) → List SessionView
 sessions_back [] = []
 sessions_back (p ∷ ps) = sessions_back ps ++ sessions_at p
 

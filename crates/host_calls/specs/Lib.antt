@@ -14,3 +14,5 @@ pub mod Leaving
 pub mod States
 pub mod Loadings
 pub mod Rooms
+pub mod Homes
+pub mod Lanes

@@ -187,7 +187,7 @@ pub record Looks (kept : Type 0) (P : (old new : AttachedView) → Looked → Ty
   pub told : Looked
   pub noted : after.answered ≡ noted before.answered told
   pub tells : MatchOption before.own ((told ≡ NotOpen) × (after.own ≡ None) × kept)
-      (λ b. MatchOption after.own ⊥ (λ b'. IsSame b.value b'.value × P b.value b'.value told))
+      (λ b. MatchOption after.own ⊥ (λ b'. IsSame b b' × P b b' told))
 
 abbrev pub Gets : (map : ℕ) → (key before value : List ℕ) → (before' after : SessionHandle) → Type 0
 Gets map key before value = Looks (value ≡ before) (TellsGot map key before value)

@@ -23,8 +23,6 @@ use Rattle.oplog.specs.Limits.{AreSizes, open_fault_number}
 use Rattle.store_steps.specs.Views.{SessionView}
 use Rattle.store.specs.Sessions.{StoreView, fresh_session, fresh_sessions}
 use Rattle.store_steps.specs.Shelving.{sessions_of}
-use Rattle.std.specs.declared.alloc.Global.{Global}
-use Rattle.std.specs.declared.boxed.Box.{Box}
 use Rattle.host_calls.specs.declared.attached.Attached.{Attached}
 use Rattle.host_calls.specs.declared.handles.File.{File}
 use Rattle.host_calls.specs.declared.handles.Opening.{Opening as Asked}
@@ -92,8 +90,8 @@ abbrev pub fresh_seat : StoreView → ℕ → AttachedView
 fresh_seat s k = record { store = s; place = k; session = fresh_session s.id s.config s.catalogue k }
 
 -- at this place stands the session of its number
-abbrev pub IsSeat : StoreView → List (Option (Box Attached Global)) → ℕ → Type 0
-IsSeat s places k = MatchOption (get_or places k None) ⊥ (λ a. a.value ≡ fresh_seat s k)
+abbrev pub IsSeat : StoreView → List (Option Attached) → ℕ → Type 0
+IsSeat s places k = MatchOption (get_or places k None) ⊥ (λ a. a ≡ fresh_seat s k)
 
 -- a pool of such a store, with so many sessions a node, which are all there
 pub record IsPoolOf (o : Asked) (on : Option StoreState) (p : Pool) : Type 0 where

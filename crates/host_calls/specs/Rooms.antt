@@ -7,6 +7,7 @@ use Rattle.host_calls.specs.declared.handles.StoreHandle.{StoreHandle}
 use Rattle.host_calls.specs.declared.handles.SessionHandle.{SessionHandle}
 use Rattle.host_calls.specs.declared.handles.StateHandle.{StateHandle}
 use Rattle.host_calls.specs.declared.handles.TextHandle.{TextHandle}
+use Rattle.host_calls.specs.declared.handles.LaneHandle.{LaneHandle}
 use Rattle.host_calls.specs.declared.describing.MapWords.{MapWords}
 use Rattle.host_calls.specs.declared.describing.ProgramWords.{ProgramWords}
 use Rattle.host_calls.specs.declared.describing.StoreWords.{StoreWords}
@@ -19,12 +20,16 @@ use Rattle.host_calls.specs.contracts.handles.StateHandle.{the_row as the_state}
 use Rattle.host_calls.specs.contracts.handles.StoreHandle.{the_row as the_store}
 use Rattle.host_calls.specs.contracts.handles.SessionHandle.{the_row as the_session}
 use Rattle.host_calls.specs.contracts.handles.TextHandle.{the_row as the_text}
+use Rattle.host_calls.specs.contracts.handles.LaneHandle.{the_row as the_lane}
 
 abbrev pub holds_store : Ptr → StoreHandle → Fml
 holds_store p h = lies_at the_store full_share p h
 
 abbrev pub holds_session : Ptr → SessionHandle → Fml
 holds_session p h = lies_at the_session full_share p h
+
+abbrev pub holds_lane : Ptr → LaneHandle → Fml
+holds_lane p h = lies_at the_lane full_share p h
 
 abbrev pub holds_state : Ptr → StateHandle → Fml
 holds_state p h = lies_at the_state full_share p h

@@ -1,21 +1,19 @@
 -- The sessions that stand at the places of a pool.
 use Rattle.std.specs.Prelude.{◌≡◌, List, None, Option, IfSome, All, length}
-use Rattle.std.specs.declared.alloc.Global.{Global}
-use Rattle.std.specs.declared.boxed.Box.{Box}
 use Rattle.store.specs.Sessions.{StoreView}
 use Rattle.store_steps.specs.Shelving.{sessions_of}
 use Rattle.host_calls.specs.declared.attached.Attached.{Attached}
 
 -- the session at this place, if it isn't attached, is one of this store
-abbrev pub IsSeatOf : StoreView → Option (Box Attached Global) → Type 0
-IsSeatOf store place = IfSome place (λ a. a.value.store ≡ store)
+abbrev pub IsSeatOf : StoreView → Option Attached → Type 0
+IsSeatOf store place = IfSome place (λ a. a.store ≡ store)
 
 -- and no update of it is out
-abbrev pub IsIdleSeat : Option (Box Attached Global) → Type 0
-IsIdleSeat place = IfSome place (λ a. a.value.session.note.pending ≡ None)
+abbrev pub IsIdleSeat : Option Attached → Type 0
+IsIdleSeat place = IfSome place (λ a. a.session.note.pending ≡ None)
 
 -- as many places as the store has sessions, at which only these stand, and no update of theirs is out
-pub record AreInOrder (store : StoreView) (places : List (Option (Box Attached Global))) : Type 0 where
+pub record AreInOrder (store : StoreView) (places : List (Option Attached)) : Type 0 where
   pub count : length places ≡ sessions_of store.config
   pub own : All (IsSeatOf store) places
   pub idle : All IsIdleSeat places

@@ -86,3 +86,7 @@ no_program = refusal letter_S 1
 
 abbrev pub is_attached : ℕ
 is_attached = refusal letter_S 5
+
+-- S4: the history has ended
+abbrev pub ended : ℕ
+ended = refusal letter_S 4

@@ -17,7 +17,7 @@ use Rattle.host_calls.specs.Statuses.{done, is_attached, is_out, no_program, no_
 -- ---- the pool of a store
 
 -- the session at this place, if it isn't attached
-abbrev pub seated : Pool → ℕ → Option (Box Attached Global)
+abbrev pub seated : Pool → ℕ → Option Attached
 seated p k = get_or p.places.items k None
 
 -- the place is one of this node
@@ -37,16 +37,16 @@ abbrev pub IsUnmoved : (p q : Pool) → Type 0
 IsUnmoved p q = q.places.items ≡ p.places.items
 
 -- the session stood at a place of the node, which is empty now
-abbrev pub IsTaken : (p q : Pool) → ℕ → Box Attached Global → Type 0
+abbrev pub IsTaken : (p q : Pool) → ℕ → Attached → Type 0
 IsTaken p q node a = (k : ℕ) × IsOfNode p node k × (seated p k ≡ Some a) × (q.places.items ≡ set p.places.items k None)
 
 -- the place at which the session stood is there and empty
-abbrev pub HasPlaceFor : Pool → Box Attached Global → Type 0
-HasPlaceFor p a = (a.value.place < length p.places.items) × (seated p a.value.place ≡ None)
+abbrev pub HasPlaceFor : Pool → Attached → Type 0
+HasPlaceFor p a = (a.place < length p.places.items) × (seated p a.place ≡ None)
 
 -- and it stands there again
-abbrev pub IsGiven : (p q : Pool) → Box Attached Global → Type 0
-IsGiven p q a = HasPlaceFor p a × (q.places.items ≡ set p.places.items a.value.place (Some a))
+abbrev pub IsGiven : (p q : Pool) → Attached → Type 0
+IsGiven p q a = HasPlaceFor p a × (q.places.items ≡ set p.places.items a.place (Some a))
 
 -- of the words that are answered, none but the status is another
 abbrev pub IsStatusAlone : (before after : StoreAnswered) → Type 0
@@ -73,21 +73,21 @@ pub record Gives (before after : StoreHandle) (given : SessionHandle) : Type 0 w
 
 -- the session at this handle, if there is one, is of the store at that
 abbrev pub IsItsOwn : StoreHandle → SessionHandle → Type 0
-IsItsOwn h session = IfSome h.own (λ b. IfSome session.own (λ a. a.value.store ≡ arc_value b.value.store))
+IsItsOwn h session = IfSome h.own (λ b. IfSome session.own (λ a. a.store ≡ arc_value b.value.store))
 
 -- the session stays at its handle, for this reason
 abbrev pub Stays : (p q : Pool) → StoreHandle → (session left : SessionHandle) → ℕ → Type 0
 Stays p q after session left status = IsUnmoved p q × (left ≡ session) × (after.answered.status ≡ status)
 
 -- of a session for which nothing is out: it is back, and its handle is closed, unless there is no empty place for it
-abbrev pub GoesBack : (p q : Pool) → Box Attached Global → StoreHandle → (session left : SessionHandle) → Type 0
+abbrev pub GoesBack : (p q : Pool) → Attached → StoreHandle → (session left : SessionHandle) → Type 0
 GoesBack p q a after session left =
     MatchOption left.own (IsGiven p q a × (left ≡ record session { own = None }) × (after.answered.status ≡ done)) (λ b. (HasPlaceFor p a → ⊥) × Stays p q after session left not_ours)
 
 abbrev pub TakesInto : (p q : Pool) → StoreHandle → (session left : SessionHandle) → Type 0
 TakesInto p q after session left =
     IsKept p q × MatchOption session.own (Stays p q after session left not_open)
-    (λ a. MatchOption a.value.session.note.pending (GoesBack p q a after session left) (λ o. Stays p q after session left is_out))
+    (λ a. MatchOption a.session.note.pending (GoesBack p q a after session left) (λ o. Stays p q after session left is_out))
 
 pub record Takes (before : StoreHandle) (session : SessionHandle) (after : StoreHandle) (left : SessionHandle) : Type 0 where
   pub asked : after.asked ≡ before.asked

@@ -113,7 +113,7 @@ fn look_each(tried: Result<Option<u64>, QuestionRefused>, count: u64) -> Looked
 }
 
 // The questions, and behind them some that nobody asks.
-fn questions<'a>(asked: &[Asking<'a>]) -> [Question<'a>; MOST_ASKED]
+pub(crate) fn questions<'a>(asked: &[Asking<'a>]) -> [Question<'a>; MOST_ASKED]
     requires few { length asked.now ≤ MOST_ASKED }
     ensures { take (length asked.now) result ≡ questions_of asked.now }
 {
@@ -132,7 +132,7 @@ fn questions<'a>(asked: &[Asking<'a>]) -> [Question<'a>; MOST_ASKED]
 }
 
 // The first of them, as many as are asked.
-fn those_asked<'q, 'a>(
+pub(crate) fn those_asked<'q, 'a>(
     questions: &'q [Question<'a>; MOST_ASKED],
     asked: &[Asking<'a>],
 ) -> &'q [Question<'a>]
@@ -168,6 +168,20 @@ impl Attached {
             session,
         } = self;
         session.into_session()
+    }
+
+    // The store, the place in its pool, and the session, for which nothing is out.
+    pub(crate) fn into_parts(self) -> (Arc<Store, Global>, usize, Session)
+        requires idle { self.session.note.pending ≡ None }
+        ensures parts { (arc_value result.0 ≡ self.store) × (result.1 ≡ self.place) × (result.2 ≡ self.session) }
+        ensures own { IsOf self.store result.2 }
+    {
+        let Attached {
+            store,
+            place,
+            session,
+        } = self;
+        (store, place, session.into_session())
     }
 
     /// The session's place in the pool.

@@ -17,7 +17,7 @@ use std::sync::Arc;
 use store::{Session, StoreState};
 
 // Takes out the session at a place.
-fn push_session(place: Option<Box<Attached>>, sessions: &mut Vec<Session>)
+fn push_session(place: Option<Attached>, sessions: &mut Vec<Session>)
     requires idle { IsIdleSeat place }
     requires room { length sessions.old.items < vec_capacity sessions.old }
     ensures pushed { sessions.new.items ≡ sessions.old.items ++ sessions_at place }
@@ -27,12 +27,12 @@ fn push_session(place: Option<Box<Attached>>, sessions: &mut Vec<Session>)
     let Some(attached) = place else {
         return;
     };
-    let session = Box::into_inner(attached).into_session();
+    let session = attached.into_session();
     sessions.push_reserved(session);
 }
 
 // Gathers the sessions at the places, the last first.
-fn gather(mut places: Vec<Option<Box<Attached>>>, mut sessions: Vec<Session>) -> Vec<Session>
+fn gather(mut places: Vec<Option<Attached>>, mut sessions: Vec<Session>) -> Vec<Session>
     requires idle { All IsIdleSeat places.items }
     requires room { (sessions.items ≡ []) × (length places.items ≤ vec_capacity sessions) }
     ensures sessions { result.items ≡ sessions_back places.items }

@@ -3,6 +3,7 @@
 ghost use Rattle.std.specs.Prelude.{◌≡◌};
 
 use crate::attached::Attached;
+use crate::lanes::Lane;
 use crate::pool::Pool;
 use dumps::StateText;
 use store::{MapLimits, StoreState};
@@ -127,15 +128,15 @@ pub struct Answered {
     pub next: u64,
 }
 
-/// What lies at a session's handle. The first field is not for the host, and empty where the handle is closed.
+/// What lies at a session's handle. The last field is not for the host, and empty where the handle is closed.
 #[repr(C)]
 #[derive(Drop)]
 pub struct SessionHandle {
-    pub own: Option<Box<Attached>>,
     /// What the host asks.
     pub asked: Asked,
     /// What the host is answered.
     pub answered: Answered,
+    pub own: Option<Attached>,
 }
 
 /// A read, one of several: a program, by its number, and its argument.
@@ -145,6 +146,39 @@ pub struct Asking<'a> {
     pub argument: &'a [u8],
     /// The program's number.
     pub program: u16,
+}
+
+/// What became of an update of a list.
+#[repr(C)]
+#[derive(Clone, Copy)]
+pub struct Outcome {
+    /// Its index in the history; 0 where it has none.
+    pub point: u64,
+    /// What its program replied there; 0 where it has no place.
+    pub reply: u64,
+    /// 0, or S4.
+    pub status: u64,
+}
+
+/// What is answered at a lane's handle.
+#[repr(C)]
+#[derive(Clone, Copy)]
+pub struct LaneAnswered {
+    /// What became of the call.
+    pub status: u64,
+    /// The number of the update that is refused.
+    pub slot: u64,
+    /// How many outcomes there are.
+    pub count: u64,
+}
+
+/// What lies at a lane's handle. The last field is not for the host, and empty where there is no lane.
+#[repr(C)]
+#[derive(Drop)]
+pub struct LaneHandle {
+    /// What the host is answered.
+    pub answered: LaneAnswered,
+    pub own: Option<Lane>,
 }
 
 /// What is answered where a state is written.
@@ -194,9 +228,16 @@ fn crosses<T: Send + Drop>(value: T) {
 }
 
 // What lies at a handle may go to another thread.
-fn handles_cross(store: StoreHandle, session: SessionHandle, state: StateHandle, text: TextHandle) {
+fn handles_cross(
+    store: StoreHandle,
+    session: SessionHandle,
+    lane: LaneHandle,
+    state: StateHandle,
+    text: TextHandle,
+) {
     crosses(store);
     crosses(session);
+    crosses(lane);
     crosses(state);
     crosses(text);
 }
@@ -270,9 +311,24 @@ impl TextHandle {
     }
 }
 
+impl LaneHandle {
+    /// A handle with this lane, and this status.
+    pub fn new(own: Option<Lane>, status: u64) -> LaneHandle
+        ensures own { result.own ≡ own }
+        ensures status { result.answered ≡ record { status = status; slot = 0; count = 0 } }
+    {
+        let answered = LaneAnswered {
+            status,
+            slot: 0,
+            count: 0,
+        };
+        LaneHandle { answered, own }
+    }
+}
+
 impl SessionHandle {
     /// A handle with nothing asked, and this status.
-    pub fn new(own: Option<Box<Attached>>, status: u64) -> SessionHandle
+    pub fn new(own: Option<Attached>, status: u64) -> SessionHandle
         ensures own { result.own ≡ own }
         ensures status { result.answered.status ≡ status }
     {

@@ -1,4 +1,4 @@
-//! What a call of a host in another language tells, and what it leaves at the four kinds of handle, which lie in memory of the host's. No call
+//! What a call of a host in another language tells, and what it leaves at the five kinds of handle, which lie in memory of the host's. No call
 //! waits: one that meets a held place says so. `embed` exports these calls.
 #![tactic(auto)]
 
@@ -7,6 +7,7 @@ pub mod calls;
 pub mod closing;
 pub mod describing;
 pub mod handles;
+pub mod lanes;
 pub mod loading;
 pub mod looks;
 pub mod measuring;

@@ -157,7 +157,7 @@ pub fn let_go(mut sessions: Vec<Session>) {
 }
 
 // Makes `count` empty places.
-fn empty_places(alloc: Global, count: usize) -> Result<Vec<Option<Box<Attached>>>, AllocError>
+fn empty_places(alloc: Global, count: usize) -> Result<Vec<Option<Attached>>, AllocError>
     ensures count { IfOk result (λ v. length v.items ≡ count) }
 {
     let mut places = Vec::new(alloc);
@@ -168,22 +168,17 @@ fn empty_places(alloc: Global, count: usize) -> Result<Vec<Option<Box<Attached>>
 }
 
 // Seats a session at its place.
-fn seat(
-    alloc: Global,
-    store: &Arc<Store, Global>,
-    place: usize,
-    session: Session,
-) -> Result<Box<Attached>, AllocError>
+fn seat(store: &Arc<Store, Global>, place: usize, session: Session) -> Result<Attached, AllocError>
     requires own { IsOf (arc_value store.now) session }
-    ensures seat { IfOk result (λ b. b.value ≡ record { store = arc_value store.now; place = place; session = session }) }
+    ensures seat { IfOk result (λ a. a ≡ record { store = arc_value store.now; place = place; session = session }) }
 {
     let session = Polled::new(session);
     let store = Arc::try_clone(store)?;
-    Ok(Box::new(alloc, Attached::new(store, place, session))?)
+    Ok(Attached::new(store, place, session))
 }
 
 // Puts a session at its place.
-fn put(places: &mut Vec<Option<Box<Attached>>>, place: usize, attached: Box<Attached>)
+fn put(places: &mut Vec<Option<Attached>>, place: usize, attached: Attached)
     requires there { place < length places.old.items }
     ensures put { places.new.items ≡ set places.old.items place (Some attached) }
 {
@@ -214,7 +209,7 @@ fn make_pool(
     };
     while let Some(session) = sessions.pop() {
         let place = sessions.len();
-        let Ok(attached) = seat(alloc, &store, place, session) else {
+        let Ok(attached) = seat(&store, place, session) else {
             let_go(sessions);
             return None;
         };

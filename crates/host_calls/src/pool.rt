@@ -20,7 +20,7 @@ pub struct Seats {
     pub(crate) store: Arc<Store, Global>,
     // How many sessions a node has.
     pub(crate) slots: usize,
-    pub(crate) places: Vec<Option<Box<Attached>>>,
+    pub(crate) places: Vec<Option<Attached>>,
 }
 
 /// Seats at which only sessions of the store itself are, with no update out.
@@ -45,7 +45,7 @@ impl Model for Pool {
 }
 
 impl Pool {
-    pub fn new(store: Arc<Store, Global>, slots: usize, places: Vec<Option<Box<Attached>>>) -> Pool
+    pub fn new(store: Arc<Store, Global>, slots: usize, places: Vec<Option<Attached>>) -> Pool
         requires order { AreInOrder (arc_value store) places.items }
         ensures { (result.store ≡ store) × (result.slots ≡ slots) × (result.places ≡ places) }
     {
@@ -79,7 +79,7 @@ impl Pool {
     }
 
     /// Takes a session of this node out.
-    pub fn take(&mut self, node: u64) -> Option<Box<Attached>>
+    pub fn take(&mut self, node: u64) -> Option<Attached>
         ensures kept { IsKept self.old self.new }
         ensures taken { MatchOption result (NoneIsFree self.old node × IsUnmoved self.old self.new) (λ a. IsTaken self.old self.new node a) }
     {
@@ -88,9 +88,9 @@ impl Pool {
     }
 
     /// Puts a session of this store, for which nothing is out, back where it stood, if that place is empty.
-    pub fn give(&mut self, attached: Box<Attached>) -> Result<(), Box<Attached>>
-        requires own { attached.value.store ≡ arc_value self.old.store }
-        requires idle { attached.value.session.note.pending ≡ None }
+    pub fn give(&mut self, attached: Attached) -> Result<(), Attached>
+        requires own { attached.store ≡ arc_value self.old.store }
+        requires idle { attached.session.note.pending ≡ None }
         ensures kept { IsKept self.old self.new }
         ensures given { IfOk result (λ _. IsGiven self.old self.new attached) }
         ensures back { IfErr result (λ back. (back ≡ attached) × (HasPlaceFor self.old attached → ⊥) × IsUnmoved self.old self.new) }
@@ -105,7 +105,7 @@ impl Pool {
     }
 
     /// The store, and what stands at its places.
-    pub fn into_parts(self) -> (Arc<Store, Global>, Vec<Option<Box<Attached>>>)
+    pub fn into_parts(self) -> (Arc<Store, Global>, Vec<Option<Attached>>)
         ensures parts { (result.0 ≡ self.store) × (result.1 ≡ self.places) }
         ensures order { AreInOrder (arc_value result.0) result.1.items }
     {

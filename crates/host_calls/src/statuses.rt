@@ -45,6 +45,9 @@ pub const NO_MEMORY: u64 = 0x4f02;
 /// S1: unknown program.
 pub const NO_PROGRAM_SO_NAMED: u64 = 0x5301;
 
+/// S4: the history has ended.
+pub const ENDED: u64 = 0x5304;
+
 /// S5: a session is attached.
 pub const IS_ATTACHED: u64 = 0x5305;
 

@@ -1,14 +1,11 @@
-use Rattle.std.proofs.Common.{rules, ◌≡◌, sym, subst}
+use Rattle.std.proofs.Common.{subst}
 use Rattle.std.proofs.lemmas.List.Elements.{All-push, All-same}
 use Rattle.store.specs.Sessions.{IsOf, StoreView}
 use Rattle.host_calls.specs.Seating.{IsSeatOf}
-use Rattle.host_calls.specs.Views.{AttachedView}
 use Rattle.host_calls.proofs.closing.push_session.Goals as goal
 
 pub returns-clause-own : goal.returns-clause-own
 returns-clause-own c = λ store seat all.
-    let at = subst (IsSeatOf store) c.in-Some.is seat in
-    let same : c.into_inner.result ≡ c.in-Some.attached.value = search rules in
-    let ours = subst (λ (z : AttachedView). z.store ≡ store) (sym same) at in
+    let ours = subst (IsSeatOf store) c.in-Some.is seat in
     let own = subst (λ (s : StoreView). IsOf s c.into_session-session.result) ours c.into_session-session.ensures.own in
     All-same (IsOf store) _ _ c.push_reserved.ensures.items (All-push (IsOf store) _ _ all own)
