@@ -4,7 +4,7 @@
 
 use std::ffi::{c_char, c_int, c_void};
 
-pub const NRBPF_VERSION: u32 = 2_003;
+pub const NRBPF_VERSION: u32 = 2_004;
 pub const NRBPF_OK: u32 = 0;
 pub const NRBPF_BUSY: u32 = 1;
 pub const NRBPF_POSTED: u32 = 2;
