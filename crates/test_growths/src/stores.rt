@@ -58,6 +58,25 @@ fn config() -> Config
     }
 }
 
+// Whether a new store answers its only session as ever, and gives back its log.
+fn serves<R: Wait>(rt: &R, store: Store, mut session: Session, sessions: Vec<Session>) -> bool
+    requires own { IsOf store session }
+    requires one { (store.config.nodes ≡ 1) × (store.config.slots ≡ 1) }
+    requires room { (sessions.items ≡ []) × (1 ≤ vec_capacity sessions) }
+{
+    let is_answered = answers(rt, &store, &mut session);
+    let is_closed = closes(store, session, sessions);
+    is_answered && is_closed
+}
+
+// How it ends if no store is opened.
+fn refused(why: OpenError) -> Ending {
+    match why {
+        OpenError::NoMemory => Ending::NoMemory,
+        _ => Ending::Other,
+    }
+}
+
 /// A store of one node of one slot.
 pub fn opened<R: Wait>(rt: &R, alloc: Global) -> Ending {
     let Some(catalogue) = catalogue(alloc) else {
@@ -65,15 +84,12 @@ pub fn opened<R: Wait>(rt: &R, alloc: Global) -> Ending {
     };
     match Store::open(alloc, config(), catalogue) {
         Ok((store, mut sessions)) => {
-            let Some(mut session) = sessions.pop() else {
+            let Some(session) = sessions.pop() else {
                 unreachable!()
             };
-            let is_answered = answers(rt, &store, &mut session);
-            let is_closed = closes(store, session, sessions);
-            judged(is_answered && is_closed)
+            judged(serves(rt, store, session, sessions))
         }
-        Err(OpenError::NoMemory) => Ending::NoMemory,
-        Err(_) => Ending::Other,
+        Err(why) => refused(why),
     }
 }
 
@@ -87,14 +103,11 @@ pub fn opened_on<R: Wait>(rt: &R, alloc: Global) -> Ending {
     };
     match Store::open_on(alloc, config(), catalogue, &state) {
         Ok((store, mut sessions)) => {
-            let Some(mut session) = sessions.pop() else {
+            let Some(session) = sessions.pop() else {
                 unreachable!()
             };
-            let is_answered = answers(rt, &store, &mut session);
-            let is_closed = closes(store, session, sessions);
-            judged(is_answered && is_closed)
+            judged(serves(rt, store, session, sessions))
         }
-        Err(OpenError::NoMemory) => Ending::NoMemory,
-        Err(_) => Ending::Other,
+        Err(why) => refused(why),
     }
 }
