@@ -45,8 +45,7 @@ nrbpf_raw_new_lane_spec 𝓤 𝓛 𝓜 𝓡 wired =
     -- [what the handle owns; the tokens; the room; the locals]
     is_typed ! R ((laws.the_row_laws).lawful 𝓛) h (v ∷ []) (λ typed.
     lands_as ! refl refl typed.0 $
-    assigns ! (of_opd ! (get ! refl)) (through ! refl (stop !)) (init ! 2 refl typed.0) $
-    sets ! (of_opd ! (unit_lit !)) refl (tt, tt) $
+    assigns ! (of_opd ! (get ! refl)) (through ! refl (stop !)) (init ! 2 refl typed.0) $ sets ! (of_opd ! (unit_lit !)) refl (tt, tt) $
     returns ! (look_at ! 0 refl) $ free_all ! refl $ move ! (2 ∷ 0 ∷ []) $
     use2 𝓛 (‵ (lies_at R full_share (block_ptr b o) h)) (part_in 𝓛 R refl full_share h b o v) $
     use0 𝓛 (raw (fact 𝓤 (IsNewLane h))) (fact_i 𝓤 (IsNewLane h) (emp 𝓤) opened) $ move ! (1 ∷ 0 ∷ []) $
