@@ -1,8 +1,9 @@
 /* Times the store through nrbpf.h on 1, 2 and 4 threads and 1 and 2 nodes, with none, 90 and all of 100 calls reads, and prints how many calls a
-   second each makes. Next to it are the same store by lists, which are as long as the slots of a node allow (16 for one thread, 4 for four), a mutex round
-   one session of a store of one node, which is one replica of the same machine, and a mutex round the interpreter of threaded.c, which trusts every program. All threads begin at once, behind a barrier, and a round is long enough
-   that they run beside each other. With two words, `update N`, `list N` or `read N`, one session or one lane makes so many calls and nothing is timed, to count their
-   processor instructions. It runs in the top folder. */
+   second each makes: the median of the rounds, and half of what lies between the lowest and the highest in percent of it. Next to it are the
+   same store by lists, which are as long as the slots of a node allow (16 for one thread, 4 for four), a mutex round one session of a store of one
+   node, which is one replica of the same machine, and a mutex round the interpreter of threaded.c, which trusts every program. All threads begin
+   at once, behind a barrier, and a round is long enough that they run beside each other. With two words, `update N`, `list N` or `read N`, one
+   session or one lane makes so many calls and nothing is timed, to count their processor instructions. It runs in the top folder. */
 
 #include "threaded.c"
 
@@ -248,6 +249,21 @@ static double rate_of(const struct kind *kind, struct load load) {
     return (double)load.threads * (double)load.calls / time_of(kind, load) * 1e3;
 }
 
+static int is_above(const void *a, const void *b) {
+    const double *x = a, *y = b;
+    return (*x > *y) - (*x < *y);
+}
+
+/* Prints the median of some rounds, and their spread. */
+static void print_spread(double *rates) {
+    char text[32];
+    qsort(rates, ROUNDS, sizeof *rates, is_above);
+    const double median = rates[ROUNDS / 2], half = median > 0 ? 50 * (rates[ROUNDS - 1] - rates[0]) / median : 0;
+    if (median > 0) snprintf(text, sizeof text, "%.2f +-%.0f%%", median, half);
+    else snprintf(text, sizeof text, "-");
+    printf("%18s", text);
+}
+
 /* Makes so many calls of one session or lane. */
 static int make_calls(const char *call, long times) {
     const struct load alone = {1, 1, 0, 0};
@@ -267,21 +283,18 @@ int main(int count, char **words) {
     if (count == 3) return make_calls(words[1], strtol(words[2], NULL, 10));
     const int spreads[][2] = {{1, 1}, {2, 1}, {2, 2}, {4, 1}, {4, 2}};
     const uint64_t mixes[] = {0, 90, 100};
-    printf("Millions of calls a second, the best of %d rounds\n%-8s%-8s%-8s", ROUNDS, "threads", "nodes", "reads");
+    printf("Millions of calls a second, the median of %d rounds\n%-8s%-8s%-8s", ROUNDS, "threads", "nodes", "reads");
     for (int k = 0; k < KINDS; k++) printf("%18s", kinds[k].name);
     printf("\n");
     for (int s = 0; s < 5; s++) {
         for (int m = 0; m < 3; m++) {
             struct load load = {spreads[s][0], spreads[s][1], mixes[m], 0};
-            double best[KINDS] = {0};
+            double rates[KINDS][ROUNDS];
             for (int round = 0; round < ROUNDS; round++) {
-                for (int k = 0; k < KINDS; k++) {
-                    double rate = rate_of(&kinds[k], load);
-                    best[k] = rate > best[k] ? rate : best[k];
-                }
+                for (int k = 0; k < KINDS; k++) rates[k][round] = rate_of(&kinds[k], load);
             }
             printf("%-8d%-8d%-8llu", load.threads, load.nodes, (unsigned long long)load.reads);
-            for (int k = 0; k < KINDS; k++) printf("%18.2f", best[k]);
+            for (int k = 0; k < KINDS; k++) print_spread(rates[k]);
             printf("\n");
             fflush(stdout);
         }
