@@ -1,4 +1,4 @@
-use Rattle.std.proofs.Common.{◌∙◌, sym, rules}
+use Rattle.std.proofs.Common.{◌∙◌, sym}
 use Rattle.explain.proofs.Lines.{are_long, not_long}
 use Rattle.explain.proofs.programs.listing.is_long.Goals as goal
 
