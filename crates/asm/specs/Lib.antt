@@ -9,6 +9,8 @@ pub mod Operands
 pub mod Labels
 pub mod Forms
 pub mod Assembled
+-- Where a refused line is wrong.
+pub mod Places
 pub mod Unlabelled
 -- Laws: what text and programs are to one another.
 pub mod Laws

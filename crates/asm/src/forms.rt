@@ -18,21 +18,21 @@ use crate::tokens::Operands;
 use crate::words::Mnemonic;
 use insn::{Condition, Form, Operation, Size, Source};
 
-fn imm(number: i128) -> Result<i32, AsmFault>
+pub(crate) fn imm(number: i128) -> Result<i32, AsmFault>
     ensures value { result ≡ imm_of number }
     ensures fits { IfOk result (FitsSigned w32) }
 {
     Ok(within(-0x8000_0000, 0x7fff_ffff, AsmFault::OutOfRange, number)? as i32)
 }
 
-fn off(number: i128) -> Result<i16, AsmFault>
+pub(crate) fn off(number: i128) -> Result<i16, AsmFault>
     ensures value { result ≡ off_of number }
     ensures fits { IfOk result (FitsSigned w16) }
 {
     Ok(within(-0x8000, 0x7fff, AsmFault::OutOfRange, number)? as i16)
 }
 
-fn source_form(written: Written) -> Result<Source, AsmFault>
+pub(crate) fn source_form(written: Written) -> Result<Source, AsmFault>
     requires { IsWritten written }
     ensures value { result ≡ source_form written }
     ensures fits { IfOk result IsSource }

@@ -10,6 +10,7 @@ mod forms;
 mod labels;
 mod laws;
 mod operands;
+mod places;
 mod refusals;
 mod tokens;
 mod words;
@@ -19,4 +20,5 @@ pub use disassembling::disassemble;
 pub use laws::{
     assemble_inverts_disassemble, each_word_is_its_spelling, labels_are_distances, tokens_say_all,
 };
+pub use places::{OperandKind, Place, place_of};
 pub use refusals::{AsmError, AsmFault, AsmRefusal};

@@ -1,44 +1,16 @@
 -- The line of assembler text that is shown, and what stands below it.
-use Rattle.std.proofs.Common.{◌≡◌, ℕ, ◌+◌, ◌<◌, ◌≤◌, Bool, true, false, eqb, cond, List, [], ◌∷◌, ◌++◌, length, take, drop, get_or, Option, Some, None, refl, sym, ap, subst, ◌∙◌, arith}
-use Rattle.std.specs.Prelude.{◌-◌, ◌≢◌, min, not, MatchOption, codes, decimal, slice_index}
+use Rattle.std.proofs.Common.{◌≡◌, ℕ, ◌+◌, ◌<◌, Bool, true, false, eqb, cond, List, [], ◌∷◌, ◌++◌, length, take, drop, get_or, Option, Some, None, refl, sym, ap, ◌∙◌, arith}
+use Rattle.std.specs.Prelude.{◌-◌, ◌≢◌, MatchOption, codes, decimal}
 use Rattle.std.specs.Borrow.{Bor}
-use Rattle.std.specs.List.{concat, flat_map, position_or_len}
+use Rattle.std.specs.List.{concat, flat_map}
 use Rattle.std.proofs.lemmas.List.Folds.{concat-append}
-use Rattle.std.proofs.lemmas.List.Sums.{position_or_len_is, prefix_len-le-length}
 use Rattle.std.proofs.lemmas.Bool.{eqb-true}
 use Rattle.std.proofs.lemmas.List.{drop_all, drop_more, length-append, take-append-drop}
-use Rattle.std.proofs.Math.Nat.{min-eq_left}
-use Rattle.std.proofs.Math.Seq.{take-length, take-append_seam, get_or-append_seam}
-use Rattle.std.proofs.lemmas.Str.Pattern.{IsSplitOnceResult, split_once_first}
-use Rattle.asm.specs.declared.refusals.AsmFault.{AsmFault}
+use Rattle.std.proofs.Math.Seq.{take-append_seam, get_or-append_seam}
 use Rattle.asm.specs.declared.refusals.AsmRefusal.{AsmRefusal}
 use Rattle.asm.specs.Refusal.{fault_number}
-use Rattle.asm.specs.declared.refusals.AsmFault.TheVariants.{UnknownWord, BadOperand, OutOfRange, UnknownLabel, LabelTwice, JumpTooFar, TooLong, TextBehind}
-use Rattle.asm.specs.Tokens.{is_blank}
-use Rattle.explain.specs.Assembly.{before_visible, before_word, below, code_of, fault_text, shown, wanted_text, IsPlace}
+use Rattle.explain.specs.Assembly.{below, fault_text, shown, wanted_text}
 use Rattle.explain.proofs.Pieces.{both}
-
--- a line up to its comment
-pub code_is : (bs : List ℕ) (r : Option (Bor (List ℕ) × Bor (List ℕ))) → IsSplitOnceResult 59 bs r → MatchOption r (bs ≡ code_of bs) (λ x. x.0.now ≡ code_of bs)
-code_is bs None h = sym (ap (λ n. take n bs) (split_once_first 59 bs None h (omega arith)) ∙ take-length bs)
-code_is bs (Some x) h = (split_once_first 59 bs (Some x) h (omega arith)).1
-
--- the first visible byte, or none
-pub visible_at : (bs : List ℕ) (i : ℕ) → i < length bs → ((k : ℕ) → k < i → not (is_blank (get_or bs k 0)) ≡ false) → not (is_blank (get_or bs i 0)) ≡ true → i ≡ before_visible bs
-visible_at bs i lt none here = sym (position_or_len_is (λ c. not (is_blank c)) bs i 0 (omega arith) none (λ _. here))
-
-pub none_visible : (bs : List ℕ) → ((k : ℕ) → k < length bs → not (is_blank (get_or bs k 0)) ≡ false) → length bs ≡ before_visible bs
-none_visible bs none = sym (position_or_len_is (λ c. not (is_blank c)) bs (length bs) 0 (omega arith) none (λ lt. absurd (omega arith)))
-
--- a place is within the line
-pub within_line : (line : List ℕ) → before_word line ≤ length line
-within_line line =
-    let n = position_or_len (λ c. eqb c 59) line in
-    let within : before_word line ≤ length (take n line) = prefix_len-le-length (λ c. not (not (is_blank c))) (code_of line) in
-    omega (arith, within, length-append (take n line) (drop n line), ap length (take-append-drop n line))
-
-word_within : (line : List ℕ) (at : ℕ) → at ≡ before_word line → min at (length line) ≡ before_word line
-word_within line at is = min-eq_left (subst (λ n. n ≤ length line) (sym is) (within_line line)) ∙ is
 
 -- ---- the line that is shown
 
@@ -73,17 +45,6 @@ shown_whole (c ∷ cs) other = by (eqb (get_or (c ∷ cs) n 0) 13) refl ∙ ap (
 pub shown_is : (bs : List ℕ) (r : Option (Bor (List ℕ))) → MatchOption r ((front : List ℕ) → bs ≢ front ++ (13 ∷ [])) (λ x. bs ≡ x.now ++ (13 ∷ [])) → MatchOption r (bs ≡ shown bs) (λ x. x.now ≡ shown bs)
 shown_is bs None other = shown_whole bs other
 shown_is bs (Some x) is = shown_front x.now ∙ ap shown (sym is)
-
--- within the line is the place of its word
-pub place_within : (why : AsmFault) (line : List ℕ) (at : ℕ) → IsPlace why (before_word line) at → IsPlace why (before_word line) (min at (length line))
-place_within UnknownWord line at is = word_within line at is
-place_within LabelTwice line at is = word_within line at is
-place_within TooLong line at is = word_within line at is
-place_within BadOperand line at is = tt
-place_within OutOfRange line at is = tt
-place_within UnknownLabel line at is = tt
-place_within JumpTooFar line at is = tt
-place_within TextBehind line at is = tt
 
 -- ---- what is told
 

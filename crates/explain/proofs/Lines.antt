@@ -1,9 +1,10 @@
 -- The lines of a listing, one after another.
-use Rattle.std.proofs.Common.{◌≡◌, ℕ, ◌+◌, ◌<◌, ◌≤◌, Bool, true, ltb, List, [], ◌∷◌, ◌++◌, length, take, drop, get_or, Option, Some, None, inl, inr, ⊎_elim, refl, sym, ap, subst, ◌∙◌, append_assoc, arith}
-use Rattle.std.specs.Prelude.{◌⊎◌, ◌-◌, ◌^◌, ◌==◌, false, replicate, codes, decimal, unwrap_or}
+use Rattle.std.proofs.Common.{◌≡◌, ℕ, ◌+◌, ◌<◌, ◌≤◌, Bool, true, cond, ltb, List, [], ◌∷◌, ◌++◌, length, take, drop, get_or, Option, Some, None, inl, inr, ⊎_elim, refl, sym, ap, subst, ◌∙◌, append_assoc, arith}
+use Rattle.std.specs.Prelude.{◌⊎◌, ◌-◌, ◌^◌, ◌==◌, false, not, replicate, codes, decimal, unwrap_or}
 use Rattle.std.specs.Prelude.{IfSome, MatchBool}
 use Rattle.std.specs.List.{concat}
-use Rattle.std.proofs.lemmas.Bool.{false≢true, ltb-false, ltb-true}
+use Rattle.std.proofs.lemmas.Bool.{and_right, eqb-true, false≢true, le-leb, lt-leb, lt-ltb, ltb-false, ltb-true}
+use Rattle.std.specs.Cmp.Derive.{both_true}
 use Rattle.std.proofs.lemmas.Grind.{replicate_next}
 use Rattle.std.proofs.lemmas.List.{append-nil, drop_more, length-append, take-append-drop}
 use Rattle.insn.specs.declared.instruction.Form.{Form}
@@ -12,6 +13,7 @@ use Rattle.asm.specs.Words.{word_of}
 use Rattle.asm.specs.Text.{mnemonic, operands, operand_text, line_text, text_of}
 use Rattle.insn.specs.declared.instruction.TheConstants.{MAX_SLOTS}
 use Rattle.verifier.specs.declared.refusal.Refused.{Refused}
+use Rattle.flow.specs.Faults.{has_good_size}
 use Rattle.flow.proofs.Export.{one_or_two}
 use Rattle.explain.specs.declared.programs.Study.{Study}
 use Rattle.explain.specs.declared.programs.Subject.{Subject}
@@ -194,16 +196,49 @@ explained s t k v head lines all same kinds is put listing reason small =
       record { listing = l.0; reason = r.0; lists = l.2; refuses = r.2; whole = refl },
     )
 
-pub explained_long : (s : Subject) (k v : Option Refused) (head lines more all : List ℕ) → k ≡ None → v ≡ verdict_on s → head ≡ head_text s.line (line_of s) → more ≡ head ++ lines → Adds (IsReason k v) more all
-    → ExplainsLong s all
-explained_long s k v head lines more all none is put behind reason =
+pub explained_long : (s : Subject) (k v : Option Refused) (head lines more all : List ℕ) → k ≡ None → v ≡ verdict_on s → head ≡ head_text s.line (line_of s) → lines ≡ [] → more ≡ head ++ lines
+    → Adds (IsReason k v) more all → ExplainsLong s all
+explained_long s k v head lines more all none is put empty behind reason =
     let r = subst (λ w. Adds (IsReason None w) more all) is (subst (λ w. Adds (IsReason w v) more all) none reason) in
     record {
-      listing = lines;
       reason = r.0;
       refuses = r.2;
-      whole = r.1 ∙ ap (λ t. t ++ r.0) behind ∙ append_assoc head lines r.0 ∙ ap (λ t. t ++ (lines ++ r.0)) put;
+      whole = r.1 ∙ ap (λ t. t ++ r.0) (behind ∙ ap (λ t. head ++ t) empty ∙ append-nil head ∙ put);
     }
+
+-- ---- the length of a program
+
+module _ (p : List Form) where
+  abbrev sized : Bool → Option ℕ
+  sized b = cond b (Some (size p)) None
+
+  -- one of good size isn't too long
+  pub not_long : (n : ℕ) → Some n ≡ sized (has_good_size p) → false ≡ ltb MAX_SLOTS (size p)
+  not_long n is = by (ltb MAX_SLOTS (size p)) refl
+    where
+      by : (b : Bool) → ltb MAX_SLOTS (size p) ≡ b → false ≡ b
+      by false e = refl
+      by true e =
+          let bad : has_good_size p ≡ false = and_right (ltb 0 (size p)) _ (lt-leb (size p) MAX_SLOTS (ltb-true MAX_SLOTS (size p) e)) in
+          absurd (some_is_none n _ refl (is ∙ ap sized bad))
+
+  good : 0 < size p → size p ≤ MAX_SLOTS → sized (has_good_size p) ≡ Some (size p)
+  good some few = ap sized (both_true (lt-ltb 0 (size p) some) (le-leb (size p) MAX_SLOTS few))
+
+-- of the others all but the empty one are
+pub are_long : (p : List Form) (b : Bool) → b ≡ (length p == 0) → None ≡ sized p (has_good_size p) → not b ≡ ltb MAX_SLOTS (size p)
+are_long [] b is none = ap not is
+are_long (i ∷ q) b is none = by (ltb MAX_SLOTS (size (i ∷ q))) refl
+  where
+    not_empty : (b : Bool) → b ≡ (length (i ∷ q) == 0) → not b ≡ true
+    not_empty false is = refl
+    not_empty true is = absurd (omega (arith, eqb-true (length (i ∷ q)) 0 (sym is)))
+
+    by : (c : Bool) → ltb MAX_SLOTS (size (i ∷ q)) ≡ c → not b ≡ c
+    by true e = not_empty b is
+    by false e =
+        let some : 0 < size (i ∷ q) = omega (arith, some_slot i, length-append (slot_contents i) (layout q)) in
+        absurd (some_is_none (size (i ∷ q)) _ (good (i ∷ q) some (omega (arith, ltb-false MAX_SLOTS (size (i ∷ q)) e))) (sym none))
 
 -- what is told of a refusal begins with its rule and its slot
 pub reason_begins : (kinds : Option Refused) (e : Refused) (text : List ℕ) → IsReason kinds (Some e) text → BeginsWith (refusal_text e) text

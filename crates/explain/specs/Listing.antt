@@ -162,9 +162,8 @@ pub record CanBeJudged (s : Subject) : Type 0 where
 abbrev pub Explains : Subject → List ℕ → Type 0
 Explains s text = TellsOf s.line (line_of s) s.shapes.now s.program.now text
 
--- what is told of a program with more slots: which one it is, its lines, of which no more is said here, and why it is refused
+-- what is told of a program with more slots: which one it is, and why it is refused. None of its instructions is listed
 pub record ExplainsLong (s : Subject) (text : List ℕ) : Type 0 where
-  pub listing : List ℕ
   pub reason : List ℕ
   pub refuses : IsReason None (verdict_on s) reason
-  pub whole : text ≡ head_text s.line (line_of s) ++ (listing ++ reason)
+  pub whole : text ≡ head_text s.line (line_of s) ++ reason

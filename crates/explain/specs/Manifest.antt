@@ -94,6 +94,10 @@ refused_by n rule = concat (codes "\nline " ∷ decimal n ∷ codes ": C" ∷ de
 abbrev pub line_fault : ℕ → LoadFault → List ℕ
 line_fault n why = refused_by n (fault_number why) ++ codes "\n"
 
+-- behind an empty line what a text goes by that is not UTF-8
+abbrev pub stranger_text : List ℕ → List ℕ
+stranger_text name = concat (codes "\n" ∷ name ∷ codes ": not UTF-8\n" ∷ [])
+
 -- Dn at slot S.
 abbrev pub slot_fault : DecodeRefusal → List ℕ
 slot_fault e = concat (codes "D" ∷ decimal (slot_fault_number e.why) ∷ codes " at slot " ∷ decimal e.slot ∷ codes "." ∷ [])

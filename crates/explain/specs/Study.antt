@@ -7,7 +7,7 @@ use Rattle.flow.specs.Structure.{HasGoodSize}
 use Rattle.verifier.specs.Known.{AreKnown, IsUpTo}
 use Rattle.verifier.specs.Joined.{frame_in}
 use Rattle.explain.specs.declared.programs.Study.{Study}
-use Rattle.explain.specs.Listing.{kinds_refusal, signature_of, Lists}
+use Rattle.explain.specs.Listing.{kinds_refusal, signature_of, AddsListing, Lists}
 use Rattle.explain.specs.Slots.{falls_into, told_upto}
 use Rattle.explain.specs.Told.{Adds}
 
@@ -34,3 +34,7 @@ known_falls s slot = falls_into s.subject.program.now (frame_in s.known.frames.i
 -- the lines of these instructions, the first ones of its program, are added
 abbrev pub AddsLines : Study → List Form → List ℕ → List ℕ → Type 0
 AddsLines s instructions old new = Adds (Lists (told_upto s.subject.program.now s.known.kinds) 0 instructions) old new
+
+-- the listing of its program is added
+abbrev pub AddsListed : Study → List ℕ → List ℕ → Type 0
+AddsListed s old new = AddsListing s.subject.program.now s.known.kinds s.known.refused old new

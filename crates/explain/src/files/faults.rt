@@ -3,11 +3,11 @@
 ghost use Rattle.std.specs.Prelude.{◌≡◌, ◌++◌, codes, IfOk, OnOk};
 ghost use Rattle.std.specs.String.{string_bytes};
 ghost use Rattle.explain.specs.Told.{Adds, BeginsWith};
-ghost use Rattle.explain.specs.Manifest.{refused_by, slot_fault};
+ghost use Rattle.explain.specs.Manifest.{refused_by, slot_fault, stranger_text};
 
 use crate::files::decoded;
 use crate::sentences::Word::{Character, Count, Field, Hex, Number, Small, Text};
-use crate::sentences::{Advice, Written, put, put_all, put_numbers, say};
+use crate::sentences::{Advice, Written, put_all, put_numbers, say};
 use asm::{AsmError, AsmFault, assemble};
 use insn::{DecodeFault, DecodeRefusal};
 use loader::{Line, read_line};
@@ -200,7 +200,10 @@ fn place_of(bytes: &[u8], at: usize) -> (usize, usize, u8) {
 /// # Errors
 ///
 /// The system has no memory left.
-pub fn explain_stranger(alloc: Global, name: &str, bytes: &[u8]) -> Result<String, AllocError> {
+pub fn explain_stranger(alloc: Global, name: &str, bytes: &[u8]) -> Result<String, AllocError>
+    // The text says first what goes by this name, and that it is not UTF-8.
+    ensures named { IfOk result (λ s. BeginsWith (stranger_text name.now) (string_bytes s)) }
+{
     let instructions = decoded(alloc, bytes)?.map(|program| program.len());
     let what = match instructions {
         _ if bytes.starts_with(ELF) => OBJECT_FILE,
@@ -216,10 +219,10 @@ pub fn explain_stranger(alloc: Global, name: &str, bytes: &[u8]) -> Result<Strin
     let at = error.map_or(bytes.len(), |error| error.valid_up_to());
     let (line, column, byte) = place_of(bytes, at);
     let count = Count(instructions.unwrap_or(0));
-    let told = say(what, &[count, Count(line), Count(column), Hex(byte)]);
+    let told = say(what, &[count, Count(line), Count(column), Hex(byte)]).text(alloc, TO_DO)?;
     let mut out = String::new(alloc);
-    put(&mut out, "\n{0}: not UTF-8\n      ", &[Text(name)])?;
-    told.put(&mut out, TO_DO)?;
+    let pieces = ["\n", name, ": not UTF-8\n", "      ", told.as_str()];
+    put_all(&mut out, &pieces)?;
     Ok(out)
 }
 

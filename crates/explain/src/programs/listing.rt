@@ -1,20 +1,21 @@
 // The listing of a program.
 
-ghost use Rattle.std.specs.Prelude.{◌≡◌, ◌<◌, ◌≤◌, ◌^◌, ◌-◌, ◌++◌, ◌==◌, if◌then◌else◌, ℕ, List, [], None, length, replicate, codes, option_map, unwrap_or, IfOk, OnOk};
+ghost use Rattle.std.specs.Prelude.{◌≡◌, ◌<◌, ◌≤◌, ◌^◌, ◌-◌, ◌++◌, ◌==◌, if◌then◌else◌, ℕ, List, [], None, length, nat_lt, replicate, codes, option_map, unwrap_or, IfOk, OnOk};
 ghost use Rattle.std.specs.String.{string_bytes};
 ghost use Rattle.insn.specs.declared.instruction.TheConstants.{MAX_SLOTS};
 ghost use Rattle.insn.specs.Layout.{size};
 ghost use Rattle.asm.specs.Text.{line_text};
 ghost use Rattle.loader.specs.Spelling.{mode_word};
-ghost use Rattle.explain.specs.Listing.{line_of, head_text, left_text, margin, aside, last_listed, verdict_on, AddsListing, BeginUpto, CanBeJudged, Explains, ExplainsLong, FitsStore, IsLine};
+ghost use Rattle.explain.specs.Listing.{line_of, head_text, left_text, margin, aside, last_listed, verdict_on, BeginUpto, CanBeJudged, Explains, ExplainsLong, FitsStore, IsLine};
 ghost use Rattle.explain.specs.Slots.{told_upto};
-ghost use Rattle.explain.specs.Study.{AddsLines, HasSlot, IsStudy};
+ghost use Rattle.explain.specs.Study.{AddsLines, AddsListed, HasSlot, IsStudy};
 
 use crate::programs::slots::knowledge;
 use crate::programs::{Study, Subject};
 use crate::refusals::{Reason, put_refusal};
 use crate::sentences::{Written, put_all};
 use asm::disassemble;
+use flow::good_size;
 use insn::Insn;
 use itoa::Buffer;
 use std::alloc::{AllocError, Global};
@@ -193,12 +194,26 @@ fn put_left(out: &mut String, left: usize) -> Written
     put_all(out, &["      (", digits.format(left), words])
 }
 
-// Adds the lines of the instructions.
+// Whether a program has more slots than any may have.
+fn is_long(program: &[Insn]) -> bool
+    ensures { result ≡ nat_lt MAX_SLOTS (size program.now) }
+{
+    match good_size(program) {
+        Some(_) => false,
+        None => !program.is_empty(),
+    }
+}
+
+// Adds the lines of the instructions, where the program is not too long.
 fn put_lines(out: &mut String, study: &Study<'_>) -> Written
     requires { IsStudy study.now }
-    ensures { OnOk result (AddsListing study.now.subject.program.now study.now.known.kinds study.now.known.refused (string_bytes out.old) (string_bytes out.new)) }
+    ensures listed { OnOk result (AddsListed study.now (string_bytes out.old) (string_bytes out.new)) }
+    ensures long { MAX_SLOTS < size study.now.subject.program.now → OnOk result (string_bytes out.new ≡ string_bytes out.old) }
 {
     let program = study.subject.program;
+    if is_long(program) {
+        return Ok(());
+    }
     let (listed, left) = program.split_at(count_upto(program, last_listed(study)));
     put_instructions(out, study, listed)?;
     put_left(out, left.len())
@@ -213,7 +228,7 @@ pub fn explain_program(alloc: Global, subject: Subject<'_>) -> Result<String, Al
     // The text names the program and lists its instructions. If it is refused, the text says the rule and the slot before all else of the
     // refusal; and after a refusal of the structure it says the rule of kinds that is broken first, and where, if one is.
     ensures told { CanBeJudged subject.entry → IfOk result (λ s. Explains subject.entry (string_bytes s)) }
-    // Of a program with more than 4,096 slots it says the name and that its structure is refused.
+    // It names a program with more than 4,096 slots, lists none of its instructions, and says that its structure is refused.
     ensures long { FitsStore subject.entry → MAX_SLOTS < size subject.entry.program.now → IfOk result (λ s. ExplainsLong subject.entry (string_bytes s)) }
     // It is empty where no store has such maps or such an argument.
     ensures nothing { (FitsStore subject.entry → ⊥) → IfOk result (λ s. string_bytes s ≡ []) }

@@ -8,8 +8,8 @@ put_instructions-requires-clause-first c =
     let p = c.args.study.now.subject.program.now in
     rw c.split_at.ensures.front (size_take c.count_upto.result p)
 
-pub returns : goal.returns
-returns c =
+pub returns-clause-listed : goal.returns-clause-listed
+returns-clause-listed c =
     let study = c.args.study.now in
     let p = study.subject.program.now in
     let count = c.count_upto.result in
