@@ -57,7 +57,7 @@ impl<'a> Folder for HeldFiles<'a> {
 pub struct Page {
     /// What was written.
     pub text: Vec<u8>,
-    /// Whether memory once ran out.
+    /// Whether memory ran out at a write. Such a write adds nothing.
     pub is_full: bool,
 }
 

@@ -1,6 +1,6 @@
 // The engine of all commands: reads all, makes an answer, writes it.
 
-ghost use Rattle.std.specs.Prelude.{◌≡◌, ◌⊎◌, Option, Err, IfOk};
+ghost use Rattle.std.specs.Prelude.{◌≡◌, ◌≢◌, ◌⊎◌, Option, Err, IfOk};
 ghost use Rattle.engine.specs.declared.replies.Status.TheVariants as statuses;
 ghost use Rattle.engine.specs.declared.transfer.ReadFault.TheVariants as faults;
 ghost use Rattle.engine.specs.Notes.{IsQuiet};
@@ -70,6 +70,7 @@ pub fn prepare<C: Command, F: Folder, R: Source + Drop>(
 pub fn write_text<W: Sink>(writer: &mut W, text: &[u8], status: Status) -> Status
     ensures sent { Sends (W.contents writer.old) (W.contents writer.new) result text.now status }
     ensures failed { (result ≡ status) ⊎ ((result ≡ statuses.CannotWrite) × W.has_failed writer.new) }
+    ensures spared { result ≢ statuses.CannotWrite → W.has_failed writer.new → W.has_failed writer.old }
 {
     match writer.send(text) {
         Ok(()) => status,
@@ -81,6 +82,7 @@ pub fn write_text<W: Sink>(writer: &mut W, text: &[u8], status: Status) -> Statu
 pub fn report<M: Answering, W: Sink>(writer: &mut W, made: &Result<M, ReadFault>) -> Status
     ensures written { Writes M.answer (W.contents writer.old) (W.contents writer.new) result made.now }
     ensures failed { Failed result (made.now ≡ Err faults.CannotRead) (W.has_failed writer.new) }
+    ensures spared { result ≢ statuses.CannotWrite → W.has_failed writer.new → W.has_failed writer.old }
 {
     match made {
         Ok(made) => write_text(writer, made.text(), status_of(made.verdict())),
@@ -103,6 +105,7 @@ pub fn hand_back<M: Answering, W: Sink>(writer: &mut W, made: Result<M, ReadFaul
     ensures written { Writes M.answer (W.contents writer.old) (W.contents writer.new) result.status made }
     ensures handed { result.made ≡ handed_back result.status made }
     ensures failed { Failed result.status (made ≡ Err faults.CannotRead) (W.has_failed writer.new) }
+    ensures spared { result.status ≢ statuses.CannotWrite → W.has_failed writer.new → W.has_failed writer.old }
 {
     let status = report(writer, &made);
     let made = match status {
@@ -128,6 +131,8 @@ where
     ensures written { IfGiven F.holds R.remaining inputs.old (PerformsRead C.Made.answer (C.may_make command.now) W.contents writer.old writer.new result) }
     // The status says that a read or a write failed only after one did, and of a read that all texts before that one are UTF-8.
     ensures failed { Failed result.status (FailedInTurn F.holds F.can_fail R.remaining R.has_failed inputs.old inputs.new) (W.has_failed writer.new) }
+    // With any other status no write has failed that had not before.
+    ensures spared { result.status ≢ statuses.CannotWrite → W.has_failed writer.new → W.has_failed writer.old }
     // Whatever they give, or where they fail.
     ensures ended { Performs C.Made.answer (λ m. (t : Option TextsRead) × C.may_make command.now t m) (W.contents writer.old) (W.contents writer.new) result }
     // However it ends, a text is read only if all texts before it are UTF-8.
@@ -153,6 +158,8 @@ where
     ensures written { IfGiven F.holds R.remaining inputs.old (ReportsRead C.Made.answer (C.may_make command.now) W.contents writer.old writer.new result) }
     // The status says that a read or a write failed only after one did, and of a read that all texts before that one are UTF-8.
     ensures failed { Failed result (FailedInTurn F.holds F.can_fail R.remaining R.has_failed inputs.old inputs.new) (W.has_failed writer.new) }
+    // With any other status no write has failed that had not before.
+    ensures spared { result ≢ statuses.CannotWrite → W.has_failed writer.new → W.has_failed writer.old }
     // Whatever they give, or where they fail.
     ensures ended { Reports C.Made.answer (λ m. (t : Option TextsRead) × C.may_make command.now t m) (W.contents writer.old) (W.contents writer.new) result }
     // However it ends, a text is read only if all texts before it are UTF-8.

@@ -51,7 +51,8 @@ pub trait Sink {
     fn send(&mut self, bytes: &[u8]) -> Result<(), CannotWrite>
         ensures sent { OnOk result (Appends (contents self.old) (contents self.new) bytes.now) }
         ensures stopped { OnErr result (AppendsBeginning (contents self.old) (contents self.new) bytes.now) }
-        ensures failed { OnErr result (has_failed self.new) };
+        ensures failed { OnErr result (has_failed self.new) }
+        ensures spared { OnOk result (has_failed self.new → has_failed self.old) };
 }
 
 impl<R: Read> Source for R {

@@ -1,4 +1,16 @@
 //! Checks eBPF programs, and runs them as the operations of a replicated store of maps.
+//!
+//! Each command is one proved call: `perform`, `perform_kept` or `serve`. Standard streams, files and words have no model in the kit. So
+//! only tests say that the program does these things:
+//!
+//! - It makes a task of the words, with its options and paths. A second file that is standard input is a fault.
+//! - It enters the folder of `-C`.
+//! - It opens a file at its first read, and gives the call what the file has, and no other file.
+//! - It makes the call that the task asks for.
+//! - If all is well, it writes a text into its file: first into one next to it, which then replaces it.
+//! - It writes the state of `stress` after a file of times.
+//! - Standard error gets the notes, faults, sizes, counts, and how far a file is.
+//! - The exit status is the status's code.
 #![tactic(auto)]
 
 mod command_line;

@@ -20,7 +20,8 @@ use Rattle.replaying.specs.declared.lines.Replaying.{Replaying}
 use Rattle.running.specs.declared.single_node.SingleNode.{SingleNode}
 use Rattle.running.specs.Running.{Follows, IsUpdated, HasEnded}
 use Rattle.replaying.specs.ReplayAnswer.{Replayed, update_agrees, read_agrees, with_update, next_count}
-use Rattle.replaying.specs.Replaying.{HasReplayed, IsCompared, due_at}
+use Rattle.replaying.specs.Noted.{due_at}
+use Rattle.replaying.specs.Replaying.{HasReplayed, IsCompared}
 use Rattle.running.proofs.Export.{here, effect_here, has_room, updated_follows}
 
 -- whether this reply was told

@@ -1,5 +1,5 @@
 -- What is kept while a transcript is replayed. Clauses of private functions alone cite this.
-use Rattle.std.specs.Prelude.{◌≡◌, ℕ, Bool, true, false, List, length, None, nat_lt, if◌then◌else◌}
+use Rattle.std.specs.Prelude.{◌≡◌, ℕ, Bool, true, false, List, [], Option, Some}
 use Rattle.std.specs.Option.{option_map_or}
 use Rattle.verifier.specs.declared.refusal.Mode.{Mode}
 use Rattle.verifier.specs.declared.refusal.Mode.TheVariants.{Update, Read}
@@ -7,9 +7,8 @@ use Rattle.loader.specs.CatalogueView.{CatalogueView}
 use Rattle.oplog.specs.Calls.{NewProgram}
 use Rattle.oplog.specs.Operations.{Operation}
 use Rattle.oplog.specs.Logs.{tail_of}
-use Rattle.oplog.specs.History.{History, reply_at, read_reply_at}
+use Rattle.oplog.specs.History.{History}
 use Rattle.oplog.specs.declared.configuration.TheConstants.{MAX_LIMIT}
-use Rattle.replica.specs.StoreMeaning.{store_meaning}
 use Rattle.replaying.specs.declared.lines.Due.{Due}
 use Rattle.replaying.specs.declared.lines.Replaying.{Replaying}
 use Rattle.replaying.specs.declared.lines.LineVerdict.{LineVerdict}
@@ -23,6 +22,7 @@ use Rattle.engine.specs.Answer.{Answer}
 use Rattle.scripts.specs.Script.{KeyedCall}
 use Rattle.scripts.specs.declared.transcripts.ToldReply.{ToldReply}
 use Rattle.running.specs.RunAnswer.{bad_line}
+use Rattle.replaying.specs.Noted.{due_at, due_text, line_due}
 use Rattle.replaying.specs.ReplayAnswer.{Replayed, LineOutcome, Bad, Differs, Agrees, compared, differing_line, good_text, install_of, operation_of, update_agrees, read_agrees, with_update, next_count}
 
 -- so much was replayed
@@ -56,11 +56,6 @@ with_call Read at op = record at { reads = next_count at.reads }
 abbrev pub Compares : CatalogueView → Mode → Operation → (index reply : ℕ) → Replaying → Bool → Replaying → Type 0
 Compares c mode op index reply old answer new = (at : Replayed) → HasReplayed c at old → IsCompared c (call_agrees c mode at.history op index reply) (with_call mode at op) answer new
 
--- what an operation behind a history should tell: its place, and its reply there; none where the history has all its updates
-abbrev pub due_at : CatalogueView → Mode → History → Operation → Due
-due_at c Update h op = record { mode = Update; place = length h; reply = if nat_lt (length h) MAX_LIMIT then reply_at store_meaning c h (length h) op else None }
-due_at c Read h op = record { mode = Read; place = length h; reply = read_reply_at store_meaning c h (length h) op }
-
 -- after whatever was replayed before, that is it
 abbrev pub TellsWhatIsDue : CatalogueView → Mode → Operation → Replaying → Due → Type 0
 TellsWhatIsDue c mode op old due = (at : Replayed) → HasReplayed c at old → due ≡ due_at c mode at.history op
@@ -93,3 +88,12 @@ ended_verdict (ends.Differs n due) = verdicts.Differs
 
 abbrev pub ended_answer : ReplayEnd → Replaying → Answer
 ended_answer end r = record { text = ended_text end r; verdict = ended_verdict end }
+
+-- after whatever was replayed before: where the line differs, this is what it should tell
+abbrev pub DiffersFrom : CatalogueView → (Replayed → Option Due) → Replaying → LineVerdict → Due → Type 0
+DiffersFrom c line old answer due = (at : Replayed) → HasReplayed c at old → answer ≡ lines.Differs → line at ≡ Some due
+
+-- what is told of how a replay ended
+abbrev pub ended_note : ReplayEnd → List ℕ
+ended_note (ends.Differs n due) = due_text n due
+ended_note end = []

@@ -6,6 +6,7 @@ ghost use Rattle.text.specs.Lines.{lines_of};
 ghost use Rattle.engine.specs.Notes.{IsQuiet};
 ghost use Rattle.engine.specs.Reading.{texts_read};
 ghost use Rattle.engine.specs.Report.{answer_of};
+ghost use Rattle.replaying.specs.Noted.{Explains, notes_text, replay_notes};
 ghost use Rattle.replaying.specs.ReplayAnswer.{transcript_answer, nothing_replayed, replay_answer};
 ghost use Rattle.replaying.specs.Replaying.{ended_answer};
 
@@ -35,6 +36,7 @@ fn transcript_reply(
 ) -> Result<Reply, AllocError>
     requires opens { OpensOn catalogue.now opening }
     ensures quiet { IsQuiet notes.old notes.new }
+    ensures told { IfOk result (λ _. Explains notes.old notes.new (notes_text catalogue.now 1 nothing_replayed (lines_of transcript.now))) }
     ensures answered { IfOk result (λ r. answer_of r ≡ transcript_answer catalogue.now 1 nothing_replayed (lines_of transcript.now)) }
 {
     let mut replaying = Replaying::open(alloc, catalogue, opening)?;
@@ -74,6 +76,8 @@ impl Replay {
         notes: &mut Notes,
     ) -> Result<Reply, AllocError>
         ensures quiet { IsQuiet notes.old notes.new }
+        // With `Telling::Reasons`: what the first line should tell that does not agree, if it differs.
+        ensures told { IfOk result (λ _. Explains notes.old notes.new (replay_notes self.now.spare (texts_read texts.now))) }
         ensures answered { IfOk result (λ r. answer_of r ≡ replay_answer self.now.spare (Some (texts_read texts.now))) }
     {
         let transcript = texts.file.as_str();

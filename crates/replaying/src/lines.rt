@@ -1,15 +1,17 @@
 // The replay of a transcript, line by line.
 
-ghost use Rattle.std.specs.Prelude.{◌≡◌, true, option_map, IfSome, IfNone, IfOk};
+ghost use Rattle.std.specs.Prelude.{◌≡◌, true, option_map, Some, IfSome, IfNone, IfOk};
 ghost use Rattle.loader.specs.CatalogueView.{OpensOn};
 ghost use Rattle.verifier.specs.declared.refusal.Mode.TheVariants.{Update, Read};
 ghost use Rattle.oplog.specs.declared.records.Op.TheVariants.{Run};
 ghost use Rattle.replica.specs.StoreMeaning.{is_operation};
 ghost use Rattle.text.specs.Lines.{lines_of};
 ghost use Rattle.replaying.specs.ReplayAnswer.{number_told, operation_of, install_of, ended_outcome, line_outcome, nothing_replayed, transcript_answer};
-ghost use Rattle.replaying.specs.Replaying.{HasReplayed, Compares, ReplaysLine, TellsWhatIsDue, answered_outcome, compared_verdict, installed_outcome, ended_answer, ended_verdict};
+ghost use Rattle.replaying.specs.Noted.{line_due, notes_text};
+ghost use Rattle.replaying.specs.Replaying.{DiffersFrom, HasReplayed, Compares, ReplaysLine, TellsWhatIsDue, answered_outcome, compared_verdict, installed_outcome, ended_answer, ended_note, ended_verdict};
 ghost use Rattle.running.specs.Running.{IsSteady, IsUpdated, HasEnded};
 ghost use Rattle.scripts.specs.ScriptShown.{key_of, keyed_of, program_of};
+ghost use Rattle.scripts.specs.Transcript.{Answered, Installed, transcript_line_meaning};
 
 use engine::Verdict;
 use loader::{Catalogue, StoreState};
@@ -214,6 +216,7 @@ impl Replaying {
         requires steady { IsSteady catalogue.now self.old.node }
         ensures steady { IsSteady catalogue.now self.new.node }
         ensures replayed { ReplaysLine catalogue.now (λ at. answered_outcome catalogue.now at mode (keyed_of call.now) told) self.old result self.new }
+        ensures due { DiffersFrom catalogue.now (λ at. line_due catalogue.now at (Some (Answered mode (keyed_of call.now) told))) self.old result self.new.due }
     {
         let Some(call) = find(catalogue, mode, call) else {
             return LineVerdict::Bad;
@@ -239,6 +242,7 @@ impl Replaying {
         requires steady { IsSteady catalogue.now self.old.node }
         ensures steady { IsSteady catalogue.now self.new.node }
         ensures replayed { ReplaysLine catalogue.now (λ at. installed_outcome catalogue.now at (program_of text.now) told) self.old result self.new }
+        ensures due { DiffersFrom catalogue.now (λ at. line_due catalogue.now at (Some (Installed (program_of text.now) told))) self.old result self.new.due }
     {
         let Ok(program) = self.node.check(catalogue, text) else {
             return LineVerdict::Bad;
@@ -282,6 +286,7 @@ impl Replaying {
         requires steady { IsSteady catalogue.now self.old.node }
         ensures steady { IsSteady catalogue.now self.new.node }
         ensures replayed { ReplaysLine catalogue.now (λ at. line_outcome catalogue.now at line.now) self.old result self.new }
+        ensures due { DiffersFrom catalogue.now (λ at. line_due catalogue.now at (transcript_line_meaning line.now)) self.old result self.new.due }
     {
         match read_transcript_line(line) {
             None => LineVerdict::Bad,
@@ -301,7 +306,8 @@ impl Replaying {
     pub(crate) fn take_lines(&mut self, catalogue: &Catalogue, transcript: &str) -> ReplayEnd
         requires steady { IsSteady catalogue.now self.old.node }
         requires nothing { HasReplayed catalogue.now nothing_replayed self.old }
-        ensures { ended_answer result self.new ≡ transcript_answer catalogue.now 1 nothing_replayed (lines_of transcript.now) }
+        ensures answered { ended_answer result self.new ≡ transcript_answer catalogue.now 1 nothing_replayed (lines_of transcript.now) }
+        ensures noted { ended_note result ≡ notes_text catalogue.now 1 nothing_replayed (lines_of transcript.now) }
     {
         let mut lines = NumberedLines::new(transcript);
         while let Some((number, line)) = lines.take_line() {

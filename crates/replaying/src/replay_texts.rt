@@ -2,8 +2,9 @@
 
 ghost use Rattle.std.specs.Prelude.{◌≡◌, ◌++◌, OnOk};
 ghost use Rattle.engine.specs.Notes.{IsQuiet};
+ghost use Rattle.replaying.specs.Noted.{Explains, due_text, place_text, reply_text};
 ghost use Rattle.replaying.specs.ReplayAnswer.{differing_line, good_text};
-ghost use Rattle.replaying.specs.Replaying.{ended_text};
+ghost use Rattle.replaying.specs.Replaying.{ended_note, ended_text};
 
 use crate::lines::{Due, ReplayEnd, Replaying};
 use engine::texts::{put_numbered, put_pair};
@@ -46,23 +47,49 @@ pub(crate) fn put_end(
     }
 }
 
-// What the line of this number should tell.
-fn put_due(out: &mut Vec<u8>, number: u32, due: Due) -> Result<(), AllocError> {
-    put_numbered(out, b"line ", number as u64)?;
-    let Some(reply) = due.reply else {
-        put_numbered(out, b": differs: the history has its ", MAX_LIMIT as u64)?;
-        return out.extend_from_slice(b" updates\n");
-    };
-    out.extend_from_slice(b": differs: should be ")?;
-    match due.mode {
-        Mode::Update => put_pair(out, b"index ", due.place, b" reply ", reply),
-        Mode::Read => put_pair(out, b"point ", due.place, b" reply ", reply),
+// An update's index or a read's point, and its reply there.
+fn put_place(out: &mut Vec<u8>, mode: Mode, place: u64, reply: u64) -> Result<(), AllocError>
+    ensures { OnOk result (out.new.items ≡ out.old.items ++ place_text mode place reply) }
+{
+    match mode {
+        Mode::Update => put_pair(out, b"index ", place, b" reply ", reply),
+        Mode::Read => put_pair(out, b"point ", place, b" reply ", reply),
     }
+}
+
+// What a line should tell; of one without a reply, that the history has all its updates.
+fn put_reply(
+    out: &mut Vec<u8>,
+    mode: Mode,
+    place: u64,
+    reply: Option<u64>,
+) -> Result<(), AllocError>
+    ensures { OnOk result (out.new.items ≡ out.old.items ++ reply_text mode place reply) }
+{
+    match reply {
+        Some(reply) => {
+            out.extend_from_slice(b": differs: should be ")?;
+            put_place(out, mode, place, reply)
+        }
+        None => {
+            put_numbered(out, b": differs: the history has its ", MAX_LIMIT as u64)?;
+            out.extend_from_slice(b" updates\n")
+        }
+    }
+}
+
+// What the line of this number should tell.
+fn put_due(out: &mut Vec<u8>, number: u32, due: Due) -> Result<(), AllocError>
+    ensures { OnOk result (out.new.items ≡ out.old.items ++ due_text number due) }
+{
+    put_numbered(out, b"line ", number as u64)?;
+    put_reply(out, due.mode, due.place, due.reply)
 }
 
 // Tells of the line at which a replay ended what it should tell, where it tells something else.
 pub(crate) fn tell_end(notes: &mut Notes, end: ReplayEnd) -> Result<(), AllocError>
     ensures quiet { IsQuiet notes.old notes.new }
+    ensures told { OnOk result (Explains notes.old notes.new (ended_note end)) }
 {
     match (notes.telling, end) {
         (Telling::Reasons, ReplayEnd::Differs(number, due)) => {
