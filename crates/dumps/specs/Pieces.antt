@@ -71,6 +71,10 @@ rows_of tables = map (λ t. t.items) tables
 abbrev pub left_of : Contents → Left → List ℕ
 left_of c l = left_text c (rows_of l.tables.items) l.lines.items l.next
 
+-- what is left, but from here on
+abbrev pub left_from : Left → Next → Left
+left_from l next = record l { next = next }
+
 -- a store may have these maps, no more tables are left than there are maps, and the programs' lines go on at one of their bytes
 abbrev pub IsLeftOf : Contents → Left → Type 0
 IsLeftOf c l = AreShapesSupported (stored_shapes c) × (length l.tables.items ≤ length (stored_shapes c)) × (l.next.byte ≤ length l.lines.items)

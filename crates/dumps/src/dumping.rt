@@ -107,11 +107,12 @@ pub(crate) fn put_programs(
 pub fn dump(alloc: Global, state: &StoreState) -> Result<Vec<u8>, AllocError>
     ensures dumped { IfOk result (λ text. text.items ≡ dump state.now) }
 {
-    let mut dumping = Dumping::new(alloc, state)?;
+    let dumping = Dumping::new(alloc, state)?;
+    let mut pieces = dumping.pieces();
     let mut text = Vec::new(alloc);
     let mut room = [0u8; PIECE_BYTES];
     loop {
-        let count = dumping.read(&mut room);
+        let count = pieces.read(&mut room);
         if count == 0 {
             return Ok(text);
         }

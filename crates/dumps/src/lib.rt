@@ -16,5 +16,5 @@ pub use laws::{
 };
 pub use lines::DUMP_LINE_BYTES;
 pub use loading::{load, load_for};
-pub use pieces::{Dumping, StateText};
+pub use pieces::{Dumping, Pieces, StateText};
 pub use refusals::{DumpError, DumpFault, DumpRefusal};

@@ -209,8 +209,41 @@ fn whole(alloc: Global, maps: &MapSet, programs: &Installed) -> Result<Left, All
     })
 }
 
-/// The text of a state, piece by piece: what is left of it. It needs four bytes for each key of the maps, which it
-/// takes when it is made, and no more.
+/// What is left of the text of a state, given piece by piece. Whoever it is lent by keeps the text.
+#[derive(Drop)]
+pub struct Pieces<'a> {
+    maps: &'a MapSet,
+    left: &'a Left,
+    next: Next,
+}
+
+impl<'a> Model for Pieces<'a> {
+    ghost use Rattle.std.specs.Prelude.{ℕ, List};
+
+    ghost Value = { List ℕ };
+
+    ghost use Rattle.dumps.specs.Pieces.{IsLeftOf, left_from, left_of};
+
+    ghost view = { λ p. left_of p.maps.now (left_from p.left.now p.next) };
+
+    ghost invariant = { λ p. IsLeftOf p.maps.now (left_from p.left.now p.next) };
+}
+
+impl<'a> Pieces<'a> {
+    /// Writes the next bytes of the text to the front of room, and says how many: none only at the end.
+    pub fn read(&mut self, room: &mut [u8]) -> usize
+        requires room { DUMP_LINE_BYTES ≤ length room.old }
+        ensures read { self.old ≡ take result room.new ++ self.new }
+        ensures end { result ≡ 0 → self.old ≡ [] }
+        ensures bound { result ≤ length room.new }
+    {
+        let Left { tables, lines, .. } = self.left;
+        read_next(self.maps, tables, lines, &mut self.next, room)
+    }
+}
+
+/// The text of a state that is lent. It needs four bytes for each key of the maps, which it takes when it is made, and
+/// no more.
 #[derive(Drop)]
 pub struct Dumping<'a> {
     maps: &'a MapSet,
@@ -243,19 +276,20 @@ impl<'a> Dumping<'a> {
         Ok(Dumping { maps, left })
     }
 
-    /// Writes the next bytes of the text to the front of room, and says how many: none only at the end.
-    pub fn read(&mut self, room: &mut [u8]) -> usize
-        requires room { DUMP_LINE_BYTES ≤ length room.old }
-        ensures read { self.old ≡ take result room.new ++ self.new }
-        ensures end { result ≡ 0 → self.old ≡ [] }
-        ensures bound { result ≤ length room.new }
+    /// The pieces of the text.
+    pub fn pieces(&self) -> Pieces<'_>
+        ensures { result ≡ self.now }
     {
-        let left = &mut self.left;
-        read_next(self.maps, &left.tables, &left.lines, &mut left.next, room)
+        Pieces {
+            maps: self.maps,
+            left: &self.left,
+            next: self.left.next,
+        }
     }
 }
 
-/// A state, and what is left of its text: a [`Dumping`] that has the state itself, and gives it back.
+/// A state, and what is left of its text: a [`Dumping`] that has the state itself, and gives it back. Its text is taken
+/// piece by piece, or lent.
 #[derive(Drop)]
 pub struct StateText {
     maps: MapSet,
@@ -314,6 +348,17 @@ impl StateText {
     {
         let left = &mut self.left;
         read_next(&self.maps, &left.tables, &left.lines, &mut left.next, room)
+    }
+
+    /// The pieces of what is left of its text, which stays left.
+    pub fn pieces(&self) -> Pieces<'_>
+        ensures { result ≡ self.now.left }
+    {
+        Pieces {
+            maps: &self.maps,
+            left: &self.left,
+            next: self.left.next,
+        }
     }
 
     /// Gives the state back.

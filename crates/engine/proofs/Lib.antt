@@ -8,6 +8,7 @@ pub mod GatheredFiles
 pub mod Gatherings
 pub mod Naming
 pub mod Reports
+pub mod SentPieces
 pub mod Written
 pub mod Openings
 pub mod InTurn

@@ -1,5 +1,6 @@
 -- An answer, and a text that a command makes besides it.
 use Rattle.std.specs.Prelude.{ℕ, List, [], ◌++◌, Option, Some, None, option_map}
+use Rattle.dumps.specs.Dumping.{StateText}
 use Rattle.engine.specs.declared.parted.Destination.{Destination}
 use Rattle.engine.specs.declared.parted.Destination.TheVariants as destinations
 use Rattle.engine.specs.declared.parted.Handed.{Handed}
@@ -34,5 +35,10 @@ abbrev pub handed_text : Handed → List ℕ
 handed_text (Text bytes) = bytes.items
 handed_text (State text) = text.left
 
+-- an answer, and after it what is left of the text of a state, if there is one
+abbrev pub with_text : Option StateText → Answer → Answer
+with_text None a = a
+with_text (Some state) a = record a { text = a.text ++ state.left }
+
 abbrev pub parted_of : Parted → PartedAnswer
-parted_of p = record { answer = answer_of p.reply; elsewhere = option_map handed_text p.elsewhere }
+parted_of p = record { answer = with_text p.state (answer_of p.reply); elsewhere = option_map handed_text p.elsewhere }

@@ -1,8 +1,10 @@
 -- What a command did, from its status: what it wrote, over what the writer held.
-use Rattle.std.specs.Prelude.{◌≡◌, ℕ, List, Option, ◌⊎◌}
+use Rattle.std.specs.Prelude.{◌≡◌, ℕ, List, [], ◌++◌, Option, ◌⊎◌}
+use Rattle.std.specs.Option.{option_map_or}
 use Rattle.std.specs.Io.KnownBytes.{Appends}
 use Rattle.engine.specs.declared.replies.Status.{Status}
 use Rattle.engine.specs.declared.replies.Status.TheVariants as statuses
+use Rattle.engine.specs.declared.replies.AnswerText.{AnswerText}
 use Rattle.engine.specs.declared.replies.Reply.{Reply}
 use Rattle.engine.specs.Transfer.{AppendsBeginning}
 use Rattle.engine.specs.Answer.{Answer}
@@ -23,3 +25,7 @@ Sends old new got text wanted = ((got ≡ wanted) × Appends old new text) ⊎ (
 -- what is to be written, and its verdict
 abbrev pub answer_of : Reply → Answer
 answer_of r = record { text = r.text.items; verdict = r.verdict }
+
+-- all of the text of an answer
+abbrev pub whole_text : AnswerText → List ℕ
+whole_text t = option_map_or (λ s. t.bytes.now ++ s.now.left) t.state t.bytes.now

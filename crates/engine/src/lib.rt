@@ -15,8 +15,10 @@ pub use in_memory::{Held, HeldFiles, Page};
 pub use opening::{Loaded, Opened, load_texts, open_texts, places_within};
 pub use parted::{Destination, Handed, Parted};
 pub use performing::{
-    Command, Performed, hand_back, perform, perform_kept, prepare, report, write_text,
+    Command, Performed, hand_back, perform, perform_kept, prepare, report, write_pieces, write_text,
 };
 pub use reading::{Folder, Gathered, Inputs, MapSizes, NamedText, Stranger, Texts, gather, lent};
-pub use replies::{Answering, Notes, Reply, Status, Telling, Verdict, not_text, sizes_refused};
+pub use replies::{
+    AnswerText, Answering, Notes, Reply, Status, Telling, Verdict, not_text, sizes_refused,
+};
 pub use transfer::{CannotRead, CannotWrite, Feed, ReadFault, Sink, Source};

@@ -1,12 +1,12 @@
 // What a command makes of which a part goes elsewhere than to its writer.
 
-ghost use Rattle.std.specs.Prelude.{◌≡◌, IfOk};
-ghost use Rattle.dumps.specs.Dumping.{dump};
+ghost use Rattle.std.specs.Prelude.{◌≡◌, IfOk, None};
+ghost use Rattle.dumps.specs.Dumping.{dump, whole_text};
 ghost use Rattle.engine.specs.Parted.{apart, parted_of, sent_to, whole};
 ghost use Rattle.engine.specs.Report.{answer_of};
 
-use crate::replies::{Answering, Reply, Verdict};
-use dumps::{StateText, dump};
+use crate::replies::{AnswerText, Answering, Reply, Verdict};
+use dumps::StateText;
 use loader::StoreState;
 use std::alloc::{AllocError, Global};
 
@@ -35,15 +35,20 @@ pub enum Handed {
 pub struct Parted {
     /// What is written.
     pub reply: Reply,
+    /// The state whose text is written after it, where one is.
+    pub state: Option<StateText>,
     /// What goes elsewhere, where something does.
     pub elsewhere: Option<Handed>,
 }
 
 impl Answering for Parted {
-    ghost answer = { λ p. answer_of p.reply };
+    ghost answer = { λ p. (parted_of p).answer };
 
-    fn text(&self) -> &[u8] {
-        &self.reply.text
+    fn text(&self) -> AnswerText<'_> {
+        AnswerText {
+            bytes: &self.reply.text,
+            state: self.state.as_ref(),
+        }
     }
 
     fn verdict(&self) -> Verdict {
@@ -51,13 +56,25 @@ impl Answering for Parted {
     }
 }
 
+// The text of a state.
+fn text_of(alloc: Global, state: StoreState) -> Result<StateText, AllocError>
+    ensures { IfOk result (λ t. t ≡ whole_text state) }
+{
+    match StateText::new(alloc, state) {
+        Ok(text) => Ok(text),
+        Err(_) => Err(AllocError),
+    }
+}
+
 impl Parted {
     /// All of it is written.
     pub fn whole(reply: Reply) -> Parted
-        ensures { parted_of result ≡ whole (answer_of reply) }
+        ensures parted { parted_of result ≡ whole (answer_of reply) }
+        ensures whole { result.state ≡ None }
     {
         Parted {
             reply,
+            state: None,
             elsewhere: None,
         }
     }
@@ -72,6 +89,7 @@ impl Parted {
                 text: Vec::new(alloc),
                 verdict,
             },
+            state: None,
             elsewhere: Some(Handed::Text(text)),
         }
     }
@@ -82,7 +100,8 @@ impl Parted {
     ///
     /// The system has no memory left.
     pub fn with(reply: Reply, text: Vec<u8>, to: Destination) -> Result<Parted, AllocError>
-        ensures { IfOk result (λ p. parted_of p ≡ sent_to to (answer_of reply) text.items) }
+        ensures parted { IfOk result (λ p. parted_of p ≡ sent_to to (answer_of reply) text.items) }
+        ensures whole { IfOk result (λ p. p.state ≡ None) }
     {
         match to {
             Destination::Nowhere => Ok(Parted::whole(reply)),
@@ -96,12 +115,13 @@ impl Parted {
             }
             Destination::Elsewhere => Ok(Parted {
                 reply,
+                state: None,
                 elsewhere: Some(Handed::Text(text)),
             }),
         }
     }
 
-    /// An answer, and the text of a state, which goes to this destination. Elsewhere it goes piece by piece.
+    /// An answer, and the text of a state, which goes to this destination piece by piece.
     ///
     /// # Errors
     ///
@@ -116,14 +136,16 @@ impl Parted {
     {
         match to {
             Destination::Nowhere => Ok(Parted::whole(reply)),
-            Destination::Writer => Parted::with(reply, dump(alloc, &state)?, to),
-            Destination::Elsewhere => match StateText::new(alloc, state) {
-                Ok(text) => Ok(Parted {
-                    reply,
-                    elsewhere: Some(Handed::State(text)),
-                }),
-                Err(_) => Err(AllocError),
-            },
+            Destination::Writer => Ok(Parted {
+                reply,
+                state: Some(text_of(alloc, state)?),
+                elsewhere: None,
+            }),
+            Destination::Elsewhere => Ok(Parted {
+                reply,
+                state: None,
+                elsewhere: Some(Handed::State(text_of(alloc, state)?)),
+            }),
         }
     }
 }

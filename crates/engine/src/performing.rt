@@ -6,14 +6,18 @@ ghost use Rattle.engine.specs.declared.transfer.ReadFault.TheVariants as faults;
 ghost use Rattle.engine.specs.Notes.{IsQuiet};
 ghost use Rattle.engine.specs.ReadFaults.{IfCannotRead};
 ghost use Rattle.engine.specs.Reading.{FailedInTurn, IfGiven, StopsAtStranger, TextsRead, read, texts_in};
-ghost use Rattle.engine.specs.Report.{Failed, Sends};
+ghost use Rattle.engine.specs.Report.{Failed, Sends, whole_text};
 ghost use Rattle.engine.specs.Engine.{Performs, PerformsRead, Reports, ReportsRead, Writes, handed_back};
 
 use crate::reading::{Folder, Gathered, Inputs, gather};
-use crate::replies::{Answering, Notes, Status, status_of};
+use crate::replies::{AnswerText, Answering, Notes, Status, status_of};
 use crate::texts::no_memory;
 use crate::transfer::{ReadFault, Sink, Source};
+use dumps::Pieces;
 use std::alloc::{AllocError, Global};
+
+// How many bytes of a state's text are written at once. A line has room in them.
+const PIECE_BYTES: usize = 40_960;
 
 /// A command: what it makes of all that was read.
 pub trait Command {
@@ -78,6 +82,38 @@ pub fn write_text<W: Sink>(writer: &mut W, text: &[u8], status: Status) -> Statu
     }
 }
 
+/// Writes what is left of the text of a state piece by piece, and ends so, or as one that cannot write.
+pub fn write_pieces<W: Sink>(writer: &mut W, mut pieces: Pieces<'_>, status: Status) -> Status
+    ensures sent { Sends (W.contents writer.old) (W.contents writer.new) result pieces.entry status }
+    ensures failed { (result ≡ status) ⊎ ((result ≡ statuses.CannotWrite) × W.has_failed writer.new) }
+{
+    let mut room = [0u8; PIECE_BYTES];
+    loop {
+        let count = pieces.read(&mut room);
+        if count == 0 {
+            return status;
+        }
+        match writer.send(&room[..count]) {
+            Ok(()) => {}
+            Err(_) => return Status::CannotWrite,
+        }
+    }
+}
+
+// Writes the text of an answer, and ends so, or as one that cannot write.
+fn write_answer<W: Sink>(writer: &mut W, text: AnswerText<'_>, status: Status) -> Status
+    ensures sent { Sends (W.contents writer.old) (W.contents writer.new) result (whole_text text.entry) status }
+    ensures failed { (result ≡ status) ⊎ ((result ≡ statuses.CannotWrite) × W.has_failed writer.new) }
+{
+    let Some(state) = text.state else {
+        return write_text(writer, text.bytes, status);
+    };
+    match writer.send(text.bytes) {
+        Ok(()) => write_pieces(writer, state.pieces(), status),
+        Err(_) => Status::CannotWrite,
+    }
+}
+
 /// Writes the answer of what was made, whole, after all is read. Says how the command ended.
 pub fn report<M: Answering, W: Sink>(writer: &mut W, made: &Result<M, ReadFault>) -> Status
     ensures written { Writes M.answer (W.contents writer.old) (W.contents writer.new) result made.now }
@@ -85,7 +121,7 @@ pub fn report<M: Answering, W: Sink>(writer: &mut W, made: &Result<M, ReadFault>
     ensures spared { result ≢ statuses.CannotWrite → W.has_failed writer.new → W.has_failed writer.old }
 {
     match made {
-        Ok(made) => write_text(writer, made.text(), status_of(made.verdict())),
+        Ok(made) => write_answer(writer, made.text(), status_of(made.verdict())),
         Err(ReadFault::NoMemory) => write_text(writer, no_memory(), Status::NoMemory),
         Err(ReadFault::CannotRead) => Status::CannotRead,
     }

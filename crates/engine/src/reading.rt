@@ -98,6 +98,16 @@ pub struct Texts {
     pub history: String,
 }
 
+impl Texts {
+    /// The file that the command is about. All other texts are let go.
+    pub fn into_file(self) -> String
+        ensures { result ≡ self.file }
+    {
+        let Texts { file, .. } = self;
+        file
+    }
+}
+
 /// What was read last, where it isn't UTF-8.
 #[derive(Drop)]
 pub struct Stranger {

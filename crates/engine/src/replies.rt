@@ -4,11 +4,12 @@ ghost use Rattle.std.specs.Prelude.{◌≡◌, [], IfOk, option_map};
 ghost use Rattle.engine.specs.declared.replies.Telling.TheVariants.{Nothing};
 ghost use Rattle.engine.specs.declared.replies.Verdict.TheVariants as verdicts;
 ghost use Rattle.engine.specs.Answer.{Answer, not_text};
-ghost use Rattle.engine.specs.Report.{answer_of};
+ghost use Rattle.engine.specs.Report.{answer_of, whole_text};
 ghost use Rattle.engine.specs.Sizes.{sizes_refused};
 ghost use Rattle.engine.specs.Status.{code_of, complaint_of, status_of};
 
 use crate::texts;
+use dumps::StateText;
 use std::alloc::{AllocError, Global};
 
 /// How a command ended.
@@ -85,14 +86,32 @@ pub struct Reply {
     pub verdict: Verdict,
 }
 
+/// The text of an answer: bytes, and then what is left of the text of a state, if there is one.
+#[derive(Clone, Copy)]
+pub struct AnswerText<'a> {
+    /// What is written first.
+    pub bytes: &'a [u8],
+    /// The state. It is written piece by piece, and its text stays left.
+    pub state: Option<&'a StateText>,
+}
+
+impl<'a> AnswerText<'a> {
+    /// These bytes alone.
+    pub fn of(bytes: &'a [u8]) -> AnswerText<'a>
+        ensures { whole_text result ≡ bytes.now }
+    {
+        AnswerText { bytes, state: None }
+    }
+}
+
 /// What a command makes that has an answer.
 pub trait Answering: Drop {
     // The answer.
     ghost answer: { Self → Answer };
 
     /// What is to be written.
-    fn text(&self) -> &[u8]
-        ensures { result.now ≡ (answer self.now).text };
+    fn text(&self) -> AnswerText<'_>
+        ensures { whole_text result ≡ (answer self.now).text };
 
     /// Whether what was read is good.
     fn verdict(&self) -> Verdict
@@ -102,8 +121,8 @@ pub trait Answering: Drop {
 impl Answering for Reply {
     ghost answer = { answer_of };
 
-    fn text(&self) -> &[u8] {
-        &self.text
+    fn text(&self) -> AnswerText<'_> {
+        AnswerText::of(&self.text)
     }
 
     fn verdict(&self) -> Verdict {

@@ -11,5 +11,5 @@ pub mod CutRuns
 pub mod RunWrites
 pub mod OneTurn
 pub mod OneResult
-pub mod SentPieces
+pub mod WrittenDumps
 pub mod Export

@@ -37,7 +37,6 @@ use Rattle.engine.specs.Engine.{Performs}
 use Rattle.engine.specs.Opening.{opening_of}
 use Rattle.engine.specs.Parted.{PartedAnswer, parted_of, sent_to, whole}
 use Rattle.engine.specs.Reading.{Given, first_stranger, limits_of, read}
-use Rattle.engine.specs.Report.{answer_of}
 use Rattle.engine.specs.Status.{status_of}
 use Rattle.engine.specs.StateAnswer.{refusal_text}
 use Rattle.engine.specs.Written.{AreTexts, IsWritten, loads}
@@ -357,7 +356,7 @@ module _ (g : Given) (script : List ℕ) where
         subst (λ x. IsHandedBack g script to status x.elsewhere) (sym same) (none_back to status (λ good. good_not_refused (sym refused ∙ good)))
 
   module _ (is_signed : Bool) (to : Destination) (Is : Parted → Type 0) (parts : (p : Parted) → Is p → PartIs is_signed to g script (parted_of p)) (old new : Option (List ℕ)) where
-    broken_off : (status : Status) → Performs (λ p. answer_of p.reply) Is old new (record { status = status; made = None }) → status ≡ statuses.Good → ⊥
+    broken_off : (status : Status) → Performs (λ p. (parted_of p).answer) Is old new (record { status = status; made = None }) → status ≡ statuses.Good → ⊥
     broken_off statuses.Good never good = never
     broken_off statuses.Refused never good = never
     broken_off statuses.Differs never good = never
@@ -365,16 +364,16 @@ module _ (g : Given) (script : List ℕ) where
     broken_off statuses.CannotRead kept good = cc
     broken_off statuses.CannotWrite wrote good = cc
 
-    by_made : (status : Status) (made : Option Parted) → Performs (λ p. answer_of p.reply) Is old new (record { status = status; made = made })
+    by_made : (status : Status) (made : Option Parted) → Performs (λ p. (parted_of p).answer) Is old new (record { status = status; made = made })
         → IsHandedBack g script to status (handed_back (record { status = status; made = made }))
     by_made status None did = none_back to status (broken_off status did)
     by_made status (Some p) did = part_back is_signed status to (parted_of p) (parts p did.0) did.1
 
 -- ---- the laws
 
-module _ (is_signed : Bool) (to : Destination) (g : Given) (Is : Parted → Type 0) (old new : List ℕ) (done : Performed Parted) (did : Performs (λ (p : Parted). answer_of p.reply) Is (Some old) (Some new) done) where
+module _ (is_signed : Bool) (to : Destination) (g : Given) (Is : Parted → Type 0) (old new : List ℕ) (done : Performed Parted) (did : Performs (λ (p : Parted). (parted_of p).answer) Is (Some old) (Some new) done) where
   abbrev what : Parted → Answer
-  what p = answer_of p.reply
+  what p = (parted_of p).answer
 
   by_script : (script : List ℕ) → ((p : Parted) → Is p → PartIs is_signed to g script (parted_of p)) → (text : List ℕ) × (new ≡ old ++ text) × IsDone is_signed to g script text done
   by_script script parts =
@@ -405,7 +404,7 @@ module _ (is_signed : Bool) (to : Destination) (g : Given) (old new : List ℕ) 
   abbrev Made : Parted → Type 0
   Made p = parted_of p ≡ called_run is_signed to (read g)
 
-  by_script_or : Performs (λ (p : Parted). answer_of p.reply) Made (Some old) (Some new) done → (r : Result (List ℕ) EncodeRefusal) → ((p : Parted) → Made p → CallsPart is_signed to g r (parted_of p))
+  by_script_or : Performs (λ (p : Parted). (parted_of p).answer) Made (Some old) (Some new) done → (r : Result (List ℕ) EncodeRefusal) → ((p : Parted) → Made p → CallsPart is_signed to g r (parted_of p))
       → (text : List ℕ) × (new ≡ old ++ text) × AreCallsDone is_signed to g r text done
   by_script_or did (Ok script) parts = by_script is_signed to g Made old new done did script parts
   by_script_or did (Err refusal) refuses = let d = by_refusal is_signed to g Made old new done did refusal refuses in (d.0, d.1, (d.2, d.3))

@@ -29,7 +29,6 @@ use Rattle.engine.specs.declared.replies.Status.TheVariants as statuses
 use Rattle.engine.specs.Engine.{PerformsRead}
 use Rattle.engine.specs.Parted.{parted_of}
 use Rattle.engine.specs.Reading.{Given}
-use Rattle.engine.specs.Report.{answer_of}
 use Rattle.engine.specs.StateAnswer.{refusal_text}
 use Rattle.engine.specs.Written.{AreTexts, IsManifestRefused, IsNotText, IsWritten, loads}
 use Rattle.running.specs.declared.single_node.TheConstants.{RUN_PLACES}
@@ -151,7 +150,7 @@ IsDone is_signed to g script text done =
 abbrev pub RunWrites : Type 0
 RunWrites =
     (is_signed : Bool) (to : Destination) (g : Given) (old new : List ℕ) (done : Performed Parted)
-    → PerformsRead (λ p. answer_of p.reply) (λ t p. parted_of p ≡ dumped_run is_signed to t) Some old new done g
+    → PerformsRead (λ p. (parted_of p).answer) (λ t p. parted_of p ≡ dumped_run is_signed to t) Some old new done g
     → (text : List ℕ) × (new ≡ old ++ text) × IsDone is_signed to g g.file text done
 
 -- the calls are refused and no line is run: a text, the manifest or the state is refused; or these are good, and the line of the first wrong place is written
@@ -167,7 +166,7 @@ AreCallsDone is_signed to g (Err refusal) text done = IsWritten (λ _. ⊥) (IsR
 abbrev pub CallsWrite : Type 0
 CallsWrite =
     (is_signed : Bool) (to : Destination) (g : Given) (old new : List ℕ) (done : Performed Parted)
-    → PerformsRead (λ p. answer_of p.reply) (λ t p. parted_of p ≡ called_run is_signed to t) Some old new done g
+    → PerformsRead (λ p. (parted_of p).answer) (λ t p. parted_of p ≡ called_run is_signed to t) Some old new done g
     → (text : List ℕ) × (new ≡ old ++ text) × AreCallsDone is_signed to g (encoded_text g.file) text done
 
 -- ---- and nothing else

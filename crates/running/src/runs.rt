@@ -16,15 +16,12 @@ use crate::signed_texts::signed_text;
 use crate::single_node::{RUN_PLACES, SingleNode};
 use dumps::Dumping;
 use engine::{
-    Answering, Command, Gathered, Notes, Opened, Reply, Sink, Status, Texts, Verdict, not_text,
-    open_texts,
+    AnswerText, Answering, Command, Gathered, Notes, Opened, Reply, Sink, Status, Texts, Verdict,
+    not_text, open_texts, write_pieces,
 };
 use loader::{Catalogue, StoreState};
 use oplog::MAX_LIMIT;
 use std::alloc::{AllocError, Global};
-
-// How many bytes of a text are written at once. A line of a state has room in them.
-const PIECE_BYTES: usize = 40_960;
 
 /// What a run writes, and the state that it leaves.
 #[derive(Drop)]
@@ -38,8 +35,8 @@ pub struct Kept {
 impl Answering for Kept {
     ghost answer = { λ k. answer_of k.reply };
 
-    fn text(&self) -> &[u8] {
-        &self.reply.text
+    fn text(&self) -> AnswerText<'_> {
+        AnswerText::of(&self.reply.text)
     }
 
     fn verdict(&self) -> Verdict {
@@ -85,12 +82,15 @@ fn run_lines(
 
 // Runs the script on what the manifest, its files and the state say. Otherwise refuses as they are refused.
 #[tactic(auto, using(engine::proofs::Openings::opens_on))]
-fn run_script(alloc: Global, texts: &Texts) -> Result<Kept, AllocError>
-    ensures { IfOk result (λ k. kept_of k ≡ run_kept false (Some (texts_read texts.now))) }
+fn run_script(alloc: Global, texts: Texts) -> Result<Kept, AllocError>
+    ensures { IfOk result (λ k. kept_of k ≡ run_kept false (Some (texts_read texts))) }
 {
-    let script = texts.file.as_str();
-    match open_texts(alloc, texts, Some(RUN_PLACES))? {
-        Opened::On(catalogue, state) => run_lines(alloc, &catalogue, state.as_ref(), script),
+    let opened = open_texts(alloc, &texts, Some(RUN_PLACES))?;
+    let script = texts.into_file();
+    match opened {
+        Opened::On(catalogue, state) => {
+            run_lines(alloc, &catalogue, state.as_ref(), script.as_str())
+        }
         Opened::Refused(reply) => Ok(refuse(reply)),
     }
 }
@@ -131,29 +131,11 @@ impl Command for Run {
         let Ok(texts) = read else {
             return Ok(refuse(not_text(alloc)?));
         };
-        let kept = run_script(alloc, &texts)?;
+        let kept = run_script(alloc, texts)?;
         if self.is_signed {
             add_signs(alloc, kept)
         } else {
             Ok(kept)
-        }
-    }
-}
-
-// Writes what is left of a state's text.
-fn send_pieces<D: Sink>(dumping: &mut Dumping<'_>, writer: &mut D) -> Status
-    ensures written { Dumps (D.contents writer.old) (D.contents writer.new) result dumping.old }
-    ensures failed { Failed result ⊥ (D.has_failed writer.new) }
-{
-    let mut room = [0u8; PIECE_BYTES];
-    loop {
-        let count = dumping.read(&mut room);
-        if count == 0 {
-            return Status::Good;
-        }
-        match writer.send(&room[..count]) {
-            Ok(()) => {}
-            Err(_) => return Status::CannotWrite,
         }
     }
 }
@@ -164,7 +146,7 @@ pub fn dump_to<D: Sink>(alloc: Global, state: &StoreState, writer: &mut D) -> St
     ensures failed { Failed result ⊥ (D.has_failed writer.new) }
 {
     match Dumping::new(alloc, state) {
-        Ok(mut dumping) => send_pieces(&mut dumping, writer),
+        Ok(dumping) => write_pieces(writer, dumping.pieces(), Status::Good),
         Err(_) => Status::NoMemory,
     }
 }

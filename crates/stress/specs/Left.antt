@@ -4,7 +4,7 @@ use Rattle.std.specs.Option.{option_map_or}
 use Rattle.dumps.specs.Dumping.{dump}
 use Rattle.engine.specs.declared.parted.Destination.{Destination}
 use Rattle.engine.specs.Answer.{Answer}
-use Rattle.engine.specs.Parted.{PartedAnswer, handed_text, sent_to}
+use Rattle.engine.specs.Parted.{PartedAnswer, handed_text, sent_to, with_text}
 use Rattle.engine.specs.Reading.{TextsRead}
 use Rattle.engine.specs.Report.{answer_of}
 use Rattle.stress.specs.declared.command.Stress.{Stress}
@@ -31,7 +31,7 @@ left_by to s =
 
 -- what is written of them
 abbrev pub answer_left : LeftTexts → Answer
-answer_left l = answer_of l.reply
+answer_left l = with_text l.written_state (answer_of l.reply)
 
 -- the texts are those of what was made
 abbrev pub IsLeft : Leaving → Stressed → LeftTexts → Type 0

@@ -117,12 +117,14 @@ impl<'a, R: Threads + Wait + Sync, G: Gate + Sync, C: Clock + Sync> Stress<'a, R
     }
 
     // What texts give back.
-    fn texts_run(&self, alloc: Global, texts: &Texts) -> Result<Stressed, AllocError>
-        ensures { IfOk result (MayMake self.now (Some (texts_read texts.now))) }
+    fn texts_run(&self, alloc: Global, texts: Texts) -> Result<Stressed, AllocError>
+        ensures { IfOk result (MayMake self.now (Some (texts_read texts))) }
     {
-        match open_texts(alloc, texts, places_in(self.config))? {
+        let opened = open_texts(alloc, &texts, places_in(self.config))?;
+        let script = texts.into_file();
+        match opened {
             Opened::On(catalogue, state) => {
-                self.script_run(alloc, catalogue, state.as_ref(), texts.file.as_str())
+                self.script_run(alloc, catalogue, state.as_ref(), script.as_str())
             }
             Opened::Refused(reply) => Ok(Stressed::only(alloc, reply)),
         }
@@ -133,7 +135,7 @@ impl<'a, R: Threads + Wait + Sync, G: Gate + Sync, C: Clock + Sync> Stress<'a, R
         ensures { IfOk result (MayMake self.now (texts_in read)) }
     {
         match read {
-            Ok(texts) => self.texts_run(alloc, &texts),
+            Ok(texts) => self.texts_run(alloc, texts),
             Err(_) => Ok(Stressed::only(alloc, not_text(alloc)?)),
         }
     }

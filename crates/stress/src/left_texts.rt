@@ -5,7 +5,8 @@ ghost use Rattle.stress.specs.Left.{IsLeft, answer_left};
 
 use crate::stressed::Stressed;
 use crate::watching::Counts;
-use engine::{Answering, Destination, Handed, Parted, Reply, Verdict};
+use dumps::StateText;
+use engine::{AnswerText, Answering, Destination, Handed, Parted, Reply, Verdict};
 use std::alloc::{AllocError, Global};
 
 /// Where to write what a run leaves besides its transcript.
@@ -22,6 +23,8 @@ pub struct Leaving {
 pub struct LeftTexts {
     /// What is written.
     pub reply: Reply,
+    /// The state whose text is written after it, where one is.
+    pub written_state: Option<StateText>,
     /// The times of its calls, where they go elsewhere.
     pub times: Option<Handed>,
     /// The text of the state, as [`dumps::dump`] writes it, where that goes elsewhere.
@@ -33,8 +36,11 @@ pub struct LeftTexts {
 impl Answering for LeftTexts {
     ghost answer = { answer_left };
 
-    fn text(&self) -> &[u8] {
-        &self.reply.text
+    fn text(&self) -> AnswerText<'_> {
+        AnswerText {
+            bytes: &self.reply.text,
+            state: self.written_state.as_ref(),
+        }
     }
 
     fn verdict(&self) -> Verdict {
@@ -59,6 +65,7 @@ pub(crate) fn left_texts(
     let Some(state) = state else {
         return Ok(LeftTexts {
             reply,
+            written_state: None,
             times: None,
             state: None,
             counts,
@@ -71,6 +78,7 @@ pub(crate) fn left_texts(
     };
     Ok(LeftTexts {
         reply: with_state.reply,
+        written_state: with_state.state,
         times: with_times.elsewhere,
         state: with_state.elsewhere,
         counts,

@@ -4,7 +4,7 @@ ghost use Rattle.engine.specs.Report.{answer_of};
 ghost use Rattle.stress.specs.Runs.{IsOnly};
 
 use crate::watching::Counts;
-use engine::{Answering, Reply, Verdict};
+use engine::{AnswerText, Answering, Reply, Verdict};
 use loader::StoreState;
 use std::alloc::Global;
 use store::Batches;
@@ -25,8 +25,8 @@ pub struct Stressed {
 impl Answering for Stressed {
     ghost answer = { λ s. answer_of s.reply };
 
-    fn text(&self) -> &[u8] {
-        &self.reply.text
+    fn text(&self) -> AnswerText<'_> {
+        AnswerText::of(&self.reply.text)
     }
 
     fn verdict(&self) -> Verdict {

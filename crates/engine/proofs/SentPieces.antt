@@ -1,6 +1,8 @@
 -- A text that is written piece by piece: what was written so far, and what is left.
-use Rattle.std.proofs.Common.{◌≡◌, ℕ, zero, suc, List, [], ◌∷◌, ◌++◌, take, Option, Some, None, refl, sym, ap, ◌∙◌, subst, append_assoc, append-nil}
+use Rattle.std.proofs.Common.{◌≡◌, inl, inr, ℕ, zero, suc, List, [], ◌∷◌, ◌++◌, take, Option, Some, None, refl, sym, ap, ◌∙◌, subst, append_assoc, append-nil}
 use Rattle.std.specs.Io.KnownBytes.{Appends}
+use Rattle.engine.specs.declared.replies.Status.{Status}
+use Rattle.engine.specs.Report.{Sends}
 use Rattle.engine.specs.Transfer.{AppendsBeginning}
 
 -- all but what is left was written
@@ -36,3 +38,13 @@ pub broken_off : (old now new : Option (List ℕ)) (all left rest piece : List �
 broken_off old now new all left rest piece e p h =
     let b = begins h.0 piece rest p.0 in
     (b.0, subst (Appends old new) (sym (ap (take b.0) (h.1 ∙ ap (λ u. h.0 ++ u) e) ∙ b.1)) (appended old now new h.0 (take p.0 piece) h.2 p.1))
+
+-- a text that broke off, of which this is the first part
+pub first_broken_off : (old new : Option (List ℕ)) (first rest : List ℕ) → AppendsBeginning old new first → AppendsBeginning old new (first ++ rest)
+first_broken_off old new first rest p = broken_off old old new (first ++ rest) (first ++ rest) rest first refl p (none_sent old (first ++ rest))
+
+-- a text that is sent after another
+pub sent_after : (old now new : Option (List ℕ)) (got wanted : Status) (first rest : List ℕ) → Appends old now first → Sends now new got rest wanted → Sends old new got (first ++ rest) wanted
+sent_after old now new got wanted first rest before (inl whole) = inl (whole.0, appended old now new first rest before whole.1)
+sent_after old now new got wanted first rest before (inr broke) =
+    inr (broke.0, broken_off old now new (first ++ rest) rest [] rest (sym (append-nil rest)) broke.1 (first, refl, before))
