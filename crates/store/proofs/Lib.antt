@@ -16,5 +16,6 @@ pub mod MayInstall
 pub mod Confines
 pub mod Ascending
 pub mod AskedEach
+pub mod Held
 pub mod PolledEach
 pub mod Export

@@ -40,6 +40,7 @@ use Rattle.store.specs.Pipelines.{AreJoined, EachGoesOn, OthersStay, views_of}
 use Rattle.store.specs.PolledPipelines.{AreListed, AreWaiting, EachAsks, EachIsTold, EachLooks, IsTold, SetsFirst}
 use Rattle.store.specs.Sessions.{HasRoom, IsOf, SessionGoesOn, StoreView, known_of, said}
 use Rattle.store.proofs.AskedEach.{IsShared, at_replaced, at_taken, replaced_long, stays_behind}
+use Rattle.store.proofs.Held.{HoldNothing}
 use Rattle.store.proofs.Between.{goes_on, goes_still, known_at, on_at, well_at}
 use Rattle.store.proofs.Invoked.{goes_seen}
 
@@ -79,6 +80,13 @@ module _ (ms : List Member) (rooms : List InstalledView) (posted : ℕ) (b : Bat
         λ lt. let w = waits_at m.0.seat m.0.caller stage j (polled_of j m.0 lt m.1) in (w.0, ap (λ (z : SessionView). z.note.pending) m.2 ∙ w.1),
         λ le. let i = l.idle j m.0 le m.1 in ap (λ (z : SessionView). z.note.pending) (m.2 ∙ seen_as m.0.seat i.known i.is) ∙ i.pending,
       )
+
+  -- between two calls no session holds anything
+  pub hold_nothing : HoldNothing ms
+  hold_nothing j m at = ⊎_elim
+      (λ lt. let v = known_at m.seat m.caller b kept (stage_at stage j) (polled_of j m lt at) in (v.0, v.1, v.3))
+      (λ not. let i = l.idle j m (omega (arith, not)) at in (i.known, i.is, i.free.held))
+      (cases_lt j posted)
 
   -- as many wait as the list has calls
   pub posted_is : (n : ℕ) → n ≤ length ms → AreWaiting n (views_of ms) → posted ≡ n

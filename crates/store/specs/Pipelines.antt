@@ -1,5 +1,5 @@
 -- Several sessions of one node in one hand: which may be, and what their updates tell.
-use Rattle.std.specs.Prelude.{◌≡◌, ℕ, ◌<◌, ◌≤◌, List, ◌++◌, length, map, take, drop, None, Result, Ok}
+use Rattle.std.specs.Prelude.{◌≡◌, ℕ, zero, suc, ◌<◌, ◌≤◌, List, [], ◌∷◌, ◌++◌, length, map, take, drop, None, Result, Ok}
 use Rattle.ownlock.specs.Seats.{At}
 use Rattle.verifier.specs.declared.refusal.Mode.TheVariants.{Update}
 use Rattle.loader.specs.Installed.{InstalledView}
@@ -12,11 +12,12 @@ use Rattle.store_steps.specs.declared.pipelines.Member.{Member}
 use Rattle.store_steps.specs.declared.steps.Question.{Question}
 use Rattle.store_steps.specs.Asking.{asked_op}
 use Rattle.store_steps.specs.EachMember.{AscendEach, AsksEach, InOrder}
+use Rattle.store_steps.specs.Holds.{UpdatesInTwoHolds, session_at}
 use Rattle.store_steps.specs.Pipelines.{HasLooked, SameSpots}
 use Rattle.store_steps.specs.Questions.{first_refused_in}
 use Rattle.store_steps.specs.Standing.{SessionKnown}
 use Rattle.store_steps.specs.Updating.{UpdatesBy}
-use Rattle.store_steps.specs.Views.{IsIdle, SessionView, session_view}
+use Rattle.store_steps.specs.Views.{IsIdle, SessionView, nobody, session_view}
 use Rattle.store.specs.declared.answers.Answer.{Answer}
 use Rattle.store.specs.Sessions.{HasRoom, SessionGoesOn, StoreView, TellsUpdate, known_of, said}
 
@@ -56,6 +57,7 @@ pub record AsksFirst (old new : List Member) (calls : List Question) (replies : 
   pub same : SameSpots (take (length calls) old) asked
   pub asks : AsksEach (take (length calls) old) asked calls replies
   pub in_order : InOrder replies
+  pub held : UpdatesInTwoHolds (session_at (take (length calls) old)) (session_at asked) calls replies
 
 -- the store refuses none of these calls as an update
 abbrev pub MayUpdateEach : StoreView → List Question → Type 0
@@ -92,3 +94,14 @@ abbrev pub EachGoes : (old new : List SessionView) → List Question → List (R
 EachGoes old new calls answers =
     (j : ℕ) (s t : SessionView) (q : Question) (a : Result Answer StoreRefused) → At j s old → At j t new → At j q calls → At j a answers
     → LooksAndUpdates s t (asked_op q) a × (0 < j → LooksPostsCollects s t (asked_op q) a)
+
+-- what the session of this number knows
+abbrev pub known_at : List SessionView → ℕ → SessionKnown
+known_at [] j = nobody
+known_at (s ∷ ss) zero = known_of s
+known_at (s ∷ ss) (suc j) = known_at ss j
+
+-- The sessions of the calls' numbers made their updates by four takes in all: they had their desk in two holds, one right after the other, and the first
+-- session took its replica and the log between.
+abbrev pub HeldTwice : (old new : List SessionView) → List Question → List (Result Answer StoreRefused) → Type 0
+HeldTwice old new calls answers = (replies : List Reply) × (answers ≡ map said replies) × UpdatesInTwoHolds (known_at old) (known_at new) calls replies

@@ -1,5 +1,5 @@
 -- Several sessions of one node in one hand, which wait for nobody: how they stand between their calls, and what those tell.
-use Rattle.std.specs.Prelude.{◌≡◌, ℕ, ◌-◌, ◌<◌, ◌≤◌, List, ◌++◌, length, take, drop, Some, None, Option, Result, MatchOption, MatchResult}
+use Rattle.std.specs.Prelude.{◌≡◌, ℕ, ◌-◌, ◌<◌, ◌≤◌, List, ◌++◌, length, map, take, drop, Some, None, Option, Result, MatchOption, MatchResult}
 use Rattle.ownlock.specs.Seats.{At}
 use Rattle.loader.specs.Installed.{InstalledView}
 use Rattle.oplog.specs.declared.configuration.Sizes.{Sizes}
@@ -16,15 +16,16 @@ use Rattle.store_steps.specs.declared.steps.Question.{Question}
 use Rattle.store_steps.specs.declared.questions.QuestionRefused.{QuestionRefused}
 use Rattle.store_steps.specs.Asking.{asked_op}
 use Rattle.store_steps.specs.EachMember.{AscendEach, InOrder, LooksEach}
+use Rattle.store_steps.specs.Holds.{GoesOnAndCollects, PostsInOneHold, session_at}
 use Rattle.store_steps.specs.Pipelines.{HasLooked, SameSpots}
 use Rattle.store_steps.specs.Polling.{BeginsBy, HasAskedFor}
 use Rattle.store_steps.specs.PollingEach.{AreIdle, AreOut, BeginsEach, CompletesEach, WaitsEach}
 use Rattle.store_steps.specs.Views.{IsIdle, SessionView}
 use Rattle.store.specs.declared.answers.Answer.{Answer}
 use Rattle.store.specs.Going.{CompleteGoes}
-use Rattle.store.specs.Pipelines.{IsOnNode}
+use Rattle.store.specs.Pipelines.{IsOnNode, known_at}
 use Rattle.store.specs.Polled.{TellsCompleted}
-use Rattle.store.specs.Sessions.{HasRoom, known_of}
+use Rattle.store.specs.Sessions.{HasRoom, known_of, said}
 
 -- ---- between their calls
 
@@ -79,6 +80,14 @@ EachIsTold old new answers result =
     (j : ℕ) (s t : SessionView) (o : Pending) → At j s old → At j t new → s.note.pending ≡ Some o
     → MatchOption result (IsTold s t o None) (λ _. (a : Result Answer StoreRefused) × At j a answers × IsTold s t o (Some a))
 
+-- the sessions of the calls' numbers have posted in one hold of their desk, and the first one has claimed them all
+abbrev pub PostedAtOnce : (old new : List SessionView) → List Question → Type 0
+PostedAtOnce old new calls = (batch : BatchView) × PostsInOneHold (known_at old) (known_at new) calls batch
+
+-- the sessions of the answers' numbers have collected them in one hold of their desk, in which the first one handed them over
+abbrev pub CollectedAtOnce : (old new : List SessionView) → List (Result Answer StoreRefused) → Type 0
+CollectedAtOnce old new answers = (replies : List Reply) × (answers ≡ map said replies) × GoesOnAndCollects (known_at old) (known_at new) replies
+
 -- ---- what their first members do
 
 -- the first members, so many, are these now, and the others are as they were
@@ -100,6 +109,7 @@ pub record BeginsFirst (old new : List Member) (calls : List Question) (room : R
   pub sets : SetsFirst (length calls) old new now
   pub out : AreOut now room.batch room.replies stage
   pub begins : BeginsEach (take (length calls) old) now calls room.batch room.replies stage
+  pub held : PostsInOneHold (session_at (take (length calls) old)) (session_at now) calls room.batch
 
 -- they wait still
 pub record WaitsFirst (old new : List Member) (count : ℕ) (room : Room) (stage : EachStage) : Type 0 where
@@ -114,3 +124,4 @@ pub record FinishesFirst (old new : List Member) (count : ℕ) (room : Room) (re
   pub sets : SetsFirst count old new now
   pub completes : CompletesEach (take count old) now room.batch room.replies replies
   pub in_order : InOrder replies
+  pub held : GoesOnAndCollects (session_at (take count old)) (session_at now) replies

@@ -9,7 +9,7 @@ ghost use Rattle.store_steps.specs.Pipelines.{AreCalls, AreMembers, MayAskAt};
 ghost use Rattle.store_steps.specs.Questions.{first_refused_in};
 ghost use Rattle.store.specs.Looks.{IsRefused};
 ghost use Rattle.store.specs.Opening.{AreOf};
-ghost use Rattle.store.specs.Pipelines.{AreInOrder, AreAscending, AsksFirst, EachGoes, EachGoesOn, MayUpdateEach, OthersStay, TellsEach};
+ghost use Rattle.store.specs.Pipelines.{AreInOrder, AreAscending, AsksFirst, EachGoes, EachGoesOn, HeldTwice, MayUpdateEach, OthersStay, TellsEach};
 ghost use Rattle.store.specs.Sessions.{IsOf, said};
 ghost use Rattle.store.specs.declared.pipeline.JoinRefused.TheVariants.{NotAscending};
 
@@ -363,6 +363,7 @@ impl Pipeline {
         ensures in_order { MayUpdateEach store.now calls.now → AreInOrder answers.new }
         ensures others { OthersStay (length calls.now) self.old self.new }
         ensures goes { MayUpdateEach store.now calls.now → EachGoes self.old self.new calls.now answers.new }
+        ensures held { MayUpdateEach store.now calls.now → 0 < length calls.now → HeldTwice self.old self.new calls.now answers.new }
     {
         // This opens the sessions' invariant for the proof: a refused call uses no other part of them.
         let Pipeline {

@@ -10,7 +10,7 @@ ghost use Rattle.store_steps.specs.Questions.{first_refused_in};
 ghost use Rattle.store.specs.Looks.{IsRefused};
 ghost use Rattle.store.specs.Opening.{AreOf};
 ghost use Rattle.store.specs.Pipelines.{AreInOrder, EachGoesOn, MayUpdateEach, OthersStay};
-ghost use Rattle.store.specs.PolledPipelines.{AreWaiting, BeginsFirst, EachIsTold, FinishesFirst, Follows, LooksFirst, MayFollow, TellsListed, WaitsFirst};
+ghost use Rattle.store.specs.PolledPipelines.{AreWaiting, BeginsFirst, CollectedAtOnce, EachIsTold, FinishesFirst, Follows, LooksFirst, MayFollow, PostedAtOnce, TellsListed, WaitsFirst};
 ghost use Rattle.store.specs.Sessions.{IsOf};
 
 use crate::answers::Answer;
@@ -452,6 +452,7 @@ impl PolledPipeline {
         ensures early { IsRefused (first_refused_in Update store.now.catalogue 0 calls.now) result (self.new ≡ self.old) }
         ensures asked { MayUpdateEach store.now calls.now → TellsListed self.old self.new calls.now result }
         ensures others { OthersStay (length calls.now) self.old self.new }
+        ensures held { IfOk result (λ o. IfSome o (λ _. 0 < length calls.now → PostedAtOnce self.old self.new calls.now)) }
     {
         let PolledPipeline { members, list, .. } = self;
         check_each(store.catalogue(), Mode::Update, calls)?;
@@ -505,6 +506,7 @@ impl PolledPipeline {
         ensures answered { EachIsTold self.old self.new answers.new result }
         ensures in_order { IfSome result (λ _. AreInOrder answers.new) }
         ensures others { OthersStay (length answers.old) self.old self.new }
+        ensures held { IfSome result (λ _. 0 < length answers.new → CollectedAtOnce self.old self.new answers.new) }
     {
         let PolledPipeline { members, list, .. } = self;
         if answers.is_empty() {

@@ -4,7 +4,7 @@ use Rattle.atomic_table.proofs.Lists.{set_else, set_here}
 use Rattle.ownlock.specs.Seats.{At, IsSession}
 use Rattle.combiner.specs.Desks.{BatchView}
 use Rattle.replica.specs.Views.{RepliesView}
-use Rattle.accounts.proofs.Export.{at_below, at_one}
+use Rattle.accounts.proofs.Export.{at_below, at_one, at_there}
 use Rattle.store_steps.specs.declared.pipelines.Member.{Member}
 use Rattle.store_steps.specs.declared.steps.Question.{Question}
 use Rattle.store_steps.specs.declared.steps.Shared.{Shared}
@@ -14,12 +14,14 @@ use Rattle.store_steps.specs.Combining.{HasAnswered, HasCombined}
 use Rattle.ownlock.proofs.Export.{one_known}
 use Rattle.combiner.specs.declared.slots.Reply.{Reply}
 use Rattle.store_steps.specs.EachMember.{AscendEach, AsksEach, AsksFor, ClaimsAt, CombinesEach, GivesEach, HasRecordOf, LooksAndPosts, MayGive}
+use Rattle.store_steps.specs.Holds.{UpdatesInTwoHolds, session_at, with_first}
 use Rattle.store_steps.specs.Knowing.{Learns, Relates}
 use Rattle.store_steps.specs.Pipelines.{CollectsAt, HasLooked, KnownAt, MayAskAt, PostsAt, SameSpots}
 use Rattle.store_steps.specs.Standing.{IsFree, SessionKnown, StoreSeat}
 use Rattle.store_steps.specs.Whole.{AnswersBy, HandsOver}
 use Rattle.store_steps.proofs.AskingEach.{MemberOf, alone_then, asked_first, asked_other, claims_of, first_free, first_on, first_waits, free_looked, on_looked, one_at, member_of, was_at}
 use Rattle.store_steps.proofs.AtOnce.{asks, still_waits}
+use Rattle.store_steps.proofs.Holds.{collects_as, known_session}
 use Rattle.store_steps.proofs.Posting.{known_as}
 use Rattle.store_steps.proofs.Resumed.{free_back, free_by, shelf_then}
 
@@ -182,3 +184,50 @@ module _ (shared : Shared) (old new last : List Member) (calls : List Question) 
   pub asks_each : AsksEach old last calls replies
   asks_each zero k q known at = first_asks k q known at
   asks_each (suc j) k q known at = other_asks (suc j) (omega arith) k q known at
+
+  -- ---- its two holds
+
+  module _ (count : (0 < length calls) × (length old ≡ length calls)) (long : length replies ≡ length calls) where
+    was : (j : ℕ) → j < length calls → (k : K) × KnownAt old j k
+    was j lt = let p = at_there old j (let same_long = count.1 in omega (arith, lt, same_long)) in let m = idle j p.0 p.1 in (m.0, (p.0, p.1, m.1))
+
+    call_at : (j : ℕ) → j < length calls → (q : Question) × At j q calls
+    call_at j lt = at_there calls j lt
+
+    first_answered : (a : K) × KnownAt new 0 a × HasAnswered (claimed (was 0 count.0).0 (call_at 0 count.0).0 (was 0 count.0).1 (call_at 0 count.0).1).after a batch kept
+        × AnswersBy (was 0 count.0).1.0.caller.node (claimed (was 0 count.0).0 (call_at 0 count.0).0 (was 0 count.0).1 (call_at 0 count.0).1).after a batch kept
+    first_answered = answered (was 0 count.0).0 (call_at 0 count.0).0 (was 0 count.0).1 (call_at 0 count.0).1
+
+    first_claimed_is : session_at c.posted 0 ≡ (claimed (was 0 count.0).0 (call_at 0 count.0).0 (was 0 count.0).1 (call_at 0 count.0).1).after
+    first_claimed_is = let a = claimed (was 0 count.0).0 (call_at 0 count.0).0 (was 0 count.0).1 (call_at 0 count.0).1 in known_session c.posted 0 a.after a.is
+
+    looked_at : (j : ℕ) → j < length calls → HasLooked (session_at old j) (session_at c.posts.mid j)
+    looked_at j lt =
+        let k = was j lt in
+        let l = c.posts.looks j k.0 k.1 in
+        subst (λ (u : K × K). HasLooked u.0 u.1) (λ i. (sym (known_session old j k.0 k.1) i, sym (known_session c.posts.mid j l.0 l.1) i)) l.2
+
+    stays_at : (j : ℕ) → j < length replies → with_first first_answered.0 (session_at c.posted) j ≡ session_at new j
+    stays_at zero lt = sym (known_session new 0 first_answered.0 first_answered.1)
+    stays_at (suc j) lt =
+        let up : 0 < suc j = omega arith in
+        let low : suc j < length calls = omega (arith, lt, long) in
+        let k = was (suc j) low in
+        let q = call_at (suc j) low in
+        let l = c.posts.looks (suc j) k.0 k.1 in
+        let p = c.posts.posts.others (suc j) l.0 q.0 up q.1 l.1 in
+        known_session c.posted (suc j) p.0 p.1 ∙ sym (known_session new (suc j) p.0 (c.others (suc j) p.0 up p.1))
+
+    pub two_holds : UpdatesInTwoHolds (session_at old) (session_at last) calls replies
+    two_holds = record {
+      looked = session_at c.posts.mid;
+      looks = looked_at;
+      posted = session_at c.posted;
+      batch = batch;
+      posts = c.posts.posts.held;
+      answered = first_answered.0;
+      node = (was 0 count.0).1.0.caller.node;
+      kept = kept;
+      answers = subst (λ z. AnswersBy (was 0 count.0).1.0.caller.node z first_answered.0 batch kept) (sym first_claimed_is) first_answered.3;
+      collects = collects_as (session_at new) (session_at last) (with_first first_answered.0 (session_at c.posted)) (session_at last) batch kept replies (let some = count.0 in omega (arith, some, long)) stays_at (λ j lt i. session_at last j) g.held;
+    }

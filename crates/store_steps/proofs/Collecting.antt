@@ -5,7 +5,7 @@ use Rattle.std.proofs.lemmas.Bool.{cases_lt}
 use Rattle.atomic_table.proofs.Lists.{set_else, set_here}
 use Rattle.ownlock.proofs.Export.{one_known}
 use Rattle.ownlock.specs.Held.{held_place}
-use Rattle.ownlock.specs.Seats.{At, IsSession}
+use Rattle.ownlock.specs.Seats.{At, IsSession, TookNext}
 use Rattle.ownlock.specs.declared.shelf.Held.{Held}
 use Rattle.combiner.specs.Desks.{BatchView, DeskView, first_author}
 use Rattle.combiner.specs.declared.slots.Reply.{Reply}
@@ -19,17 +19,22 @@ use Rattle.store_steps.specs.Asking.{AwaitsAnswer}
 use Rattle.store_steps.specs.AtDesk.{HasAsked, IsTurn}
 use Rattle.store_steps.specs.Knowing.{IsOn}
 use Rattle.store_steps.specs.Lending.{desk_of}
-use Rattle.store_steps.specs.Pipelines.{AnswerWaits, AscendFrom, Begins, CollectsAt, HasDesk, HasHanded, HoldsAt, IsDesk, IsNext, IsTurnThere, KnownAt, MayTurnWith, SameSpots, SessionTurnsThere, WaitsAt, here_of, spot_of}
+use Rattle.store_steps.specs.Pipelines.{AnswerWaits, AscendFrom, Begins, CollectsAt, CollectsNext, HasDesk, HasHanded, HoldsAt, IsDesk, IsNext, IsTurnThere, KnownAt, MayTurnWith, SameSpots, SessionTurnsThere, TakesNext, WaitsAt, here_of, spot_of}
 use Rattle.store_steps.specs.Requests.{HasTurned}
 use Rattle.store_steps.specs.Updating.{TurnsBy}
+use Rattle.store_steps.specs.Visits.{PutsBack}
 use Rattle.store_steps.specs.declared.values.Value.{Value}
 use Rattle.store_steps.specs.Standing.{IsFree, SessionKnown, StoreSeat}
 use Rattle.store_steps.proofs.Gathered.{collect_keeps, turn_collects}
 use Rattle.store_steps.proofs.Handing.{desk_is, held_there}
-use Rattle.store_steps.proofs.Posting.{author_here, desk_here, set_size, set_both, set_first, set_neither, set_second}
+use Rattle.store_steps.proofs.Posting.{author_here, desk_here, known_as, set_size, set_both, set_first, set_neither, set_second}
 
 abbrev K : Type 0
 K = SessionKnown
+
+-- the session t has put a place back, and is the one session of the seat
+abbrev pub Backs : StoreSeat → K → K → Type 0
+Backs s t f = IsSession s f × PutsBack t f
 
 abbrev reply_in : Reply → Turn → Reply
 reply_in r (Collects q) = q
@@ -47,6 +52,11 @@ pub record Collecting (shared : Shared) (old : List Member) (s0 : StoreSeat) (h0
   pub desk : (member : Member) → At number member members → IsDesk (here_of shared member) h
   pub done : (x : DeskView) (j : ℕ) (f : K) (o : Pending) → desk_of h0.value ≡ Some x → j < number → Begins shared old 0 s0 h0 j f → HasAsked f o → (reply : Reply) × At j reply replies × AnswerWaits x f reply × CollectsAt members j f o reply
   pub left : (x x0 : DeskView) (j : ℕ) (f : K) → desk_of h.value ≡ Some x → desk_of h0.value ≡ Some x0 → number ≤ j → Begins shared old 0 s0 h0 j f → (reply : Reply) × AnswerWaits x f reply × AnswerWaits x0 f reply
+  -- the first member has only taken its desk, or it has put it back; and each later one that has collected took it next
+  pub still : number ≡ 0 → (t : K) → IsSession s0 t → IsSession at t
+  pub begun : 0 < number → (member : Member) (f t b : K) → At 0 member old → HasDesk s0 (here_of shared member) h0 f t → KnownAt members 0 b → PutsBack t b
+  pub next : (j : ℕ) (f a b : K) → suc j < number → KnownAt old (suc j) f → KnownAt members j a → KnownAt members (suc j) b → TakesNext a f b
+  pub comes : (j : ℕ) (t a : K) → suc j ≡ number → IsSession at t → KnownAt members j a → TookNext a.run (held_place h) h.value t
 
 -- who has a turn, and at which desk the first member began: the first member, which has the desk, or a later one
 pub turn_at : (shared : Shared) (old : List Member) (s0 : StoreSeat) (h0 : Held Value) → 0 < length old → ((member : Member) → At 0 member old → MayTurnWith (here_of shared member) s0 h0) → ((j : ℕ) → 0 < j → WaitsAt shared old j) → (number : ℕ) → number < length old
@@ -108,13 +118,13 @@ module _ (shared : Shared) (old : List Member) (s0 : StoreSeat) (h0 : Held Value
         written = subst (λ z. At number reply z) (sym writes) (set_here replies number reply (let long = inv.long in let up = inv.upto in omega (arith, long, up)))
 
         -- whoever has done so, has collected
-        collected_at : (members2 : List Member) (Q : K → Type 0) → SessionTurnsThere at (here_of shared own) h batch turn Q → ((after : K) → Q after → KnownAt members2 number after) → (f : K) (o : Pending) → Starts number f → HasAsked f o
+        collected_at : (members2 : List Member) (Q : K → K → Type 0) → SessionTurnsThere at (here_of shared own) h batch turn Q → ((t after : K) → Q t after → KnownAt members2 number after) → (f : K) (o : Pending) → Starts number f → HasAsked f o
             → (r : Reply) × At number r replies2 × AnswerWaits x0 f r × CollectsAt members2 number f o r
         collected_at members2 Q turns known f o b asked =
             let w = has f b in
             let t = turns f w.0 o w.1 asked in
             let l = inv.left x_here.0 x0 number f x_here.1 is0 (omega arith) b in
-            (reply, written, subst (λ r. AnswerWaits x0 f r) (sym (reply_is f b)) l.2, record { after = t.after; is = known t.after t.is; batch = batch; turned = subst (λ z. HasTurned f t.after o batch z) says t.turned; turns = subst (λ z. TurnsBy f t.after batch z) says t.turns })
+            (reply, written, subst (λ r. AnswerWaits x0 f r) (sym (reply_is f b)) l.2, record { after = t.after; is = known w.0 t.after t.is; batch = batch; turned = subst (λ z. HasTurned f t.after o batch z) says t.turned; turns = subst (λ z. TurnsBy f t.after batch z) says t.turns })
 
         -- those that collected before have done so still
         before_at : (members2 : List Member) → ((i : ℕ) → i < number → get_elem? members2 i ≡ get_elem? members i) → (x : DeskView) (j : ℕ) (f : K) (o : Pending) → desk_of h0.value ≡ Some x → j < number → Starts j f → HasAsked f o
@@ -122,6 +132,38 @@ module _ (shared : Shared) (old : List Member) (s0 : StoreSeat) (h0 : Held Value
         before_at members2 same x j f o e lt b asked =
             let d = inv.done x j f o e lt b asked in
             (d.0, subst (λ z. At j d.0 z) (sym writes) (set_else replies number j reply (λ q. omega (arith, q, lt)) ∙ d.1), d.2, record { after = d.3.after; is = (d.3.is.0, same j lt ∙ d.3.is.1, d.3.is.2); batch = d.3.batch; turned = d.3.turned; turns = d.3.turns })
+
+        -- its turn is over: the members before it are as they were, and whoever had the desk has put it back, and is its session
+        module _ (members2 : List Member) (other : (j : ℕ) (f : K) → j < number → KnownAt members2 j f → KnownAt members j f)
+            (put : (f t b : K) (o : Pending) → HasDesk at (here_of shared own) h f t → HasAsked f o → KnownAt members2 number b → PutsBack t b) where
+          begun_then : (o : Pending) → HasAsked cur.0 o → (member : Member) (f t b : K) → At 0 member old → HasDesk s0 (here_of shared member) h0 f t → KnownAt members2 0 b → PutsBack t b
+          begun_then o asked member f t b at_m d is_b = ⊎_elim
+              (λ later. inv.begun later member f t b at_m d (other 0 b later is_b))
+              (λ none.
+              let zero_is : number ≡ 0 = omega (arith, none) in
+              let w = has cur.0 cur.1 in
+              let same = one_known at w.0 t w.1.is (inv.still zero_is t d.is) in
+              subst (λ z. PutsBack z b) same (put cur.0 w.0 b o w.1 asked (subst (λ i. KnownAt members2 i b) (sym zero_is) is_b)))
+              (cases_lt 0 number)
+
+          next_then : ((j : ℕ) → 0 < j → WaitsAt shared old j) → (j : ℕ) (f a b : K) → suc j ≤ number → KnownAt old (suc j) f → KnownAt members2 j a → KnownAt members2 (suc j) b → TakesNext a f b
+          next_then waits j f a b le is_f is_a is_b = ⊎_elim
+              (λ below. inv.next j f a b below is_f (other j a (omega (arith, below)) is_a) (other (suc j) b below is_b))
+              (λ not.
+              let same : suc j ≡ number = omega (arith, not, le) in
+              let starts = subst (λ i. Starts i f) same (λ e. absurd (omega (arith, e)), λ n. is_f) in
+              let w = has f starts in
+              let v = waits (suc j) (omega arith) is_f.0 is_f.1 in
+              let known = subst (λ z. HasAsked z v.1) (one_known is_f.0.seat v.0 f v.2 is_f.2) v.4 in
+              record {
+                place = held_place h;
+                value = h.value;
+                now = w.0;
+                took = w.1.took;
+                next = inv.comes j w.0 a same w.1.is (other j a (omega (arith, same)) is_a);
+                put = put f w.0 b v.1 w.1 known (subst (λ i. KnownAt members2 i b) same is_b);
+              })
+              (cases_lt (suc j) number)
 
         -- it hands the desk on to the next member
         module _ (n : ℕ) (is : n ≡ suc number) (more : n < length old) (waits : (j : ℕ) → 0 < j → WaitsAt shared old j) (up : AscendFrom shared old s0 h0) (after : Member) (at_n : At n after members) (near : own.caller.node ≡ after.caller.node) (next hollow done : StoreSeat) (split : (k : K) (ks : List K) → after.seat.sessions ≡ k ∷ ks → next.sessions ≡ k ∷ [])
@@ -175,6 +217,26 @@ module _ (shared : Shared) (old : List Member) (s0 : StoreSeat) (h0 : Held Value
               let same = desk_is h2.value y_here.0 x y_here.2 e in
               (l.0, subst (λ u. AnswerWaits u f l.0) same (collect_keeps own.caller.slot x_here.0 y_here.0 cur.0 f reply l.0 y_here.1 (own_here cur.0 cur.1) (λ q. omega (arith, q, lower)) l.1), l.2)
 
+          -- a member before it has the session that it had
+          was_known : (j : ℕ) (f : K) → j < number → KnownAt members2 j f → KnownAt members j f
+          was_known j f lt known = (known.0, sym (ap (λ z. get_elem? z j) sets ∙ set_neither members n number (record after { seat = hollow }) (record own { seat = done }) j (λ e. omega (arith, e, lt, is)) (λ e. omega (arith, e, lt))) ∙ known.1, known.2)
+
+          -- the member of the number is the session that handed the desk on
+          handed_on : (f t b : K) (o : Pending) (d : HasDesk at (here_of shared own) h f t) (asked : HasAsked f o) → KnownAt members2 number b → (hands waits_n.0 (next_is waits_n.0 waits_n.2) f t o d asked).after ≡ b
+          handed_on f t b o d asked known =
+              let p = hands waits_n.0 (next_is waits_n.0 waits_n.2) f t o d asked in
+              one_known done p.after b p.is.done_is (known_as members2 number b (record own { seat = done }) (in_two number (record own { seat = done }) (set_second members n number own (record after { seat = hollow }) (record own { seat = done }) n_after at_own)) known)
+
+          put_back : (f t b : K) (o : Pending) (d : HasDesk at (here_of shared own) h f t) (asked : HasAsked f o) → KnownAt members2 number b → PutsBack t b
+          put_back f t b o d asked known = subst (PutsBack t) (handed_on f t b o d asked known) (hands waits_n.0 (next_is waits_n.0 waits_n.2) f t o d asked).is.put
+
+          comes2 : (o : Pending) → HasAsked cur.0 o → (j : ℕ) (t a : K) → suc j ≡ n → IsSession at2 t → KnownAt members2 j a → TookNext a.run (held_place h2) h2.value t
+          comes2 o asked j t a same at_t is_a =
+              let w = has cur.0 cur.1 in
+              let p = hands waits_n.0 (next_is waits_n.0 waits_n.2) cur.0 w.0 o w.1 asked in
+              let here = subst (λ i. KnownAt members2 i a) (omega (arith, same, is)) is_a in
+              subst (λ (z : K × K). TookNext z.0.run (held_place h2) h2.value z.1) (λ i. (handed_on cur.0 w.0 a o w.1 asked here i, one_known at2 p.is.now t p.is.is at_t i)) p.is.next
+
           pub collecting_on : (o : Pending) → HasAsked cur.0 o → Collecting shared old s0 h0 members2 n at2 h2 replies2
           collecting_on o asked = record {
             spots = ap (map spot_of) sets ∙ (set_both members n number after own (record after { seat = hollow }) (record own { seat = done }) n_after at_n at_own (λ i. (after.caller, hs i)) (λ i. (own.caller, ds i)) ∙ inv.spots);
@@ -191,13 +253,36 @@ module _ (shared : Shared) (old : List Member) (s0 : StoreSeat) (h0 : Held Value
                 let m = next_is waits_n.0 waits_n.2 in
                 subst (λ i. (r : Reply) × At i r replies2 × AnswerWaits x f r × CollectsAt members2 i f q r) (sym same)
                 (subst (λ u. (r : Reply) × At number r replies2 × AnswerWaits u f r × CollectsAt members2 number f q r) (desk_is h0.value x0 x is0 e)
-                (collected_at members2 (HasHanded at2 done h2 waits_n.0) (hands waits_n.0 m) (λ k p. (record own { seat = done }, in_two number (record own { seat = done }) (set_second members n number own (record after { seat = hollow }) (record own { seat = done }) n_after at_own), p.done_is)) f q (subst (λ i. Starts i f) same b) a)))
+                (collected_at members2 (HasHanded at2 done h2 waits_n.0) (hands waits_n.0 m) (λ t k p. (record own { seat = done }, in_two number (record own { seat = done }) (set_second members n number own (record after { seat = hollow }) (record own { seat = done }) n_after at_own), p.done_is)) f q (subst (λ i. Starts i f) same b) a)))
                 (cases_lt j number);
             left = left2;
+            still = λ e. absurd (omega (arith, e, is));
+            begun = λ _. begun_then members2 was_known put_back o asked;
+            next = λ j f a b lt. next_then members2 was_known put_back waits j f a b (omega (arith, lt, is));
+            comes = comes2 o asked;
           }
 
         -- the last member puts the desk back
-        module _ (members2 : List Member) (back : StoreSeat) (bs : back.shelf ≡ own.seat.shelf) (sets : members2 ≡ set members number (record own { seat = back })) (turns : SessionTurnsThere at (here_of shared own) h batch turn (IsSession back)) where
+        module _ (members2 : List Member) (back : StoreSeat) (bs : back.shelf ≡ own.seat.shelf) (sets : members2 ≡ set members number (record own { seat = back })) (turns : SessionTurnsThere at (here_of shared own) h batch turn (Backs back)) where
+          at_last : At number (record own { seat = back }) members2
+          at_last = ap (λ z. get_elem? z number) sets ∙ set_here members number (record own { seat = back }) (at_below members number own at_own)
+
+          -- a member before it has the session that it had
+          kept_known : (j : ℕ) (f : K) → j < number → KnownAt members2 j f → KnownAt members j f
+          kept_known j f lt known = (known.0, sym (ap (λ z. get_elem? z j) sets ∙ set_else members number j (record own { seat = back }) (λ e. omega (arith, e, lt))) ∙ known.1, known.2)
+
+          -- whoever had the desk has put it back, and is the session of the last member
+          last_back : (f t b : K) (o : Pending) (d : HasDesk at (here_of shared own) h f t) → HasAsked f o → KnownAt members2 number b → PutsBack t b
+          last_back f t b o d asked known =
+              let p = turns f t o d asked in
+              subst (PutsBack t) (one_known back p.after b p.is.0 (known_as members2 number b (record own { seat = back }) at_last known)) p.is.1
+
+          pub all_next : length old ≡ suc number → (o : Pending) → HasAsked cur.0 o → ((j : ℕ) → 0 < j → WaitsAt shared old j) → CollectsNext shared old members2 s0 h0
+          all_next end o asked waits = (
+            begun_then members2 kept_known last_back o asked,
+            λ j f a b is_f. let lt = at_below old (suc j) is_f.0 is_f.1 in next_then members2 kept_known last_back waits j f a b (omega (arith, lt, end)) is_f,
+          )
+
           pub all_collected : (x : DeskView) (j : ℕ) (f : K) (o : Pending) → desk_of h0.value ≡ Some x → j ≤ number → Starts j f → HasAsked f o → (r : Reply) × At j r replies2 × AnswerWaits x f r × CollectsAt members2 j f o r
           all_collected x j f o e le b asked = ⊎_elim
               (λ before. before_at members2 (λ i low. ap (λ z. get_elem? z i) sets ∙ set_else members number i (record own { seat = back }) (λ s. omega (arith, s, low))) x j f o e before b asked)
@@ -205,5 +290,5 @@ module _ (shared : Shared) (old : List Member) (s0 : StoreSeat) (h0 : Held Value
               let same : j ≡ number = omega (arith, not, le) in
               subst (λ i. (r : Reply) × At i r replies2 × AnswerWaits x f r × CollectsAt members2 i f o r) (sym same)
               (subst (λ u. (r : Reply) × At number r replies2 × AnswerWaits u f r × CollectsAt members2 number f o r) (desk_is h0.value x0 x is0 e)
-              (collected_at members2 (IsSession back) turns (λ k p. (record own { seat = back }, ap (λ z. get_elem? z number) sets ∙ set_here members number (record own { seat = back }) (at_below members number own at_own), p)) f o (subst (λ i. Starts i f) same b) asked)))
+              (collected_at members2 (Backs back) turns (λ t k p. (record own { seat = back }, at_last, p.0)) f o (subst (λ i. Starts i f) same b) asked)))
               (cases_lt j number)

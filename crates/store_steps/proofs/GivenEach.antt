@@ -3,7 +3,7 @@ use Rattle.std.proofs.Common.{◌≡◌, ◌≢◌, ℕ, zero, suc, ◌+◌, ◌
 use Rattle.std.proofs.lemmas.Option.{same_Some}
 use Rattle.atomic_table.proofs.Lists.{set_else, set_here}
 use Rattle.ownlock.proofs.Export.{one_known}
-use Rattle.ownlock.specs.Seats.{At, IsSession}
+use Rattle.ownlock.specs.Seats.{At, IsSession, TookNext}
 use Rattle.ownlock.specs.declared.shelf.Held.{Held}
 use Rattle.combiner.specs.Desks.{BatchView, DeskView, IsAnswered, IsBatchOf, answer_for, replied}
 use Rattle.combiner.specs.declared.slots.Reply.{Reply}
@@ -55,6 +55,7 @@ pub record Given (shared : Shared) (own : Member) (batch : BatchView) (kept : Re
   pub gives : HandsOver own.caller.node k combined batch kept
   pub now : K
   pub desk : HasDesk s2 (here_of shared own) h2 combined now
+  pub next : TookNext combined.run (held_place h2) h2.value now
   pub x0 : DeskView
   pub of : IsBatchOf x0 b
   pub is2 : desk_of h2.value ≡ Some (replied b x0)
@@ -82,6 +83,7 @@ given_of shared own batch kept moved s1 h1 s2 h2 b split may takes place keeps r
       gives = p.gives;
       now = p.now;
       desk = p.desk;
+      next = p.next;
       x0 = x.0;
       of = o.0;
       is2 = o.1;

@@ -41,7 +41,7 @@ use Rattle.store_steps.specs.Shelving.{session_noting, store_rules, view_of}
 use Rattle.accounts.specs.Picks.{put_progress, put_note}
 use Rattle.store_steps.specs.Standing.{IsFree, SessionKnown, Stands, StoreSeat}
 use Rattle.store_steps.specs.Updating.{PostsBy, TurnsBy}
-use Rattle.store_steps.specs.Visits.{HasDesk as TookDesk, TurnsThere as TurnsAndPuts}
+use Rattle.store_steps.specs.Visits.{HasDesk as TookDesk, PutsBack, TurnsThere as TurnsAndPuts}
 use Rattle.store_steps.proofs.AtDesk.{is_batch}
 use Rattle.store_steps.proofs.Combined.{handed, puts_replied, ready_on}
 use Rattle.store_steps.proofs.Resumed.{asked_by, free_by, shelf_then}
@@ -154,8 +154,8 @@ held_there s here h k t d place =
 pub was_turn : (here : Here) (h : Held Value) (batch : BatchView) (turn : Turn) → ((x : DeskView) → desk_of h.value ≡ Some x → (y : DeskView) × IsTurn here.caller.slot x y batch turn) → IsTurnThere here h batch turn (λ y. Unit {0})
 was_turn here h batch turn had x is = let y = had x is in (y.0, y.1, tt)
 
-pub session_turns : (s new : StoreSeat) (here : Here) (h : Held Value) → IsDesk here h → (batch : BatchView) (turn : Turn) → TurnsAndPuts s new here.caller (held_place h) h.value batch turn → SessionTurnsThere s here h batch turn (IsSession new)
-session_turns s new here h place batch turn turns k t o d asked = let u = turns k t o d.is (taken s here h k t d place) asked in record { after = u.0; is = u.1; turned = u.2; turns = u.3 }
+pub session_turns : (s new : StoreSeat) (here : Here) (h : Held Value) → IsDesk here h → (batch : BatchView) (turn : Turn) → TurnsAndPuts s new here.caller (held_place h) h.value batch turn → SessionTurnsThere s here h batch turn (λ t f. IsSession new f × PutsBack t f)
+session_turns s new here h place batch turn turns k t o d asked = let u = turns k t o d.is (taken s here h k t d place) asked in record { after = u.0; is = (u.1, u.4); turned = u.2; turns = u.3 }
 
 module _ (s : StoreSeat) (here : Here) (h : Held Value) (k t : K) (d : HasDesk s here h k t) (place : IsDesk here h) (batch : BatchView) (kept : RepliesView) (ready : IsReady k batch kept) (stands : Stands k) where
   pub ready_there : IsReady t batch kept

@@ -32,6 +32,7 @@ pub mod Handing
 pub mod Gathered
 pub mod Posting
 pub mod Collecting
+pub mod Holds
 pub mod PostedEach
 pub mod GivenEach
 pub mod AskingEach

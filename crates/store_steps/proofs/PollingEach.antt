@@ -28,6 +28,7 @@ use Rattle.store_steps.specs.declared.steps.Shared.{Shared}
 use Rattle.store_steps.specs.Asking.{AwaitsAnswer, asked_op}
 use Rattle.store_steps.specs.Combining.{HasAnswered}
 use Rattle.store_steps.specs.EachMember.{AllRequested, AscendEach, GivesEach, HasRecordOf, LooksEach, MayGive, PostsEach}
+use Rattle.store_steps.specs.Holds.{session_at}
 use Rattle.store_steps.specs.Knowing.{Relates}
 use Rattle.store_steps.specs.Pipelines.{KnownAt, MayAskAt, SameSpots, spot_of}
 use Rattle.store_steps.specs.Polling.{BeginsBy, DeedsGo}
@@ -39,9 +40,10 @@ use Rattle.store_steps.specs.Trying.{IsStill}
 use Rattle.store_steps.specs.Updating.{Answers, ClaimsIt, Deeds, Gives, Rests, Tries}
 use Rattle.store_steps.specs.Views.{SessionView, session_view}
 use Rattle.store_steps.specs.Whole.{AnswersBy}
-use Rattle.store_steps.proofs.AskingEach.{was_at}
+use Rattle.store_steps.proofs.AskingEach.{spots_below, was_at}
 use Rattle.store_steps.proofs.Begun.{asking_still, begun_combining, begun_waiting, deeds_on, gone_then, one_deed, seat_of}
 use Rattle.store_steps.proofs.Gone.{asked_of, collects_gone, held_gone, on_known, ran_gone, stays_gone}
+use Rattle.store_steps.proofs.Holds.{known_session}
 use Rattle.store_steps.proofs.Posting.{known_as, map_set}
 use Rattle.store_steps.proofs.Resumed.{free_by, shelf_then}
 use Rattle.store_steps.proofs.StoreLaws.{store_laws}
@@ -305,3 +307,12 @@ completes_after old mid new b c kept now stage replies first last out waits comp
       gone_after p.seat m.0.seat q.seat p.caller b c kept now (stage_at stage j) Idle (Collected d.0) w.0 (subst (λ z. HasGone m.0.seat q.seat z c now Idle (Collected d.0)) (same_caller old mid first j p m.0 at_p m.1) d.2),
       λ l after is at. deeds_after l k.0 after (Collected d.0) (w.1 l k.0 is k.1) (d.3 k.0 after k.1 at),
     )
+
+-- what each of them did before it collects
+pub deeds_between : (old mid : List Member) (b : BatchView) (kept now : RepliesView) (stage next : EachStage) → SameSpots old mid → AreOut old b kept stage → AreOut mid b now next → WaitsEach old mid b now next → (j : ℕ) → j < length old → Deeds (session_at old j) (session_at mid j)
+deeds_between old mid b kept now stage next same out out2 waits j lt =
+    let p = at_there old j lt in
+    let q = at_there mid j (spots_below old mid same j lt) in
+    let k = known_in p.0.seat p.0.caller b kept (stage_at stage j) (out.polled j p.0 p.1) in
+    let f = known_in q.0.seat q.0.caller b now (stage_at next j) (out2.polled j q.0 q.1) in
+    subst (λ (z : K × K). Deeds z.0 z.1) (λ i. (sym (known_session old j k.0 (p.0, p.1, k.1)) i, sym (known_session mid j f.0 (q.0, q.1, f.1)) i)) ((waits j p.0 q.0 p.1 q.1).1 k.0 f.0 k.1 f.1)

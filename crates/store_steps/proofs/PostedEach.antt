@@ -8,11 +8,14 @@ use Rattle.combiner.specs.Desks.{BatchView}
 use Rattle.store_steps.specs.declared.pipelines.Member.{Member}
 use Rattle.store_steps.specs.declared.steps.Shared.{Shared}
 use Rattle.store_steps.specs.declared.values.Value.{Value}
-use Rattle.accounts.proofs.Export.{at_below}
-use Rattle.store_steps.specs.EachMember.{AllRequested, HasRecordOf, LooksEach}
+use Rattle.accounts.proofs.Export.{at_below, at_one}
+use Rattle.oplog.specs.Operations.{Operation}
+use Rattle.store_steps.specs.EachMember.{AllRequested, ClaimsAt, HasRecordOf, IsSetFirst, LooksEach}
 use Rattle.store_steps.specs.Knowing.{Learns}
 use Rattle.store_steps.specs.Pipelines.{Begins, HasLooked, KnownAt, SessionTakes, here_of}
 use Rattle.store_steps.specs.Standing.{SessionKnown, StoreSeat}
+use Rattle.store_steps.specs.Updating.{PostsBy}
+use Rattle.store_steps.proofs.AskingEach.{was_at}
 use Rattle.store_steps.proofs.Handing.{not_looked}
 use Rattle.store_steps.proofs.Posting.{known_as}
 
@@ -51,3 +54,23 @@ module _ (old : List Member) (last : ℕ) (own : Member) (at_own : At last own o
 pub requested : (members : List Member) (batch : BatchView) → ((k : K) → KnownAt members 0 k → HasRecordOf batch.records k.session) → ((j : ℕ) (k : K) → 0 < j → KnownAt members j k → HasRecordOf batch.records k.session) → AllRequested members batch
 requested members batch first others zero k known = first k known
 requested members batch first others (suc j) k known = others (suc j) k (omega arith) known
+
+-- another member than the first has the session that it had
+pub was_known : (old new : List Member) → IsSetFirst old new → (j : ℕ) (k : K) → 0 < j → KnownAt new j k → KnownAt old j k
+was_known old new is_set j k lt known =
+    let o = was_at old new is_set.0 j known.0 known.1 in
+    (o.0, o.1, subst (λ (z : Member). IsSession z.seat k) (sym (at_one new j o.0 known.0 (is_set.1 j o.0 lt o.1) known.1)) known.2)
+
+-- what the first member has claimed, by another name of the operation
+abbrev pub claims_as : (members : List Member) (k : K) (op now : Operation) (batch : BatchView) → op ≡ now → ClaimsAt members k op batch → ClaimsAt members k now batch
+claims_as members k op now batch same c = record {
+  asked = c.asked;
+  posted = record { back = c.posted.back; request = c.posted.request; op_is = c.posted.op_is ∙ same; seen = c.posted.seen; note = c.posted.note };
+  posts = subst (PostsBy k c.asked) same c.posts;
+  after = c.after;
+  is = c.is;
+  turned = c.turned;
+  turns = c.turns;
+  own = c.own;
+  again = c.again;
+}

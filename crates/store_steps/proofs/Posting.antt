@@ -5,7 +5,8 @@ use mathlib.Core.Option.{some-injective}
 use Rattle.std.proofs.lemmas.Bool.{cases_lt}
 use Rattle.atomic_table.proofs.Lists.{at_index, set_else, set_here}
 use Rattle.ownlock.proofs.Export.{one_known}
-use Rattle.ownlock.specs.Seats.{At, IsSession}
+use Rattle.ownlock.specs.Held.{held_place}
+use Rattle.ownlock.specs.Seats.{At, IsSession, TookNext}
 use Rattle.ownlock.specs.declared.shelf.Held.{Held}
 use Rattle.oplog.specs.Operations.{Operation}
 use Rattle.combiner.specs.Desks.{BatchView, DeskView, batch_of, first_author, posted}
@@ -21,7 +22,7 @@ use Rattle.store_steps.specs.Asking.{asked_op}
 use Rattle.store_steps.specs.AtOnce.{IsAlone, MayAsk}
 use Rattle.store_steps.specs.Knowing.{IsOn}
 use Rattle.store_steps.specs.Lending.{desk_of}
-use Rattle.store_steps.specs.Pipelines.{Asks, Begins, HasDesk, HasNoCombiner, HoldsAt, IsDesk, IsNext, IsPosted, IsTurnThere, KnownAt, MayAskAt, MayPostWith, PostsAt, SameSpots, SessionHands, here_of, spot_of}
+use Rattle.store_steps.specs.Pipelines.{Asks, Begins, HasDesk, HasNoCombiner, HoldsAt, IsDesk, IsNext, IsPosted, IsTurnThere, KnownAt, MayAskAt, MayPostWith, PostsAt, SameSpots, SessionHands, TakesNext, here_of, spot_of}
 use Rattle.store_steps.specs.Standing.{IsFree, SessionKnown, StoreSeat}
 use Rattle.store_steps.proofs.Gathered.{post_asks, post_keeps, post_leaves_free, turn_claims}
 use Rattle.store_steps.proofs.Handing.{desk_is, taken}
@@ -136,6 +137,8 @@ pub record Posting (shared : Shared) (old : List Member) (calls : List Question)
   pub posted : (j : ℕ) (f : K) (q : Question) → number < j → At j q calls → Begins shared old (length calls - 1) s0 h0 j f → PostsAt members j f (asked_op q)
   pub free : HasNoCombiner h0 → HasNoCombiner h
   pub asks : (x : DeskView) (j : ℕ) (f : K) → desk_of h.value ≡ Some x → number < j → Begins shared old (length calls - 1) s0 h0 j f → Asks x f
+  pub next : (j : ℕ) (f a b : K) → number < j → suc j < length calls → Begins shared old (length calls - 1) s0 h0 j f → KnownAt members j a → KnownAt members (suc j) b → TakesNext b f a
+  pub comes : (t b : K) → suc number < length calls → IsSession at t → KnownAt members (suc number) b → TookNext b.run (held_place h) h.value t
 
 module _ (shared : Shared) (old : List Member) (calls : List Question) (s0 : StoreSeat) (h0 : Held Value) where
   abbrev Starts : ℕ → K → Type 0
@@ -228,6 +231,40 @@ module _ (shared : Shared) (old : List Member) (calls : List Question) (s0 : Sto
           post_asks f own.caller.slot op x_here.0 y (becomes y e) (author_here shared at h own f w.0 w.1 (inv.desk own at_own) x_here.0 x_here.1))
           (cases_lt number j)
 
+      -- a member that is neither has the session that it had
+      was_known : (j : ℕ) (f : K) → j ≢ m → j ≢ number → KnownAt members2 j f → KnownAt members j f
+      was_known j f nm nn known = (known.0, sym (ap (λ z. get_elem? z j) sets ∙ set_neither members m number (record before { seat = hollow }) (record own { seat = done }) j nm nn) ∙ known.1, known.2)
+
+      -- the member of the number is the session that handed the desk on
+      handed_on : (f t a : K) (d : HasDesk at (here_of shared own) h f t) (alone : IsAlone f) → KnownAt members2 number a → (hands f t next_some.0 d alone next_some.1).asked ≡ a
+      handed_on f t a d alone known =
+          let p = hands f t next_some.0 d alone next_some.1 in
+          let w = known_as members2 number a (record own { seat = done }) (in_two number (record own { seat = done }) (set_second members m number own (record before { seat = hollow }) (record own { seat = done }) m_before at_own)) known in
+          one_known done p.asked a p.handed.done_is w
+
+      next2 : (j : ℕ) (f a b : K) → m < j → suc j < length calls → Starts j f → KnownAt members2 j a → KnownAt members2 (suc j) b → TakesNext b f a
+      next2 j f a b lt few starts is_a is_b = ⊎_elim
+          (λ above. inv.next j f a b above few starts (was_known j a (λ e. omega (arith, e, lt)) (λ e. omega (arith, e, above)) is_a) (was_known (suc j) b (λ e. omega (arith, e, lt)) (λ e. omega (arith, e, above)) is_b))
+          (λ not.
+          let same : j ≡ number = omega (arith, not, lt, is) in
+          let b2 = subst (λ i. Starts i f) same starts in
+          let w = has f b2 in
+          let up : suc number < length calls = omega (arith, same, few) in
+          let is_b2 = subst (λ i. KnownAt members2 (suc i) b) same is_b in
+          let after = was_known (suc number) b (λ e. omega (arith, e, is)) (λ e. omega (arith, e)) is_b2 in
+          let is_a2 = subst (λ i. KnownAt members2 i a) same is_a in
+          let p = hands f w.0 next_some.0 w.1 (alone f b2) next_some.1 in
+          subst (TakesNext b f) (handed_on f w.0 a w.1 (alone f b2) is_a2)
+          (record { place = held_place h; value = h.value; now = w.0; took = w.1.took; next = inv.comes w.0 b up w.1.is after; put = p.handed.put }))
+          (cases_lt number j)
+
+      comes2 : (t b : K) → suc m < length calls → IsSession at2 t → KnownAt members2 (suc m) b → TookNext b.run (held_place h2) h2.value t
+      comes2 t b few at_t is_b =
+          let w = has cur.0 cur.1 in
+          let p = hands cur.0 w.0 next_some.0 w.1 (alone cur.0 cur.1) next_some.1 in
+          let is_b2 = subst (λ i. KnownAt members2 i b) (sym is) is_b in
+          subst (λ (z : K × K). TookNext z.0.run (held_place h2) h2.value z.1) (λ i. (handed_on cur.0 w.0 b w.1 (alone cur.0 cur.1) is_b2 i, one_known at2 p.handed.now t p.handed.is at_t i)) p.handed.next
+
       pub posting_on : Posting shared old calls s0 h0 members2 m at2 h2
       posting_on = record {
         spots = ap (map spot_of) sets ∙ (set_both members m number before own (record before { seat = hollow }) (record own { seat = done }) m_before at_m at_own (λ i. (before.caller, hs i)) (λ i. (own.caller, ds i)) ∙ inv.spots);
@@ -240,6 +277,8 @@ module _ (shared : Shared) (old : List Member) (calls : List Question) (s0 : Sto
         posted = posted2;
         free = λ none y e. post_leaves_free own.caller.slot op x_here.0 y (becomes y e) (inv.free none x_here.0 x_here.1);
         asks = asks2;
+        next = next2;
+        comes = comes2;
       }
 
 -- ---- the first member claims

@@ -18,11 +18,13 @@ use Rattle.store_steps.specs.Asking.{asked_op}
 use Rattle.store_steps.specs.AtDesk.{HasAsked}
 use Rattle.store_steps.specs.AtOnce.{IsAlone, MayHandOver, StillWaits}
 use Rattle.store_steps.specs.Combining.{HasAnswered, HasCombined}
+use Rattle.store_steps.specs.Holds.{CollectsInOneHold, PostsInOneHold, session_at}
 use Rattle.store_steps.specs.Lending.{desk_of}
-use Rattle.store_steps.specs.Pipelines.{AreCalls, AreMembers, Asks, CollectsAt, HasDesk, HasLooked, KnownAt, MayAskAt, PostsAt, SameSpots, WaitsAt, here_of}
+use Rattle.store_steps.specs.Pipelines.{AreCalls, AreMembers, Asks, CollectsAt, HasDesk, HasLooked, KnownAt, MayAskAt, PostsAt, SameSpots, TakesNext, WaitsAt, here_of}
 use Rattle.store_steps.specs.Requests.{HasCompleted, HasPosted, HasTurned}
 use Rattle.store_steps.specs.Standing.{SessionKnown, StoreSeat}
 use Rattle.store_steps.specs.Updating.{PostsBy, TurnsBy, UpdatesBy}
+use Rattle.store_steps.specs.Visits.{PutsBack}
 use Rattle.store_steps.specs.Whole.{AnswersBy, HandsOver}
 
 -- some record is this author's
@@ -45,11 +47,13 @@ pub record ClaimsAt (members : List Member) (f : SessionKnown) (op : Operation) 
   pub turned : HasTurned asked after posted.request batch Combines
   pub turns : TurnsBy asked after batch Combines
   pub own : HasRecordOf batch.records f.session
+  -- it had its desk again by the very step after its post
+  pub again : TakesNext asked asked after
 
 -- whichever session had the desk as the first member has posted and claimed
 abbrev pub ClaimsFirst : Shared → (old new : List Member) → Operation → StoreSeat → Held Value → BatchView → Type 0
 ClaimsFirst shared old new op s h batch =
-    (member : Member) (f t : SessionKnown) → At 0 member old → HasDesk s (here_of shared member) h f t → IsAlone f → ClaimsAt new f op batch
+    (member : Member) (f t : SessionKnown) → At 0 member old → HasDesk s (here_of shared member) h f t → IsAlone f → (c : ClaimsAt new f op batch) × PutsBack t c.asked
 
 -- all other members are as they were
 abbrev pub IsSetFirst : (old new : List Member) → Type 0
@@ -72,6 +76,7 @@ pub record PostsEach (old new : List Member) (calls : List Question) (batch : Ba
   pub first : (k : SessionKnown) (q : Question) → At 0 q calls → KnownAt old 0 k → ClaimsAt new k (asked_op q) batch
   pub others : (j : ℕ) (k : SessionKnown) (q : Question) → 0 < j → At j q calls → KnownAt old j k → PostsAt new j k (asked_op q)
   pub requests : (j : ℕ) (k : SessionKnown) → KnownAt old j k → HasRecordOf batch.records k.session
+  pub held : PostsInOneHold (session_at old) (session_at new) calls batch
 
 -- each member has looked, and then posted its call, and the first one has claimed them all
 pub record LooksAndPosts (old new : List Member) (calls : List Question) (batch : BatchView) : Type 0 where
@@ -118,6 +123,7 @@ pub record GivesEach (old new : List Member) (batch : BatchView) (kept : Replies
       → (combined : SessionKnown) × (reply : Reply) × At 0 reply replies × HasCombined k combined × HandsOver member.caller.node k combined batch kept × CollectsAt new 0 combined o reply
   pub others : (j : ℕ) (k : SessionKnown) (o : Pending) → 0 < j → KnownAt old j k → HasAsked k o → (reply : Reply) × At j reply replies × CollectsAt new j k o reply
   pub in_order : InOrder replies
+  pub held : CollectsInOneHold (session_at old) (session_at new) batch kept replies
 
 -- ---- the whole call
 

@@ -37,6 +37,8 @@ pub mod AtOnce
 pub mod Polling
 -- Updates of several sessions of one node in two holds of its desk.
 pub mod Pipelines
+-- That they have the desk one right after the other.
+pub mod Holds
 -- What the members of a pipeline do in each hold, and in the whole call.
 pub mod EachMember
 -- A list of updates whose sessions wait for nobody.

@@ -1,5 +1,5 @@
 -- Sessions of one node, each with a seat of its own, which hand their node's desk from one to the next.
-use Rattle.std.specs.Prelude.{◌≡◌, ◌≢◌, ℕ, ◌+◌, ◌-◌, ◌<◌, List, length, map, false, Some}
+use Rattle.std.specs.Prelude.{◌≡◌, ◌≢◌, ℕ, suc, ◌+◌, ◌-◌, ◌<◌, List, length, map, false, Some}
 use Rattle.ownlock.specs.Held.{held_place}
 use Rattle.ownlock.specs.Seats.{At, IsSession, ShelfId, TookNext}
 use Rattle.ownlock.specs.Knowledge.{Acquired}
@@ -34,6 +34,7 @@ use Rattle.store_steps.specs.Requests.{HasPosted, HasTurned}
 use Rattle.store_steps.specs.Shelving.{store_rules}
 use Rattle.store_steps.specs.Standing.{IsFree, SessionKnown, Stands, StoreSeat}
 use Rattle.store_steps.specs.Updating.{AtItsDesk, PostsBy, TurnsBy}
+use Rattle.store_steps.specs.Visits.{PutsBack}
 use Rattle.store_steps.specs.Whole.{HandsOver}
 
 -- the held value is of the desk of this node
@@ -62,38 +63,49 @@ pub record IsNext (s : StoreSeat) (here : Here) (m : SessionKnown) : Type 0 wher
 abbrev pub IsPosted : Here → Operation → (before after : Held Value) → Type 0
 IsPosted here op before after = (x : DeskView) → desk_of before.value ≡ Some x → posted here.caller.slot op x ≡ desk_of after.value
 
--- the session f has put its desk back, and the session m has it by the very next step
-pub record HasHanded (at done : StoreSeat) (h : Held Value) (m f : SessionKnown) : Type 0 where
+-- the session k took its desk by the very step behind all that the session `before` knows, and its next own step put it back
+pub record TakesNext (before k after : SessionKnown) : Type 0 where
+  pub place : ℕ
+  pub value : Value
+  pub now : SessionKnown
+  pub took : Acquired store_rules place k now value
+  pub next : TookNext before.run place value now
+  pub put : PutsBack now after
+
+-- the session t has put its desk back, and is f; the session m has it by the very next step
+pub record HasHanded (at done : StoreSeat) (h : Held Value) (m t f : SessionKnown) : Type 0 where
   pub done_is : IsSession done f
+  pub put : PutsBack t f
   pub now : SessionKnown
   pub is : IsSession at now
   pub took : Acquired store_rules (held_place h) m now h.value
   pub next : TookNext f.run (held_place h) h.value now
 
--- the session has posted, and has its desk again by the very next step
-pub record PostsAndKeeps (at : StoreSeat) (here : Here) (h : Held Value) (k : SessionKnown) (op : Operation) : Type 0 where
+-- the session k, which is t while it has its desk, has posted, and has its desk again by the very next step
+pub record PostsAndKeeps (at : StoreSeat) (here : Here) (h : Held Value) (k t : SessionKnown) (op : Operation) : Type 0 where
   pub asked : SessionKnown
   pub posted : HasPosted k asked op
   pub posts : PostsBy k asked op
+  pub put : PutsBack t asked
   pub now : SessionKnown
   pub has : HasDesk at here h asked now
   pub next : TookNext asked.run (held_place h) h.value now
 
--- the session has posted, and handed the desk on
-pub record PostsAndHands (at done : StoreSeat) (h : Held Value) (k m : SessionKnown) (op : Operation) : Type 0 where
+-- the session k, which is t while it has its desk, has posted, and handed the desk on
+pub record PostsAndHands (at done : StoreSeat) (h : Held Value) (k t m : SessionKnown) (op : Operation) : Type 0 where
   pub asked : SessionKnown
   pub posted : HasPosted k asked op
   pub posts : PostsBy k asked op
-  pub handed : HasHanded at done h m asked
+  pub handed : HasHanded at done h m t asked
 
 -- whichever session had the desk and may ask has posted, and keeps the desk
 abbrev pub SessionKeeps : (old new : StoreSeat) → Here → (before after : Held Value) → Operation → Type 0
-SessionKeeps old new here before after op = (k t : SessionKnown) → HasDesk old here before k t → IsAlone k → PostsAndKeeps new here after k op
+SessionKeeps old new here before after op = (k t : SessionKnown) → HasDesk old here before k t → IsAlone k → PostsAndKeeps new here after k t op
 
 -- or has handed the desk on
 abbrev pub SessionHands : (old new next done : StoreSeat) → Here → (before after : Held Value) → Operation → Type 0
 SessionHands old new next done here before after op =
-    (k t m : SessionKnown) → HasDesk old here before k t → IsAlone k → IsNext next here m → PostsAndHands new done after k m op
+    (k t m : SessionKnown) → HasDesk old here before k t → IsAlone k → IsNext next here m → PostsAndHands new done after k t m op
 
 -- ---- turns, and answers
 
@@ -112,13 +124,13 @@ pub record TurnsThere (k : SessionKnown) (o : Pending) (batch : BatchView) (turn
   pub turns : TurnsBy k after batch turn
   pub is : P after
 
--- whichever session had the desk and waits for an answer had this turn
-abbrev pub SessionTurnsThere : StoreSeat → Here → Held Value → BatchView → Turn → (SessionKnown → Type 0) → Type 0
+-- whichever session had the desk and waits for an answer had this turn; P holds of the session with the desk, and of what it is then
+abbrev pub SessionTurnsThere : StoreSeat → Here → Held Value → BatchView → Turn → (SessionKnown → SessionKnown → Type 0) → Type 0
 SessionTurnsThere old here h batch turn P =
-    (k t : SessionKnown) (o : Pending) → HasDesk old here h k t → HasAsked k o → TurnsThere k o batch turn P
+    (k t : SessionKnown) (o : Pending) → HasDesk old here h k t → HasAsked k o → TurnsThere k o batch turn (P t)
 
--- whichever session is next, P holds of that session and of what the other is then
-abbrev pub TurnsToNext : (old next : StoreSeat) → Here → Held Value → BatchView → Turn → (SessionKnown → SessionKnown → Type 0) → Type 0
+-- whichever session is next, P holds of that session, of the other one with the desk, and of what that is then
+abbrev pub TurnsToNext : (old next : StoreSeat) → Here → Held Value → BatchView → Turn → (SessionKnown → SessionKnown → SessionKnown → Type 0) → Type 0
 TurnsToNext old next here h batch turn P = (m : SessionKnown) → IsNext next here m → SessionTurnsThere old here h batch turn (P m)
 
 -- the seat is some session that has what the programs of this batch answer, and holds its desk
@@ -244,6 +256,12 @@ abbrev pub HoldsFirst : Shared → (old new : List Member) → (from : ℕ) → 
 HoldsFirst shared old new from last first =
     ((f : SessionKnown) → Begins shared old from last.0 last.1 0 f → HoldsAt shared new first.0 first.1 0 f) × ((member : Member) → At 0 member new → IsDesk (here_of shared member) first.1)
 
+-- each later member except the last took the desk by the very step after the next member had put it back, and so did the first one
+abbrev pub PostsNext : Shared → (old new : List Member) → (count : ℕ) → (last first : StoreSeat × Held Value) → Type 0
+PostsNext shared old new count last first =
+    ((j : ℕ) (f a b : SessionKnown) → 0 < j → suc j < count → Begins shared old (count - 1) last.0 last.1 j f → KnownAt new j a → KnownAt new (suc j) b → TakesNext b f a)
+    × ((t b : SessionKnown) → 1 < count → IsSession first.0 t → KnownAt new 1 b → TookNext b.run (held_place first.1) first.1.value t)
+
 -- it has the requests of all later members then, and no session combines that did not
 abbrev pub DeskAsks : Shared → List Member → (from : ℕ) → (last first : StoreSeat × Held Value) → Type 0
 DeskAsks shared members from last first =
@@ -266,3 +284,9 @@ abbrev pub CollectsEach : Shared → (old new : List Member) → StoreSeat → H
 CollectsEach shared old new s h replies =
     (x : DeskView) (j : ℕ) (f : SessionKnown) (o : Pending) → desk_of h.value ≡ Some x → Begins shared old 0 s h j f → HasAsked f o
     → (reply : Reply) × At j reply replies × AnswerWaits x f reply × CollectsAt new j f o reply
+
+-- the first member put its desk back, and each later one took it by the very step after the member before it had put it back
+abbrev pub CollectsNext : Shared → (old new : List Member) → StoreSeat → Held Value → Type 0
+CollectsNext shared old new s h =
+    ((member : Member) (f t b : SessionKnown) → At 0 member old → HasDesk s (here_of shared member) h f t → KnownAt new 0 b → PutsBack t b)
+    × ((j : ℕ) (f a b : SessionKnown) → KnownAt old (suc j) f → KnownAt new j a → KnownAt new (suc j) b → TakesNext a f b)

@@ -1,6 +1,6 @@
 -- A session that holds its node's desk: what it is, and what a turn there leaves.
 use Rattle.std.specs.Prelude.{◌≡◌, ℕ, [], ◌∷◌}
-use Rattle.ownlock.specs.declared.known.ShelfStep.TheVariants.{Took}
+use Rattle.ownlock.specs.declared.known.ShelfStep.TheVariants.{Took, Put}
 use Rattle.ownlock.specs.Seats.{HasStepped, IsSession}
 use Rattle.combiner.specs.Desks.{BatchView, DeskView}
 use Rattle.accounts.specs.declared.sessions.Pending.{Pending}
@@ -34,8 +34,12 @@ pub record HasDesk (caller : Caller) (k t : SessionKnown) (p : ℕ) (v : Value) 
 abbrev pub MayTurn : StoreSeat → Caller → (p : ℕ) → Value → Type 0
 MayTurn s caller p v = (k t : SessionKnown) × (o : Pending) × IsSession s t × HasDesk caller k t p v × HasAsked k o
 
+-- the next step that the session takes itself puts a place back
+abbrev pub PutsBack : (t after : SessionKnown) → Type 0
+PutsBack t after = (p : ℕ) × (v : Value) × HasStepped t (Put p v) after
+
 -- its session has had its turn since it took the desk, and has put the desk back, whichever request it waits for
 abbrev pub TurnsThere : (old new : StoreSeat) → Caller → (p : ℕ) → Value → BatchView → Turn → Type 0
 TurnsThere old new caller p v batch turn =
     (k t : SessionKnown) (o : Pending) → IsSession old t → HasDesk caller k t p v → HasAsked k o
-    → (after : SessionKnown) × IsSession new after × HasTurned k after o batch turn × TurnsBy k after batch turn
+    → (after : SessionKnown) × IsSession new after × HasTurned k after o batch turn × TurnsBy k after batch turn × PutsBack t after

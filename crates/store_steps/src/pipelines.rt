@@ -6,7 +6,8 @@ ghost use Rattle.ownlock.specs.Seats.{At};
 ghost use Rattle.combiner.specs.declared.slots.Reply.{Reply};
 ghost use Rattle.replica.specs.StoreMeaning.{is_operation};
 ghost use Rattle.store_steps.specs.EachMember.{AscendEach, AsksEach, ClaimsFirst, CombinesEach, GivesEach, InOrder, IsSetFirst, KeepsAsks, LooksAndPosts, LooksEach, MayGive, MayPostEach, PostsEach};
-ghost use Rattle.store_steps.specs.Pipelines.{AllAnswered, AreCalls, AreMembers, AscendFrom, CollectsEach, DeskAsks, HasNoCombiner, HoldsFirst, MayAskAt, MayPostWith, MayTurnWith, PostsLater, SameSpots, WaitsAt, here_of};
+ghost use Rattle.store_steps.specs.Holds.{UpdatesInTwoHolds, session_at};
+ghost use Rattle.store_steps.specs.Pipelines.{AllAnswered, AreCalls, AreMembers, AscendFrom, CollectsEach, CollectsNext, DeskAsks, HasNoCombiner, HoldsFirst, MayAskAt, MayPostWith, MayTurnWith, PostsLater, PostsNext, SameSpots, WaitsAt, here_of};
 ghost use Rattle.store_steps.specs.declared.desks.Turn.TheVariants.{Collects};
 ghost use Rattle.store_steps.specs.declared.pipelines.Member.{Member};
 
@@ -53,6 +54,7 @@ fn post_later(
     ensures posted { PostsLater shared.entry members.old members.new calls.now last.0 last.1 }
     ensures holds { HoldsFirst shared.entry members.old members.new (length calls.now - 1) last (result.0, result.1) }
     ensures desk { DeskAsks shared.entry members.old (length calls.now - 1) last (result.0, result.1) }
+    ensures next { PostsNext shared.entry members.old members.new (length calls.now) last (result.0, result.1) }
 {
     let (mut at, mut held) = last;
     let mut number = calls.len() - 1;
@@ -103,6 +105,7 @@ fn collect_each(
     requires answered { AllAnswered shared members.old first.0 first.1 }
     ensures same { SameSpots members.old members.new × (length replies.new ≡ length replies.old) }
     ensures collected { CollectsEach shared.entry members.old members.new first.0 first.1 replies.new }
+    ensures next { CollectsNext shared.entry members.old members.new first.0 first.1 }
 {
     let (mut at, mut held) = first;
     let last = members.len() - 1;
@@ -341,6 +344,7 @@ impl EachRoom {
         ensures same { SameSpots members.old members.new × (length replies.new ≡ length replies.old) }
         ensures asked { AsksEach members.old members.new calls.now replies.new }
         ensures in_order { InOrder replies.new }
+        ensures held { UpdatesInTwoHolds (session_at members.old) (session_at members.new) calls.now replies.new }
     {
         combine_each(rt, shared, members, calls, self);
         give_each(rt, shared, members, &mut self.combining, replies);

@@ -3,6 +3,7 @@
 
 ghost use Rattle.std.specs.Prelude.{◌≡◌, ◌<◌, ℕ, length, IfNone, IfSome};
 ghost use Rattle.store_steps.specs.EachMember.{AscendEach, InOrder, LooksEach};
+ghost use Rattle.store_steps.specs.Holds.{GoesOnAndCollects, PostsInOneHold, session_at};
 ghost use Rattle.store_steps.specs.Pipelines.{AreCalls, AreMembers, MayAskAt, SameSpots};
 ghost use Rattle.store_steps.specs.PollingEach.{AreIdle, AreOn, AreOut, BeginsEach, CompletesEach, WaitsEach};
 ghost use Rattle.store_steps.specs.declared.polling_each.EachStage.TheVariants.{Claimed, Ready};
@@ -41,6 +42,7 @@ pub fn try_begin_each(
     ensures stays { IfNone result (LooksEach members.old members.new × AreIdle members.new × (stage.new ≡ stage.old)) }
     ensures out { IfSome result (λ _. AreOut members.new room.new.combining.batch room.new.combining.replies stage.new) }
     ensures begun { IfSome result (λ _. BeginsEach members.old members.new calls.now room.new.combining.batch room.new.combining.replies stage.new) }
+    ensures held { IfSome result (λ _. PostsInOneHold (session_at members.old) (session_at members.new) calls.now room.new.combining.batch) }
 {
     let batch = &mut room.combining.batch;
     let Ok(()) = try_post_each(shared, members, calls, &mut room.op, batch) else {
@@ -122,6 +124,7 @@ pub fn go_on_each(
     ensures waits { IfNone result (WaitsEach members.old members.new room.new.combining.batch room.new.combining.replies stage.new) }
     ensures completed { IfSome result (λ _. CompletesEach members.old members.new room.new.combining.batch room.new.combining.replies replies.new) }
     ensures in_order { IfSome result (λ _. InOrder replies.new) }
+    ensures held { IfSome result (λ _. GoesOnAndCollects (session_at members.old) (session_at members.new) replies.new) }
 {
     let Some(()) = combine_first(shared, members, room, stage) else {
         return None;

@@ -1,5 +1,5 @@
 use Rattle.ownlock.proofs.Export.{adds_on}
-use Rattle.std.proofs.Common.{◌++◌, ◌∙◌, sym, ap, subst}
+use Rattle.std.proofs.Common.{◌++◌, ◌∙◌, sym, ap, refl, subst}
 use Rattle.std.specs.Prelude.{[]}
 use Rattle.ownlock.specs.Invariant.{first_of, others_of}
 use Rattle.ownlock.specs.Seats.{HoldsNone}
@@ -67,6 +67,7 @@ returns-clause-handed c k t m h alone next =
       posts = posts_so c.args.at.now c.args.here c.args.held k t h c.requires.place c.args.op.now c.requires.update x y c.desk_mut.ensures.desk c.post.ensures.posted (first_of c.join.new.seat.sessions) (ap first_of both) s.0 s.1.0 s.1.1 s.2.0 on;
       handed = record {
         done_is = apart.0;
+        put = (_, _, (refl, on));
         now = s.2.2.0;
         is = apart.1;
         took = took_as _ s.2.2.0 _ _ _ _ c.hand_on-held.ensures.same.1 c.hand_on-held.ensures.same.2 s.2.2.1;

@@ -1,5 +1,5 @@
 use Rattle.ownlock.proofs.Export.{adds_on}
-use Rattle.std.proofs.Common.{◌∙◌, ap, subst}
+use Rattle.std.proofs.Common.{◌∙◌, ap, refl, subst}
 use Rattle.replica.specs.StoreMeaning.{store_meaning}
 use Rattle.accounts.specs.Accounts.{IsAllowed}
 use Rattle.store_steps.proofs.PutBack.{took_last}
@@ -38,6 +38,7 @@ returns-clause-kept c k t h alone =
       asked = _;
       posted = has_posted_so c.args.seat.now c.args.here c.args.held k t h c.requires.place c.args.op.now c.requires.update x y c.desk_mut.ensures.desk c.post.ensures.posted c.args.seat.now.sessions h.is s.0 s.1.0 s.1.1 s.2.0 on;
       posts = posts_so c.args.seat.now c.args.here c.args.held k t h c.requires.place c.args.op.now c.requires.update x y c.desk_mut.ensures.desk c.post.ensures.posted c.args.seat.now.sessions h.is s.0 s.1.0 s.1.1 s.2.0 on;
+      put = (_, _, (refl, on));
       now = s.2.2.0;
       has = record {
         is = s.2.2.2;

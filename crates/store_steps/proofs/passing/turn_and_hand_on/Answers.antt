@@ -1,4 +1,4 @@
-use Rattle.std.proofs.Common.{◌++◌, ◌∙◌, sym, ap, subst}
+use Rattle.std.proofs.Common.{◌++◌, ◌∙◌, sym, ap, refl, subst}
 use Rattle.std.specs.Prelude.{[]}
 use Rattle.ownlock.proofs.Export.{adds_on}
 use Rattle.ownlock.specs.Invariant.{first_of, others_of}
@@ -72,6 +72,7 @@ returns-clause-handed c m next k t o h asked =
       turns = turns_so c.args.at.now c.args.here c.args.held k t h c.requires.place o asked c.desk_mut.result.now c.collect_or_claim-turn.new.desk c.desk_mut.ensures.desk c.collect_or_claim-turn.new.batch c.collect_or_claim-turn.result c.collect_or_claim-turn.ensures.turn (first_of c.join.new.seat.sessions) (ap first_of both) s.0 s.1.0 s.1.1 s.2.0 on;
       is = record {
         done_is = apart.0;
+        put = (_, _, (refl, on));
         now = s.2.2.0;
         is = apart.1;
         took = took_as _ s.2.2.0 _ _ _ _ c.hand_on-held.ensures.same.1 c.hand_on-held.ensures.same.2 s.2.2.1;

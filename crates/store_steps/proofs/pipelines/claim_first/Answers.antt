@@ -1,5 +1,6 @@
 use Rattle.std.proofs.Common.{◌≡◌, ℕ, ◌<◌, arith, ◌∙◌, sym, subst, ⊎_elim, slice_index_or}
 use Rattle.atomic_table.proofs.Lists.{set_else, set_here}
+use Rattle.ownlock.specs.Held.{held_place}
 use Rattle.combiner.specs.Desks.{BatchView}
 use Rattle.accounts.proofs.Export.{at_one}
 use Rattle.store_steps.specs.EachMember.{HasRecordOf}
@@ -71,17 +72,20 @@ returns-clause-claims c member f t at d0 alone =
     let d = subst (λ (z : Member). HasDesk c.args.first.0 (here_of c.args.shared z) c.args.first.1 f t) (at_one c.args.members.now 0 member own at there) d0 in
     let p = c.post_and_settle-held.ensures.kept f t d alone in
     let g = claiming c.args.shared own c.args.first.0 c.post_and_settle-held.new.seat c.args.first.1 c.post_and_settle-held.result f t p.asked p.now d h.0 c.args.op.now c.post_and_settle-held.ensures.posted c.requires.free p.has c.post_and_settle-held.ensures.same.1 p.posted.back.session c.turn_and_put.new.batch c.turn_and_put.result _ (was_turn (here_of c.args.shared own) c.post_and_settle-held.result c.turn_and_put.new.batch c.turn_and_put.result c.turn_and_put.ensures.turn) in
-    let u = session_turns c.post_and_settle-held.new.seat c.turn_and_put.new.seat (here_of c.args.shared own) c.post_and_settle-held.result c.post_and_settle-held.ensures.same.1 c.turn_and_put.new.batch c.turn_and_put.result c.turn_and_put.ensures.turned p.asked p.now p.posted.request p.has (asks f p.asked c.args.op.now alone p.posted) in
-    record {
-      asked = p.asked;
-      posted = p.posted;
-      posts = p.posts;
-      after = u.after;
-      is = (record own { seat = c.turn_and_put.new.seat }, set_here c.args.members.now 0 (record own { seat = c.turn_and_put.new.seat }) c.requires.some, u.is);
-      turned = subst (λ z. HasTurned p.asked u.after p.posted.request c.turn_and_put.new.batch z) g.claims u.turned;
-      turns = subst (λ z. TurnsBy p.asked u.after c.turn_and_put.new.batch z) g.claims u.turns;
-      own = subst (λ (z : BatchView). HasRecordOf z.records f.session) (sym g.batch_is) (claimed_of g.y f (post_asks f own.caller.slot c.args.op.now g.x g.y g.becomes g.own));
-    }
+    let u = session_turns c.post_and_settle-held.new.seat c.turn_and_put.new.seat (here_of c.args.shared own) c.post_and_settle-held.result c.post_and_settle-held.ensures.same.1 c.turn_and_put.new.batch c.turn_and_put.result c.turn_and_put.ensures.turned p.asked p.now p.posted.request p.has (asks f p.asked c.args.op.now alone p.posted) in (
+      record {
+        asked = p.asked;
+        posted = p.posted;
+        posts = p.posts;
+        after = u.after;
+        is = (record own { seat = c.turn_and_put.new.seat }, set_here c.args.members.now 0 (record own { seat = c.turn_and_put.new.seat }) c.requires.some, u.is.0);
+        turned = subst (λ z. HasTurned p.asked u.after p.posted.request c.turn_and_put.new.batch z) g.claims u.turned;
+        turns = subst (λ z. TurnsBy p.asked u.after c.turn_and_put.new.batch z) g.claims u.turns;
+        own = subst (λ (z : BatchView). HasRecordOf z.records f.session) (sym g.batch_is) (claimed_of g.y f (post_asks f own.caller.slot c.args.op.now g.x g.y g.becomes g.own));
+        again = record { place = held_place c.post_and_settle-held.result; value = c.post_and_settle-held.result.value; now = p.now; took = p.has.took; next = p.next; put = u.is.1 };
+      },
+      p.put,
+    )
 
 pub returns-clause-asks : goal.returns-clause-asks
 returns-clause-asks c x f is a =

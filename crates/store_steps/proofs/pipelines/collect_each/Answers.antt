@@ -3,7 +3,7 @@ use Rattle.std.specs.Prelude.{[]}
 use Rattle.ownlock.specs.Seats.{At, HoldsNone}
 use Rattle.store_steps.specs.Pipelines.{AnswerWaits, here_of, spot_of}
 use Rattle.store_steps.proofs.AskingEach.{are_members}
-use Rattle.store_steps.proofs.Collecting.{all_collected, begins_below, collecting_on, collects_some, has, next_member, place_here, turn_at}
+use Rattle.store_steps.proofs.Collecting.{all_collected, all_next, begins_below, collecting_on, collects_some, has, next_member, place_here, turn_at}
 use Rattle.store_steps.proofs.Handing.{desk_is, holds_none, session_turns, taken, was_turn}
 use Rattle.store_steps.proofs.Posting.{map_set, member_at, second_at, set_size}
 use Rattle.store_steps.proofs.pipelines.collect_each.Goals as goal
@@ -22,6 +22,10 @@ loop-number-init c =
         desk = λ member at. (c.requires.has member at).0;
         done = λ x j f o is lt b asked. absurd (omega (arith, lt));
         left = λ x x0 j f is is0 le b. let r = c.requires.answered x j f is b in (r.0, r.1, subst (λ z. AnswerWaits z f r.0) (desk_is c.args.first.1.value x x0 is is0) r.1);
+        still = λ e t is. is;
+        begun = λ lt. absurd (omega (arith, lt));
+        next = λ j f a b lt. absurd (omega (arith, lt));
+        comes = λ j t a e. absurd (omega (arith, e));
       };
     }
 
@@ -144,3 +148,15 @@ returns-clause-collected c x j f o is b asked =
     let below = begins_below c.args.shared c.args.members.now c.args.first.0 c.args.first.1 j f c.requires.count.0 b in
     all_collected c.args.shared c.args.members.now c.args.first.0 c.args.first.1 c.loop-number.members c.loop-number.number c.loop-number.at c.loop-number.held c.loop-number.replies inv _ own cur.4.0 cur.4.1 (cur.0, cur.2) c.turn_and_put.new.batch c.turn_and_put.result _ (was_turn (here_of c.args.shared member) c.loop-number.held c.turn_and_put.new.batch c.turn_and_put.result c.turn_and_put.ensures.turn) c.reply_of-2.result c.reply_of-2.ensures.reply _ (ap (λ i. set c.loop-number.replies i c.reply_of-2.result) (sym end)) _ c.turn_and_put.new.seat (c.turn_and_put.ensures.same ∙ (inv.shelf ∙ sym (are.own (length c.args.members.now - 1) member there))) (ap (λ i. set c.loop-number.members i (record member { seat = c.turn_and_put.new.seat })) (sym end)) (session_turns c.loop-number.at c.turn_and_put.new.seat (here_of c.args.shared member) c.loop-number.held (inv.desk _ own) c.turn_and_put.new.batch c.turn_and_put.result c.turn_and_put.ensures.turned)
     x j f o is (omega (arith, below, end)) b asked
+
+pub returns-clause-next : goal.returns-clause-next
+returns-clause-next c =
+    let member = slice_index_or c.loop-number.members (length c.args.members.now - 1) c.index-members-last.result in
+    let inv = c.loop-number.invariant.collecting in
+    let are = are_members c.args.shared c.args.members.now c.loop-number.members inv.spots c.requires.members in
+    let cur = turn_at c.args.shared c.args.members.now c.args.first.0 c.args.first.1 c.requires.count.0 c.requires.has c.requires.waits c.loop-number.number inv.upto in
+    let end : c.loop-number.number ≡ length c.args.members.now - 1 = omega (arith, c.loop-number-test.false, c.loop-number.invariant.collecting.upto) in
+    let there = member_at c.loop-number.members (length c.args.members.now - 1) c.index-members-last.result (omega (arith, c.requires.count.0, c.loop-number.auto.members)) c.index-members-last.is in
+    let own = subst (λ i. At i (slice_index_or c.loop-number.members (length c.args.members.now - 1) c.index-members-last.result) c.loop-number.members) (sym end) there in
+    all_next c.args.shared c.args.members.now c.args.first.0 c.args.first.1 c.loop-number.members c.loop-number.number c.loop-number.at c.loop-number.held c.loop-number.replies inv _ own cur.4.0 cur.4.1 (cur.0, cur.2) c.turn_and_put.new.batch c.turn_and_put.result _ (was_turn (here_of c.args.shared member) c.loop-number.held c.turn_and_put.new.batch c.turn_and_put.result c.turn_and_put.ensures.turn) c.reply_of-2.result c.reply_of-2.ensures.reply _ (ap (λ i. set c.loop-number.replies i c.reply_of-2.result) (sym end)) _ c.turn_and_put.new.seat (c.turn_and_put.ensures.same ∙ (inv.shelf ∙ sym (are.own (length c.args.members.now - 1) member there))) (ap (λ i. set c.loop-number.members i (record member { seat = c.turn_and_put.new.seat })) (sym end)) (session_turns c.loop-number.at c.turn_and_put.new.seat (here_of c.args.shared member) c.loop-number.held (inv.desk _ own) c.turn_and_put.new.batch c.turn_and_put.result c.turn_and_put.ensures.turned)
+    (omega (arith, c.requires.count.0, end)) cur.1 cur.3 c.requires.waits

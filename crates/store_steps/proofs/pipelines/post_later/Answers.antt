@@ -1,4 +1,4 @@
-use Rattle.std.proofs.Common.{◌≡◌, ℕ, ◌-◌, ◌<◌, ◌≤◌, length, refl, sym, ap, ◌∙◌, subst, arith, true}
+use Rattle.std.proofs.Common.{◌≡◌, ℕ, suc, ◌-◌, ◌<◌, ◌≤◌, length, refl, sym, ap, ◌∙◌, subst, arith, true}
 use Rattle.std.specs.Prelude.{[]}
 use Rattle.maps.specs.declared.shapes.TheConstants.{MAX_ARG_LEN}
 use Rattle.ownlock.specs.Seats.{At, HoldsNone}
@@ -6,7 +6,7 @@ use Rattle.verifier.specs.declared.refusal.Mode.TheVariants.{Update}
 use Rattle.replica.specs.StoreMeaning.{is_operation}
 use Rattle.accounts.proofs.Export.{at_below, at_there}
 use Rattle.store_steps.specs.Asking.{asked_op}
-use Rattle.store_steps.specs.Pipelines.{Begins, HoldsAt, MayAskAt}
+use Rattle.store_steps.specs.Pipelines.{Begins, HoldsAt, KnownAt, MayAskAt}
 use Rattle.store_steps.specs.declared.steps.Question.{Question}
 use Rattle.store_steps.proofs.AskingEach.{are_members}
 use Rattle.store_steps.proofs.Handing.{holds_none}
@@ -27,6 +27,8 @@ loop-number-init c =
         posted = λ j f q lt at b. let far = at_below c.args.calls.now j q at in absurd (omega (arith, lt, far));
         free = λ none. none;
         asks = λ x j f is lt b. let known = b.1 (λ e. omega (arith, lt, e)) in let far = at_below c.args.members.now j known.0 known.1 in let long = count.1 in absurd (omega (arith, lt, far, long));
+        next = λ j f a b lt few. absurd (omega (arith, lt, few));
+        comes = λ t b few. absurd (omega (arith, few, count.0));
       };
     }
 
@@ -117,3 +119,12 @@ returns-clause-desk c =
     let inv = c.loop-number.invariant.posting in
     let past = c.loop-number-test.false in
     (inv.free, λ x j f is lt b. inv.asks x j f is (omega (arith, past, lt)) b)
+
+pub returns-clause-next : goal.returns-clause-next
+returns-clause-next c =
+    let inv = c.loop-number.invariant.posting in
+    let past = c.loop-number-test.false in
+    let none : c.loop-number.number ≡ 0 = omega (arith, past) in (
+      λ j f a b lt few. inv.next j f a b (omega (arith, lt, none)) few,
+      λ t b few at known. inv.comes t b (omega (arith, few, none)) at (subst (λ i. KnownAt c.loop-number.members (suc i) b) (sym none) known),
+    )

@@ -1,7 +1,8 @@
-use Rattle.std.proofs.Common.{◌≡◌, ◌-◌, ◌≤◌, length, map, set, slice_index_or, sym, ap, ◌∙◌, subst, arith, true}
+use Rattle.std.proofs.Common.{◌≡◌, ℕ, suc, ◌<◌, ◌-◌, ◌≤◌, length, map, set, slice_index_or, sym, ap, ◌∙◌, subst, arith, true}
 use Rattle.std.specs.Prelude.{[]}
 use Rattle.atomic_table.proofs.Lists.{set_else, set_here}
 use Rattle.maps.specs.declared.shapes.TheConstants.{MAX_ARG_LEN}
+use Rattle.ownlock.specs.Held.{held_place}
 use Rattle.ownlock.specs.Seats.{At, HoldsNone}
 use Rattle.verifier.specs.declared.refusal.Mode.TheVariants.{Update}
 use Rattle.replica.specs.StoreMeaning.{is_operation}
@@ -10,13 +11,15 @@ use Rattle.store_steps.specs.Asking.{asked_op}
 use Rattle.ownlock.proofs.Export.{one_known}
 use Rattle.store_steps.specs.AtOnce.{IsAlone}
 use Rattle.store_steps.specs.EachMember.{ClaimsAt}
-use Rattle.store_steps.specs.Pipelines.{HasDesk, KnownAt, MayPostWith, here_of, spot_of}
+use Rattle.store_steps.specs.Pipelines.{HasDesk, KnownAt, MayPostWith, PostsAt, here_of, spot_of}
 use Rattle.store_steps.specs.Standing.{SessionKnown}
+use Rattle.store_steps.specs.Visits.{PutsBack}
 use Rattle.store_steps.specs.declared.steps.Question.{Question}
 use Rattle.store_steps.specs.declared.pipelines.Member.{Member}
 use Rattle.store_steps.proofs.AskingEach.{are_members}
 use Rattle.store_steps.proofs.Handing.{holds_none}
-use Rattle.store_steps.proofs.PostedEach.{begins_so, looks_so, requested}
+use Rattle.store_steps.proofs.Holds.{posts_held}
+use Rattle.store_steps.proofs.PostedEach.{begins_so, claims_as, looks_so, requested, was_known}
 use Rattle.store_steps.proofs.Posting.{desk_here, map_set, or_at, member_at}
 use Rattle.store_steps.proofs.pipelines.try_post_each.Goals as goal
 
@@ -138,15 +141,28 @@ returns-clause-posted c =
     let m0 = c.requires.may.idle 0 p0.0 p0.1 in
     let q = at_there c.args.calls.now 0 c.requires.may.some in
     let begins = begins_so c.args.members.now (length c.args.calls.now - 1) own there c.split-at.result (λ k is. (c.split-at.ensures.apart k [] is).1) c.args.shared c.split-at.new.seat c.try_take_free.new.seat c.in-Ok.held c.in-Ok.ensures.taken in
-    let first = λ (k : SessionKnown) (r : Question) (at : At 0 r c.args.calls.now) (known : KnownAt c.args.members.now 0 k).
+    let first : (k : SessionKnown) (r : Question) → At 0 r c.args.calls.now → KnownAt c.args.members.now 0 k
+    → (a : ClaimsAt c.claim_first.new.members k (asked_op r) c.claim_first.new.batch) × (member : Member) × (t : SessionKnown) × HasDesk c.post_later-at.result.0 (here_of c.args.shared member) c.post_later-at.result.1 k t × PutsBack t a.asked =
+    λ k r at known.
     let w = c.post_later-at.ensures.holds.0 k (begins 0 k known) in
     let may = c.requires.may.idle 0 known.0 known.1 in
     let alone = subst IsAlone (one_known known.0.seat may.0 k may.1 known.2) may.3 in
-    subst (λ o. ClaimsAt c.claim_first.new.members k o c.claim_first.new.batch) (c.set_call.ensures.call ∙ ap asked_op (or_at c.args.calls.now 0 _ r at)) (c.claim_first.ensures.claims w.0 k w.1 w.2 w.3 alone) in
+    let e = c.set_call.ensures.call ∙ ap asked_op (or_at c.args.calls.now 0 _ r at) in
+    let now = c.claim_first.ensures.claims w.0 k w.1 w.2 w.3 alone in
+    (claims_as c.claim_first.new.members k _ (asked_op r) c.claim_first.new.batch e now.0, w.0, w.1, w.3, now.1) in
     let w0 = c.post_later-at.ensures.holds.0 m0.0 (begins 0 m0.0 (p0.0, p0.1, m0.1)) in
     let x = desk_here c.args.shared c.post_later-at.result.0 c.post_later-at.result.1 w0.0 m0.0 w0.1 w0.3 (c.post_later-at.ensures.holds.1 w0.0 w0.2) in
+    let others : (j : ℕ) (k : SessionKnown) (r : Question) → 0 < j → At j r c.args.calls.now → KnownAt c.args.members.now j k → PostsAt c.claim_first.new.members j k (asked_op r) =
+    λ j k r lt at known. let p = c.post_later-at.ensures.posted j k r lt at (begins j k known) in (p.0, (p.1.0, c.claim_first.ensures.same.1 j p.1.0 lt p.1.1, p.1.2), p.2, p.3) in
+    let was = λ (j : ℕ) (k : SessionKnown) (lt : 0 < j) (known : KnownAt c.claim_first.new.members j k). was_known c.post_later-at.new.members c.claim_first.new.members c.claim_first.ensures.same j k lt known in
     record {
-      first = first;
-      others = λ j k r lt at known. let p = c.post_later-at.ensures.posted j k r lt at (begins j k known) in (p.0, (p.1.0, c.claim_first.ensures.same.1 j p.1.0 lt p.1.1, p.1.2), p.2, p.3);
-      requests = requested c.args.members.now c.claim_first.new.batch (λ k known. (first k q.0 q.1 known).own) (λ j k lt known. c.claim_first.ensures.asks x.0 k x.1 (c.post_later-at.ensures.desk.1 x.0 j k x.1 lt (begins j k known)));
+      first = λ k r at known. (first k r at known).0;
+      others = others;
+      requests = requested c.args.members.now c.claim_first.new.batch (λ k known. (first k q.0 q.1 known).0.own) (λ j k lt known. c.claim_first.ensures.asks x.0 k x.1 (c.post_later-at.ensures.desk.1 x.0 j k x.1 lt (begins j k known)));
+      held = posts_held c.args.members.now c.claim_first.new.members c.args.calls.now c.claim_first.new.batch c.requires.may.some
+          (λ j lt. let p = at_there c.args.members.now j (omega (arith, lt, c.requires.may.count)) in let m = c.requires.may.idle j p.0 p.1 in (m.0, (p.0, p.1, m.1)))
+          (λ k r at known. (first k r at known).0) others
+          (λ k r at known b more is_b. let f = first k r at known in
+          record { place = held_place c.post_later-at.result.1; value = c.post_later-at.result.1.value; now = f.2; took = f.3.took; next = c.post_later-at.ensures.next.1 f.2 b more f.3.is (was 1 b (omega arith) is_b); put = f.4 })
+          (λ j k a b lt more known is_a is_b. c.post_later-at.ensures.next.0 j k a b lt more (begins j k known) (was j a lt is_a) (was (suc j) b (omega arith) is_b));
     }

@@ -1,11 +1,12 @@
 use Rattle.std.proofs.Common.{List, length, sym, ap, ◌∙◌, subst, arith}
 use Rattle.std.proofs.lemmas.List.{length-map}
 use Rattle.combiner.specs.Desks.{BatchView}
+use Rattle.store_steps.specs.Holds.{session_at}
 use Rattle.store_steps.specs.Pipelines.{spot_of}
 use Rattle.store_steps.specs.PollingEach.{AreOut, WaitsEach}
 use Rattle.store_steps.specs.declared.pipelines.Member.{Member}
 use Rattle.store_steps.proofs.AskingEach.{are_members}
-use Rattle.store_steps.proofs.PollingEach.{completes_after, gives_each, may_give_out, on_after}
+use Rattle.store_steps.proofs.PollingEach.{completes_after, deeds_between, gives_each, may_give_out, on_after}
 use Rattle.store_steps.proofs.polling_each.go_on_each.Goals as goal
 
 pub try_give_each-requires-clause-members : goal.try_give_each-requires-clause-members
@@ -38,3 +39,15 @@ returns-clause-completed c =
     let out = subst (λ z. AreOut c.combine_first.new.members room.batch room.replies z) c.in-Some.ensures.ready c.combine_first.ensures.out in
     completes_after c.args.members.now c.combine_first.new.members c.try_give_each.new.members room.batch c.try_give_each.new.batch room.replies room.replies c.combine_first.new.stage c.try_give_each.new.replies c.combine_first.ensures.same c.try_give_each.ensures.same.0 c.combine_first.ensures.out
     c.combine_first.ensures.waits (gives_each c.combine_first.new.members c.try_give_each.new.members room.batch c.try_give_each.new.batch room.replies c.try_give_each.new.replies out c.in-Some-try_give_each.ensures.gives)
+
+pub returns-clause-held : goal.returns-clause-held
+returns-clause-held c =
+    let room = c.combine_first.new.room.combining in
+    let out = subst (λ z. AreOut c.args.members.now z c.args.room.now.combining.replies c.args.stage.now) (sym c.combine_first.ensures.kept) c.requires.out in
+    record {
+      between = session_at c.combine_first.new.members;
+      deeds = λ j lt. deeds_between c.args.members.now c.combine_first.new.members room.batch c.args.room.now.combining.replies room.replies c.args.stage.now c.combine_first.new.stage c.combine_first.ensures.same out c.combine_first.ensures.out c.combine_first.ensures.waits j (omega (arith, lt, c.try_give_each.ensures.same.1, c.requires.count.1));
+      batch = room.batch;
+      kept = room.replies;
+      collects = c.in-Some-try_give_each.ensures.gives.held;
+    }

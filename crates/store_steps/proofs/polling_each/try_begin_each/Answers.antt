@@ -17,3 +17,6 @@ returns-clause-out c =
 pub returns-clause-begun : goal.returns-clause-begun
 returns-clause-begun c =
     begins_each c.args.shared c.args.members.now c.try_post_each.new.members c.args.calls.now c.try_post_each.new.batch c.args.room.now.combining.replies c.try_post_each.ensures.same c.requires.count.1 c.requires.may c.requires.idle c.in-Ok.ensures.posted
+
+pub returns-clause-held : goal.returns-clause-held
+returns-clause-held c = c.in-Ok.ensures.posted.held

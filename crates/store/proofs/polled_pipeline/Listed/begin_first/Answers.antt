@@ -7,4 +7,4 @@ returns-in_default-clause-looked c =
 
 pub returns-clause-begun : goal.returns-clause-begun
 returns-clause-begun c =
-    record { now = c.try_begin_each.new.members; sets = record { long = search rules; is = refl; same = c.try_begin_each.ensures.same }; out = c.in-Some.ensures.out; begins = c.in-Some.ensures.begun }
+    record { now = c.try_begin_each.new.members; sets = record { long = search rules; is = refl; same = c.try_begin_each.ensures.same }; out = c.in-Some.ensures.out; begins = c.in-Some.ensures.begun; held = c.in-Some.ensures.held }

@@ -7,4 +7,4 @@ returns-in_default-clause-waits c =
 
 pub returns-clause-finished : goal.returns-clause-finished
 returns-clause-finished c =
-    record { now = c.go_on_each.new.members; sets = record { long = search rules; is = refl; same = c.go_on_each.ensures.same.0 }; completes = c.in-Some.ensures.completed; in_order = c.in-Some.ensures.in_order }
+    record { now = c.go_on_each.new.members; sets = record { long = search rules; is = refl; same = c.go_on_each.ensures.same.0 }; completes = c.in-Some.ensures.completed; in_order = c.in-Some.ensures.in_order; held = c.in-Some.ensures.held }

@@ -4,10 +4,14 @@ use Rattle.std.proofs.lemmas.Option.{none-some}
 use Rattle.store_steps.specs.Pipelines.{AreMembers}
 use Rattle.store_steps.specs.PollingEach.{AreOn, AreOut}
 use Rattle.store.specs.Opening.{AreOf}
-use Rattle.store.specs.Pipelines.{AreInOrder, EachGoesOn, OthersStay, views_of}
-use Rattle.store.specs.PolledPipelines.{AreListed, AreWaiting, EachIsTold, FinishesFirst, WaitsFirst}
+use Rattle.store.specs.Pipelines.{AreInOrder, EachGoesOn, OthersStay, known_at, views_of}
+use Rattle.store.specs.PolledPipelines.{AreListed, AreWaiting, CollectedAtOnce, EachIsTold, FinishesFirst, WaitsFirst}
 use Rattle.store.proofs.AskedEach.{are_in_order, lent_back, replaced_long, shared_of, stays_on}
-use Rattle.store.proofs.PolledEach.{all_idle, each_completes, each_waits, listed_goes_on, listed_members, listed_on, listed_others, posted_is, still_completed, still_waits, tells_completes, tells_waits}
+use Rattle.store_steps.specs.Holds.{session_at}
+use Rattle.store_steps.proofs.Export.{goes_as}
+use Rattle.store.specs.Sessions.{said}
+use Rattle.store.proofs.Held.{is_seen, was_seen}
+use Rattle.store.proofs.PolledEach.{all_idle, each_completes, each_waits, hold_nothing, listed_goes_on, listed_members, listed_on, listed_others, posted_is, still_completed, still_waits, tells_completes, tells_waits}
 use Rattle.store.proofs.polled_pipeline.PolledPipeline.poll.Goals as goal
 
 pub returns-then-is_empty-clause-sessions : goal.returns-then-is_empty-clause-sessions
@@ -130,3 +134,18 @@ returns-clause-others c =
     let whole : length c.finish_first.new.members ≡ c.self.inside.members.len = ap length d.sets.is ∙ (replaced_long (length c.args.answers.now) d.now c.self.inside.members.items d.sets.long fits ∙ (ap length (sym c.deref_mut.ensures.value) ∙ c.deref_mut.ensures.len)) in
     let back : (take c.self.inside.members.len (c.finish_first.new.members ++ drop (length c.finish_first.new.members) c.self.inside.members.items)) ≡ c.finish_first.new.members = lent_back c.self.inside.members.len c.finish_first.new.members c.self.inside.members.items whole in
     subst (λ z. OthersStay (length c.args.answers.now) z (views_of (take c.self.inside.members.len (c.finish_first.new.members ++ drop (length c.finish_first.new.members) c.self.inside.members.items)))) c.self.view_is (subst (λ xs. OthersStay (length c.args.answers.now) (views_of c.self.inside.members.items) (views_of xs)) (sym back) (listed_others c.args.store.now c.self.inside.members.items c.self.inside.rooms.items c.self.inside.list.posted c.self.inside.list.room.combining.batch c.self.inside.list.room.combining.replies c.self.inside.list.stage c.self.invariant.0 (subst (AreOf c.args.store.now) (sym c.self.view_is) c.requires.own) (length c.args.answers.now) fits c.finish_first.new.members d.now d.sets (each_completes c.args.store.now c.self.inside.members.items c.self.inside.rooms.items c.self.inside.list.posted c.self.inside.list.room.combining.batch c.self.inside.list.room.combining.replies c.self.inside.list.stage c.self.invariant.0 (subst (AreOf c.args.store.now) (sym c.self.view_is) c.requires.own) (length c.args.answers.now) fits c.finish_first.new.members d.now d.sets is c.finish_first.new.self.room.combining.batch c.finish_first.new.self.room.combining.replies c.finish_first.new.replies d.completes)))
+
+pub returns-clause-held : goal.returns-clause-held
+returns-clause-held c some =
+    let fits : length c.args.answers.now ≤ length c.self.inside.members.items = let few = c.requires.few in let seen = ap length (sym c.self.view_is) ∙ length-map c.self.inside.members.items _ in omega (arith, few, seen) in
+    let is : c.self.inside.list.posted ≡ length c.args.answers.now = posted_is c.self.inside.members.items c.self.inside.rooms.items c.self.inside.list.posted c.self.inside.list.room.combining.batch c.self.inside.list.room.combining.replies c.self.inside.list.stage c.self.invariant.0 (length c.args.answers.now) fits (subst (AreWaiting (length c.args.answers.now)) (sym c.self.view_is) c.requires.waiting) in
+    let d : FinishesFirst c.self.inside.members.items c.finish_first.new.members (length c.args.answers.now) c.finish_first.new.self.room.combining c.finish_first.new.replies = subst (λ z. FinishesFirst z c.finish_first.new.members (length c.args.answers.now) c.finish_first.new.self.room.combining c.finish_first.new.replies) c.deref_mut.ensures.value c.in-Some.ensures.finished in
+    let whole : length c.finish_first.new.members ≡ c.self.inside.members.len = ap length d.sets.is ∙ (replaced_long (length c.args.answers.now) d.now c.self.inside.members.items d.sets.long fits ∙ (ap length (sym c.deref_mut.ensures.value) ∙ c.deref_mut.ensures.len)) in
+    let back : (take c.self.inside.members.len (c.finish_first.new.members ++ drop (length c.finish_first.new.members) c.self.inside.members.items)) ≡ c.finish_first.new.members = lent_back c.self.inside.members.len c.finish_first.new.members c.self.inside.members.items whole in
+    let all = c.finish_first.new.members in
+    let count = c.finish_first.ensures.room in
+    let had = hold_nothing c.self.inside.members.items c.self.inside.rooms.items c.self.inside.list.posted c.self.inside.list.room.combining.batch c.self.inside.list.room.combining.replies c.self.inside.list.stage c.self.invariant.0 in
+    let has = hold_nothing all c.self.inside.rooms.items c.finish_first.new.self.posted c.finish_first.new.self.room.combining.batch c.finish_first.new.self.room.combining.replies c.finish_first.new.self.stage (still_completed c.args.store.now c.self.inside.members.items c.self.inside.rooms.items c.self.inside.list.posted c.self.inside.list.room.combining.batch c.self.inside.list.room.combining.replies c.self.inside.list.stage c.self.invariant.0 (subst (AreOf c.args.store.now) (sym c.self.view_is) c.requires.own) (length c.args.answers.now) fits c.finish_first.new.members d.now d.sets is c.finish_first.new.self.room.combining.batch c.finish_first.new.self.room.combining.replies c.finish_first.new.replies d.completes c.finish_first.new.self.posted c.in-Some.ensures.posted _ _ _) in
+    let held = goes_as (session_at (take (length c.args.answers.now) c.self.inside.members.items)) (session_at d.now) (known_at (views_of c.self.inside.members.items)) (known_at (views_of all)) c.finish_first.new.replies (let long = ap length c.say_each.ensures.said ∙ length-map c.finish_first.new.replies said in omega (arith, some, long)) (λ j lt. was_seen (length c.args.answers.now) c.self.inside.members.items all d.now fits d.sets had has j (omega (arith, lt, count))) (λ j lt. is_seen (length c.args.answers.now) c.self.inside.members.items all d.now fits d.sets had has j (omega (arith, lt, count))) d.held in
+    subst (λ z. CollectedAtOnce z (views_of (take c.self.inside.members.len (c.finish_first.new.members ++ drop (length c.finish_first.new.members) c.self.inside.members.items))) c.say_each.new.answers) c.self.view_is
+    (subst (λ xs. CollectedAtOnce (views_of c.self.inside.members.items) (views_of xs) c.say_each.new.answers) (sym back) (c.finish_first.new.replies, c.say_each.ensures.said, held))

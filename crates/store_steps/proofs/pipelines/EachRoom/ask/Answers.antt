@@ -2,7 +2,7 @@ use Rattle.std.proofs.Common.{length, sym, ap, ◌∙◌, arith}
 use Rattle.std.proofs.lemmas.List.{length-map}
 use Rattle.store_steps.specs.Pipelines.{spot_of}
 use Rattle.store_steps.proofs.AskingEach.{are_members}
-use Rattle.store_steps.proofs.BetweenHolds.{asks_each}
+use Rattle.store_steps.proofs.BetweenHolds.{asks_each, two_holds}
 use Rattle.store_steps.proofs.pipelines.EachRoom.ask.Goals as goal
 
 pub combine_each-requires-clause-may : goal.combine_each-requires-clause-may
@@ -30,3 +30,8 @@ returns-clause-asked g c =
 pub returns-clause-in_order : goal.returns-clause-in_order
 returns-clause-in_order g c =
     c.give_each.ensures.gives.in_order
+
+pub returns-clause-held : goal.returns-clause-held
+returns-clause-held g c =
+    two_holds c.args.shared c.args.members.now c.combine_each.new.members c.give_each.new.members c.args.calls.now _ _ c.give_each.new.replies c.combine_each.ensures.same c.requires.idle c.combine_each.ensures.combined c.give_each.ensures.gives
+    (c.requires.some, c.requires.count.0) (c.give_each.ensures.same.1 ∙ c.requires.count.1)
