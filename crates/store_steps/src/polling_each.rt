@@ -43,7 +43,7 @@ pub fn try_begin_each(
     ensures begun { IfSome result (λ _. BeginsEach members.old members.new calls.now room.new.combining.batch room.new.combining.replies stage.new) }
 {
     let batch = &mut room.combining.batch;
-    let Ok(()) = try_post_each(shared, members, calls, &mut room.op, batch) else {
+    let Ok(()) = try_post_each(shared, members, calls, batch) else {
         return None;
     };
     *stage = EachStage::Claimed;
