@@ -2,12 +2,11 @@
 
 ghost use Rattle.std.specs.Prelude.{◌≡◌, ◌+◌, ◌<◌, ◌≤◌, ◌^◌, List, IfSome, length, take, true, Some, option_map};
 ghost use Rattle.maps.specs.declared.shapes.Shape.{Shape};
-ghost use Rattle.maps.specs.Maps.{Maps, HasShapes};
+ghost use Rattle.maps.specs.Maps.{HasShapes};
 ghost use Rattle.maps.specs.MapSets.{maps_of};
 ghost use Rattle.verifier.specs.declared.refusal.Mode.TheVariants.{Update, Read};
-ghost use Rattle.loader.specs.StoreState.{state_of};
 ghost use Rattle.replica.specs.StoreMeaning.{no_program, no_place, is_mode, suits, program_among, run_in, ran_to, answered, updated, is_operation, AreUpdates};
-ghost use Rattle.replica.specs.Grounds.{installing, state_in};
+ghost use Rattle.replica.specs.Grounds.{Installs, installing, state_in};
 ghost use Rattle.replica.specs.Replaying.{KeepsOutcomes, Leaves};
 
 use crate::replying::Replies;
@@ -122,7 +121,7 @@ fn install(
 ) -> Outcome
     requires shapes { programs.old.shapes ≡ catalogue.now.shapes }
     requires update { is_operation Update catalogue.now (installing mode arg_len bytes.now) ≡ true }
-    ensures updated { (m : Maps) → updated catalogue.now (installing mode arg_len bytes.now) (state_of m programs.old) ≡ Some (answered result (state_of m programs.new)) }
+    ensures updated { Installs catalogue.now (installing mode arg_len bytes.now) programs.old result programs.new }
     ensures sizes { (programs.new.shapes ≡ programs.old.shapes) × (programs.new.places ≡ programs.old.places) }
 {
     let place = programs.len();
