@@ -5,7 +5,7 @@ ghost use Rattle.combiner.specs.declared.slots.Reply.{Reply as TheReply};
 ghost use Rattle.combiner.specs.Desks.{BatchView};
 
 use crate::slots::Reply;
-use oplog::{Op, Record};
+use oplog::{Op, Record, Records};
 use std::marker::Model;
 
 /// The requests that a combiner claimed at its desk, by ascending slots, and the answer of each once it has one. It is lent to
@@ -65,12 +65,12 @@ impl Batch {
     }
 
     /// The records of the requests, in the order of their slots.
-    pub fn records(&self) -> &[Record]
-        ensures records { result.now ≡ self.now.records }
+    pub fn records(&self) -> Records<'_>
+        ensures records { result ≡ self.now.records }
         ensures few { length self.now.records ≤ 16 }
         ensures answers { length self.now.answers ≡ length self.now.records }
     {
-        &self.records[..self.count]
+        Records::of(&self.records[..self.count])
     }
 
     /// Sets the answer of the `k`-th request, from 0.

@@ -12,7 +12,7 @@ ghost use Rattle.combiner.specs.Answering.{answered_by, uses};
 use crate::batches::Batch;
 use crate::places::Place;
 use crate::slots::{DeskRefused, Reply, Slot};
-use oplog::Op;
+use oplog::OpRef;
 use std::marker::Model;
 
 /// The desk of a node: a slot for each of its sessions. It takes no memory but its own bytes.
@@ -65,7 +65,7 @@ impl Desk {
     /// # Errors
     ///
     /// B1 where the slot has a request already; nothing is changed then.
-    pub fn post(&mut self, slot: usize, op: &Op) -> Result<(), DeskRefused>
+    pub fn post(&mut self, slot: usize, op: &OpRef<'_>) -> Result<(), DeskRefused>
         requires slot { slot < length self.old.slots }
         ensures posted { MatchResult result (λ _. posted slot op.now self.old ≡ Some self.new) (λ e. (e ≡ SlotBusy) × (posted slot op.now self.old ≡ None)) }
         ensures same { OnErr result (self.new ≡ self.old) }

@@ -12,7 +12,7 @@ ghost use Rattle.combiner.specs.Places.{slot_in, posted_slot, as_number};
 
 use crate::batches::Batch;
 use crate::slots::{DeskRefused, Reply, Slot, Stage};
-use oplog::Op;
+use oplog::{Op, OpRef};
 
 /// Where the request of a place is, without what comes with it there.
 #[derive(Clone, Copy)]
@@ -64,7 +64,7 @@ impl Place {
     }
 
     // Posts an operation, where there is no request.
-    pub(crate) fn post(&mut self, op: &Op) -> Result<(), DeskRefused>
+    pub(crate) fn post(&mut self, op: &OpRef<'_>) -> Result<(), DeskRefused>
         ensures posted { IfOk result (λ _. posted_slot op.now (slot_in self.old) ≡ Some (slot_in self.new)) }
         ensures busy { IfErr result (λ e. (e ≡ SlotBusy) × (posted_slot op.now (slot_in self.old) ≡ None)) }
         ensures same { OnErr result (self.new ≡ self.old) }
@@ -72,7 +72,7 @@ impl Place {
         match self.stage {
             PlaceStage::Empty => {
                 self.stage = PlaceStage::Posted;
-                self.op.assign(op);
+                self.op.assign_from(op);
                 Ok(())
             }
             _ => Err(DeskRefused::SlotBusy),

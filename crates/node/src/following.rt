@@ -10,7 +10,7 @@ ghost use Rattle.replica.specs.StoreMeaning.{AreUpdates};
 ghost use Rattle.node.specs.Following.{IsNext, Fits, may_append, grown, copied, room_for, replies_for, is_above, has_next, replayed, replayed_first, replies_after, may_finish, told, may_reclaim, reclaimed, may_rebase, rebased, exchanged, may_answer, may_reply};
 
 use loader::Catalogue;
-use oplog::{CopyAnswer, Hand, LogState, Record};
+use oplog::{CopyAnswer, Hand, LogState, Records};
 use readpath::ready;
 use replica::{Replica, Replies};
 
@@ -24,7 +24,7 @@ pub struct NodeReplica {
 }
 
 /// Whether the log has what the replica lacks, and room for as many of these records as the history may still have.
-pub fn may_append(log: &LogState, node: &NodeReplica, records: &[Record]) -> bool
+pub fn may_append(log: &LogState, node: &NodeReplica, records: &Records<'_>) -> bool
     ensures may { result ≡ may_append records.now log.now node.now }
 {
     log.base() <= node.replica.tail() && records.len().min(log.left()) <= log.room()
@@ -32,7 +32,7 @@ pub fn may_append(log: &LogState, node: &NodeReplica, records: &[Record]) -> boo
 
 /// Appends as many of the records, from the first on, as the history may still have. There is room for these. The replies that are lent
 /// keep the indexes of those that were appended then, and no outcome yet.
-pub fn append_only(log: &mut LogState, records: &[Record], replies: &mut Replies)
+pub fn append_only(log: &mut LogState, records: &Records<'_>, replies: &mut Replies)
     requires room { room_for records.now log.old ≤ room_in log.old }
     requires few { length records.now ≤ 16 }
     ensures log { log.new ≡ grown records.now log.old }
@@ -52,7 +52,12 @@ pub fn append_only(log: &mut LogState, records: &[Record], replies: &mut Replies
 
 /// Appends as many of the records, from the first on, as the history may still have, and copies what the replica lacks into the hand.
 /// The replies that are lent keep the indexes of those that were appended then, and no outcome yet.
-pub fn append(log: &mut LogState, node: &mut NodeReplica, records: &[Record], replies: &mut Replies)
+pub fn append(
+    log: &mut LogState,
+    node: &mut NodeReplica,
+    records: &Records<'_>,
+    replies: &mut Replies,
+)
     requires may { may_append records.now log.old node.old ≡ true }
     requires fits { Fits log.old node.old }
     requires few { length records.now ≤ 16 }

@@ -1,6 +1,7 @@
 -- Calls and operations, what a history of them means, whose record each is, the sizes of a store, and the log.
 pub mod Calls
 pub mod Operations
+pub mod Lent
 pub mod History
 pub mod Sessions
 pub mod Limits

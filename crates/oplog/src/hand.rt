@@ -1,10 +1,11 @@
 // The buffer that records are copied into from the log.
 
-ghost use Rattle.std.specs.Prelude.{◌≡◌, ◌↔◌, ◌<◌, ◌≤◌, ◌+◌, ◌^◌, ◌++◌, ◌∷◌, [], length, drop, slice_get, Some, IsTrue, IfOk};
+ghost use Rattle.std.specs.Prelude.{◌≡◌, ◌↔◌, ◌<◌, ◌≤◌, ◌+◌, ◌^◌, ◌++◌, ◌∷◌, [], length, drop, IsTrue, IfOk};
 ghost use Rattle.oplog.specs.Limits.{IsWindow};
 ghost use Rattle.oplog.specs.Logs.{opened_hand};
 
 use crate::kept::Kept;
+use crate::lent::Records;
 use crate::records::Record;
 use std::alloc::{AllocError, Global};
 use std::marker::Model;
@@ -69,14 +70,6 @@ impl Hand {
         self.records.len() == 0
     }
 
-    /// The record at an index of the hand, from 0 on.
-    pub fn record(&self, k: usize) -> &Record
-        requires index { k < length self.now.records }
-        ensures record { slice_get self.now.records k ≡ Some result.now }
-    {
-        &self.records.as_slice()[k]
-    }
-
     /// Makes the hand empty, with its beginning at an index of the history.
     pub fn clear(&mut self, begin: u64)
         ensures empty { self.new ≡ record self.old { begin = begin; records = [] } }
@@ -94,11 +87,11 @@ impl Hand {
     }
 
     /// Puts copies of these records at the end. There is room for them.
-    pub fn extend(&mut self, records: &[Record])
+    pub fn extend(&mut self, records: &Records<'_>)
         requires room { length self.old.records + length records.now ≤ self.old.window }
         ensures extended { self.new ≡ record self.old { records = self.old.records ++ records.now } }
     {
-        for record in records {
+        for record in records.as_slice() {
             self.push(record);
         }
     }
@@ -114,10 +107,23 @@ impl Hand {
     }
 
     /// All records, in order.
-    pub(crate) fn records(&self) -> &[Record]
-        ensures records { result.now ≡ self.now.records }
+    #[inline(always)]
+    pub fn records(&self) -> Records<'_>
+        ensures records { result ≡ self.now.records }
     {
-        self.records.as_slice()
+        self.records.lent()
+    }
+
+    /// Takes the records of a log, the first of which has this index.
+    pub(crate) fn of(begin: u64, records: Kept, window: usize) -> Hand
+        requires room { window ≤ records.room }
+        ensures hand { result ≡ record { begin = begin; records = records.records; window = window } }
+    {
+        Hand {
+            begin,
+            records,
+            window,
+        }
     }
 
     /// Takes the records of a log, the first of which has this index, and leaves its own there. Nothing is copied.

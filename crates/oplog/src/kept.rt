@@ -2,6 +2,7 @@
 
 ghost use Rattle.std.specs.Prelude.{◌≡◌, ◌<◌, ◌≤◌, ◌+◌, ◌++◌, ◌∷◌, length, take, drop, [], vec_capacity, IfOk};
 
+use crate::lent::Records;
 use crate::records::{Record, push_any};
 use std::alloc::{AllocError, Global};
 use std::marker::Model;
@@ -50,6 +51,14 @@ impl Kept {
         &self.filled[..self.count]
     }
 
+    /// All kept records, in order, lent.
+    #[inline(always)]
+    pub(crate) fn lent(&self) -> Records<'_>
+        ensures records { result ≡ self.now.records }
+    {
+        Records::of(self.as_slice())
+    }
+
     /// Drops all.
     pub(crate) fn clear(&mut self)
         ensures empty { self.new ≡ record self.old { records = [] } }
@@ -83,15 +92,6 @@ impl Kept {
         ensures given { other.new ≡ self.old }
     {
         swap(self, other);
-    }
-
-    /// The records alone.
-    pub(crate) fn into_records(self) -> Vec<Record>
-        ensures records { result.items ≡ self.records }
-    {
-        let Kept { mut filled, count } = self;
-        filled.truncate(count);
-        filled
     }
 }
 

@@ -6,7 +6,9 @@ mod answers;
 mod configuration;
 mod hand;
 mod kept;
+mod lent;
 mod log_state;
+mod parts;
 mod records;
 
 pub use answers::{Appended, CopyAnswer, Ended};
@@ -15,5 +17,7 @@ pub use configuration::{
     MOST_WINDOW, OpenError, Sizes, limits,
 };
 pub use hand::Hand;
+pub use lent::{OpRef, Records};
 pub use log_state::LogState;
+pub use parts::OpParts;
 pub use records::{Call, MAX_INSTALLED_BYTES, NewProgram, Op, Record};

@@ -13,6 +13,7 @@ use crate::answers::{Appended, CopyAnswer, Ended};
 use crate::configuration::MAX_SESSIONS;
 use crate::hand::Hand;
 use crate::kept::Kept;
+use crate::lent::Records;
 use crate::records::Record;
 use loader::{Installed, StoreState};
 use maps::MapSet;
@@ -125,18 +126,20 @@ impl LogState {
     }
 
     /// The state before the first record kept, and the records from there on.
-    pub fn into_base(self) -> (StoreState, Vec<Record>)
+    pub fn into_base(self) -> (StoreState, Hand)
         ensures state { result.0 ≡ self.base_state }
-        ensures records { result.1.items ≡ self.records }
+        ensures records { result.1.records ≡ self.records }
     {
         let LogState {
+            base,
             base_maps,
             base_programs,
             records,
+            window,
             ..
         } = self;
         let state = StoreState::of(base_maps, base_programs);
-        (state, records.into_records())
+        (state, Hand::of(base, records, window))
     }
 
     /// The length of the history.
@@ -168,7 +171,7 @@ impl LogState {
     /// # Errors
     ///
     /// L1 where it has as many as it may have.
-    pub fn append(&mut self, batch: &[Record]) -> Result<Appended, Ended>
+    pub fn append(&mut self, batch: &Records<'_>) -> Result<Appended, Ended>
         requires room { min (length batch.now) (left_of self.old) ≤ room_in self.old }
         ensures first { IfOk result (λ a. a.first ≡ tail_of self.old) }
         ensures count { IfOk result (λ a. a.count ≡ min (length batch.now) (left_of self.old)) }
@@ -183,7 +186,7 @@ impl LogState {
         let first = self.tail();
         let count = batch.len().min(left);
         let mut end = first;
-        for record in &batch[..count] {
+        for record in &batch.as_slice()[..count] {
             self.records.push(record);
             end += 1;
             note(&mut self.ends, record.author, end);
@@ -213,12 +216,12 @@ impl LogState {
     }
 
     /// The records from an index on, which is not below the base.
-    pub fn records_from(&self, index: u64) -> &[Record]
+    pub fn records_from(&self, index: u64) -> Records<'_>
         requires base { self.now.base ≤ index }
         requires tail { index ≤ tail_of self.now }
-        ensures records { result.now ≡ records_from self.now index }
+        ensures records { result ≡ records_from self.now index }
     {
-        &self.records.as_slice()[(index - self.base) as usize..]
+        Records::of(&self.records.as_slice()[(index - self.base) as usize..])
     }
 
     /// The completed tail becomes the greater of itself and `n`, which is a length of the history so far.
@@ -273,7 +276,7 @@ impl LogState {
         swap(&mut self.base_programs, programs);
         let dropped = (at - self.base) as usize;
         hand.exchange(self.base, &mut self.records);
-        copy_records(&mut self.records, &hand.records()[dropped..]);
+        copy_records(&mut self.records, &hand.records().as_slice()[dropped..]);
         self.base = at;
     }
 }

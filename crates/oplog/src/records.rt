@@ -2,7 +2,7 @@
 
 ghost use Rattle.std.specs.Prelude.{◌≡◌, ◌<◌, ◌≤◌, ◌+◌, ◌-◌, ◌++◌, ◌∷◌, length, take, drop, replicate, vec_capacity, []};
 ghost use Rattle.maps.specs.Maps.{AreBytes};
-ghost use Rattle.oplog.specs.declared.records.Op.TheVariants.{Run};
+ghost use Rattle.oplog.specs.declared.records.Op.TheVariants.{Run, Install};
 ghost use Rattle.oplog.specs.Calls.{padded};
 
 use maps::MAX_ARG_LEN;
@@ -203,6 +203,16 @@ impl Op {
             }
         }
         self.replace(from);
+    }
+
+    // Becomes the installing of a program. What it makes on the way has the room of a program, which is cleared.
+    #[inline(never)]
+    pub(crate) fn set_install(&mut self, mode: Mode, arg_len: usize, bytes: &[u8])
+        requires argument { arg_len ≤ MAX_ARG_LEN }
+        requires fits { length bytes.now ≤ MAX_INSTALLED_BYTES }
+        ensures program { self.new ≡ Install (record { mode = mode; arg_len = arg_len; bytes = bytes.now }) }
+    {
+        *self = Op::Install(NewProgram::new(mode, arg_len, bytes));
     }
 
     // Becomes the call where it is another operation.

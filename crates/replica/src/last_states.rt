@@ -17,9 +17,9 @@ pub fn last_state(log: LogState, catalogue: &Catalogue) -> StoreState
     requires allowed { AreUpdates catalogue.now log.records }
     ensures state { result ≡ after store_meaning catalogue.now log.base_state log.records }
 {
-    let (state, records) = log.into_base();
+    let (state, hand) = log.into_base();
     let (maps, programs) = state.into_parts();
     let mut ground = Ground::new(maps, programs);
-    perform_all(&mut ground, catalogue, &records);
+    perform_all(&mut ground, catalogue, &hand.records());
     StoreState::of(ground.maps, ground.programs)
 }

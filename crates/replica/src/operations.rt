@@ -2,20 +2,18 @@
 
 ghost use Rattle.std.specs.Prelude.{◌≡◌, ◌+◌, ◌<◌, ◌≤◌, ◌^◌, List, IfSome, length, take, true, Some, option_map};
 ghost use Rattle.maps.specs.declared.shapes.Shape.{Shape};
-ghost use Rattle.maps.specs.Maps.{Maps, HasShapes};
+ghost use Rattle.maps.specs.Maps.{HasShapes};
 ghost use Rattle.maps.specs.MapSets.{maps_of};
 ghost use Rattle.verifier.specs.declared.refusal.Mode.TheVariants.{Update, Read};
-ghost use Rattle.loader.specs.StoreState.{state_of};
-ghost use Rattle.oplog.specs.declared.records.Op.TheVariants.{Install};
 ghost use Rattle.replica.specs.StoreMeaning.{no_program, no_place, is_mode, suits, program_among, run_in, ran_to, answered, updated, is_operation, AreUpdates};
-ghost use Rattle.replica.specs.Grounds.{state_in};
+ghost use Rattle.replica.specs.Grounds.{Installs, installing, state_in};
 ghost use Rattle.replica.specs.Replaying.{KeepsOutcomes, Leaves};
 
 use crate::replying::Replies;
 use loader::{Catalogue, Installed};
 use machine::{Machine, Outcome, run_in};
 use maps::MapSet;
-use oplog::{Hand, NewProgram, Op, Record};
+use oplog::{Hand, OpParts, OpRef, Records};
 use verifier::{Accepted, Mode};
 
 /// What operations run on.
@@ -114,15 +112,21 @@ pub(crate) fn run_suitable(
 
 // Installs a program that was found to be one, where a place is free.
 #[inline(never)]
-fn install(catalogue: &Catalogue, programs: &mut Installed, new: &NewProgram) -> Outcome
+fn install(
+    catalogue: &Catalogue,
+    programs: &mut Installed,
+    mode: Mode,
+    arg_len: usize,
+    bytes: &[u8],
+) -> Outcome
     requires shapes { programs.old.shapes ≡ catalogue.now.shapes }
-    requires update { is_operation Update catalogue.now (Install new.now) ≡ true }
-    ensures updated { (m : Maps) → updated catalogue.now (Install new.now) (state_of m programs.old) ≡ Some (answered result (state_of m programs.new)) }
+    requires update { is_operation Update catalogue.now (installing mode arg_len bytes.now) ≡ true }
+    ensures updated { Installs catalogue.now (installing mode arg_len bytes.now) programs.old result programs.new }
     ensures sizes { (programs.new.shapes ≡ programs.old.shapes) × (programs.new.places ≡ programs.old.places) }
 {
     let place = programs.len();
     if place < programs.places() {
-        match programs.install(new.mode(), new.arg_len(), new.bytes()) {
+        match programs.install(mode, arg_len, bytes) {
             Ok(()) => Outcome {
                 reply: (catalogue.len() + place) as u64,
                 steps: 0,
@@ -139,7 +143,7 @@ fn install(catalogue: &Catalogue, programs: &mut Installed, new: &NewProgram) ->
 
 // Performs one operation.
 #[inline(always)]
-fn perform(on: &mut Ground, catalogue: &Catalogue, op: &Op) -> Outcome
+fn perform(on: &mut Ground, catalogue: &Catalogue, op: &OpRef<'_>) -> Outcome
     requires shapes { HasShapes catalogue.now.shapes (maps_of on.old.maps) }
     requires programs { on.old.programs.shapes ≡ catalogue.now.shapes }
     requires update { is_operation Update catalogue.now op.now ≡ true }
@@ -147,18 +151,22 @@ fn perform(on: &mut Ground, catalogue: &Catalogue, op: &Op) -> Outcome
     ensures shapes { HasShapes catalogue.now.shapes (maps_of on.new.maps) }
     ensures sizes { (on.new.programs.shapes ≡ on.old.programs.shapes) × (on.new.programs.places ≡ on.old.programs.places) }
 {
-    match op {
-        Op::Run(call) => {
-            let program = program_of(catalogue, &on.programs, call.program());
+    match op.parts() {
+        OpParts::Run { program, argument } => {
+            let program = program_of(catalogue, &on.programs, program);
             run_suitable(
                 &mut on.machine,
                 program,
                 Mode::Update,
                 &mut on.maps,
-                call.argument(),
+                argument,
             )
         }
-        Op::Install(new) => install(catalogue, &mut on.programs, new),
+        OpParts::Install {
+            mode,
+            arg_len,
+            bytes,
+        } => install(catalogue, &mut on.programs, mode, arg_len, bytes),
     }
 }
 
@@ -181,15 +189,16 @@ pub(crate) fn perform_first(
     ensures kept { KeepsOutcomes catalogue.now (state_in on.old) hand.now.begin (take count hand.now.records) replies.old replies.new }
 {
     let first = hand.begin();
+    let records = hand.records();
     for k in 0..count {
-        let record = hand.record(k);
-        let outcome = perform(on, catalogue, &record.op);
+        let op = records.op(k);
+        let outcome = perform(on, catalogue, &op);
         replies.keep(first + k as u64, outcome);
     }
 }
 
 // Performs the operations of records, one after the other.
-pub(crate) fn perform_all(on: &mut Ground, catalogue: &Catalogue, records: &[Record])
+pub(crate) fn perform_all(on: &mut Ground, catalogue: &Catalogue, records: &Records<'_>)
     requires shapes { HasShapes catalogue.now.shapes (maps_of on.old.maps) }
     requires programs { on.old.programs.shapes ≡ catalogue.now.shapes }
     requires allowed { AreUpdates catalogue.now records.now }
@@ -197,7 +206,8 @@ pub(crate) fn perform_all(on: &mut Ground, catalogue: &Catalogue, records: &[Rec
     ensures shapes { HasShapes catalogue.now.shapes (maps_of on.new.maps) }
     ensures programs { on.new.programs.shapes ≡ catalogue.now.shapes }
 {
-    for record in records {
-        perform(on, catalogue, &record.op);
+    for k in 0..records.len() {
+        let op = records.op(k);
+        perform(on, catalogue, &op);
     }
 }

@@ -18,7 +18,7 @@ use loader::{Catalogue, Installed, StoreState};
 use machine::Outcome;
 use maps::MapSet;
 use node::{NodeReplica, append, finish, reclaim, replay};
-use oplog::{Hand, LogState, MAX_WINDOW, NewProgram, Op, Record};
+use oplog::{Hand, LogState, MAX_WINDOW, NewProgram, Op, Record, Records};
 use replica::{Replica, Replies, StoreRefused, check_install};
 use scripts::ProgramText;
 use std::alloc::{AllocError, Global};
@@ -164,8 +164,8 @@ impl SingleNode {
         if self.log.left() == 0 {
             return None;
         }
-        let records = from_ref(&self.next);
-        append(&mut self.log, &mut self.own, records, &mut self.replies);
+        let records = Records::of(from_ref(&self.next));
+        append(&mut self.log, &mut self.own, &records, &mut self.replies);
         replay(&mut self.own, catalogue, &mut self.replies);
         finish(&mut self.log, &self.own);
         self.replies.get(0)

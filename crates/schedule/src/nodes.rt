@@ -150,7 +150,7 @@ impl Node {
         if !self.is_idle(slot) {
             return StepAnswer::NotNow;
         }
-        match self.desk.post(slot as usize, &op) {
+        match self.desk.post(slot as usize, &op.lent()) {
             Ok(()) => StepAnswer::Done,
             Err(_) => StepAnswer::NotNow,
         }
@@ -185,7 +185,7 @@ impl Node {
         match mem::replace(&mut self.batch, NodeBatch::Absent) {
             NodeBatch::Held(batch) => {
                 let mut replies = Replies::new(0, 0);
-                node::append(log, &mut self.own, batch.records(), &mut replies);
+                node::append(log, &mut self.own, &batch.records(), &mut replies);
                 self.batch = NodeBatch::InLog(Written { batch, replies });
                 StepAnswer::Done
             }
@@ -198,7 +198,7 @@ impl Node {
         ensures may { result ≡ may_append_batch self.now.batch log.now (own_of self.now) }
     {
         match &self.batch {
-            NodeBatch::Held(batch) => node::may_append(log, &self.own, batch.records()),
+            NodeBatch::Held(batch) => node::may_append(log, &self.own, &batch.records()),
             _ => false,
         }
     }

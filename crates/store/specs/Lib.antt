@@ -6,7 +6,6 @@ pub mod Codes
 -- What the store's inner functions speak of.
 pub mod Places
 pub mod Going
-pub mod Asked
 -- Keys, states, and what is looked for without waiting.
 pub mod Looks
 -- Calls that ask a store what it is.

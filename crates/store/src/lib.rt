@@ -3,7 +3,6 @@
 #![tactic(auto)]
 
 mod answers;
-mod asked;
 mod closed;
 mod describing;
 mod laws;

@@ -27,7 +27,7 @@ use crate::session::{Session, answer_of};
 use crate::store::Store;
 use combiner::Batch;
 use loader::{Installed, StoreState};
-use oplog::{Call, NewProgram, Op};
+use oplog::OpRef;
 use ownlock::Seat;
 use readpath::ReadAnswer;
 use replica::{Replies, StoreRefused, check_call, check_install};
@@ -197,7 +197,7 @@ impl Polled {
 
     // Posts an operation that is not refused. `None` where the desk is held.
     #[inline(always)]
-    pub(crate) fn post(&mut self, store: &Store, op: &Op) -> Option<()>
+    pub(crate) fn post(&mut self, store: &Store, op: &OpRef<'_>) -> Option<()>
         requires own { IsOf store.now self.old }
         requires idle { self.old.note.pending ≡ None }
         requires update { is_operation Update store.now.catalogue op.now ≡ true }
@@ -266,8 +266,8 @@ impl Polled {
         // This opens the session's invariant for the proof: a refused call uses no other part of the session.
         let _seat = &self.seat;
         check_call(store.catalogue(), Mode::Update, program, argument)?;
-        let call = Call::new(program, argument);
-        let Some(()) = self.post(store, &Op::Run(call)) else {
+        let call = OpRef::run(program, argument);
+        let Some(()) = self.post(store, &call) else {
             return Ok(None);
         };
         Ok(Some(()))
@@ -312,8 +312,8 @@ impl Polled {
             → PostGoes self.old self.new (install_of mode arg_len bytes.now) result }
     {
         check_install(&mut self.room, mode, arg_len as u64, bytes)?;
-        let program = NewProgram::new(mode, arg_len, bytes);
-        let Some(()) = self.post(store, &Op::Install(program)) else {
+        let install = OpRef::install(mode, arg_len, bytes);
+        let Some(()) = self.post(store, &install) else {
             return Ok(None);
         };
         Ok(Some(()))

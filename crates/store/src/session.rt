@@ -7,7 +7,6 @@ ghost use Rattle.verifier.specs.declared.refusal.Mode.TheVariants.{Update, Read}
 ghost use Rattle.replica.specs.StoreMeaning.{is_operation};
 ghost use Rattle.replica.specs.declared.refusals.StoreRefused.{StoreRefused};
 ghost use Rattle.replica.specs.Refusals.{early_refusal};
-ghost use Rattle.store.specs.Asked.{FitsCall, operation_of};
 ghost use Rattle.store.specs.Going.{UpdateGoes};
 ghost use Rattle.store.specs.Sessions.{said};
 ghost use Rattle.store_steps.specs.Questions.{first_refused};
@@ -19,11 +18,10 @@ ghost use Rattle.store_steps.specs.Views.{IsIdle, op_of, session_view};
 ghost use Rattle.store.specs.Sessions.{IsOf, SessionGoesOn, TellsUpdate, HasRoom, MayUpdate, known_of, install_of, install_refused};
 
 use crate::answers::Answer;
-use crate::asked::{Asked, write};
 use crate::store::Store;
 use combiner::Reply;
 use loader::{Installed, StoreState};
-use oplog::{NewProgram, Op};
+use oplog::OpRef;
 use ownlock::Seat;
 use readpath::ReadAnswer;
 use replica::{StoreRefused, check_call, check_install};
@@ -63,8 +61,6 @@ pub struct Session {
     combining: Room,
     // Room to find out whether a program may be installed.
     pub(crate) room: Installed,
-    // Room for the operation that it asks for.
-    op: Op,
 }
 
 impl Model for Session {
@@ -103,7 +99,6 @@ impl Session {
             caller,
             combining: Room::new(),
             room,
-            op: Op::default(),
         }
     }
 
@@ -127,7 +122,6 @@ impl Session {
             caller,
             combining: _combining,
             room,
-            op: _op,
         } = self;
         (seat, caller, room)
     }
@@ -187,27 +181,25 @@ impl Session {
         &mut self,
         rt: &R,
         store: &Store,
-        asked: Asked<'_>,
+        op: &OpRef<'_>,
         at_once: bool,
     ) -> Result<Answer, StoreRefused>
         requires own { IsOf store.now self.old }
-        requires fits { FitsCall asked }
-        requires update { is_operation Update store.now.catalogue (operation_of asked) ≡ true }
+        requires update { is_operation Update store.now.catalogue op.now ≡ true }
         ensures session { SessionGoesOn store.now self.old self.new }
-        ensures answered { TellsUpdate self.old self.new (operation_of asked.entry) result }
-        ensures goes { UpdateGoes self.old self.new (operation_of asked.entry) result }
+        ensures answered { TellsUpdate self.old self.new op.now result }
+        ensures goes { UpdateGoes self.old self.new op.now result }
     {
         let shared = store.shared();
         let here = Here {
             shared,
             caller: self.caller,
         };
-        write(&mut self.op, asked);
         if at_once {
-            let given = ask_at_once(rt, here, &mut self.seat, &self.op, &mut self.combining);
+            let given = ask_at_once(rt, here, &mut self.seat, op, &mut self.combining);
             return answer_of(given);
         }
-        post(rt, here, &mut self.seat, &self.op);
+        post(rt, here, &mut self.seat, op);
         let reply = complete(rt, here, &mut self.seat, &mut self.combining);
         answer_of(reply)
     }
@@ -235,7 +227,8 @@ impl Session {
             question.program,
             question.argument,
         )?;
-        self.perform(rt, store, Asked::Call(question), at_once)
+        let op = OpRef::run(question.program, question.argument);
+        self.perform(rt, store, &op, at_once)
     }
 
     /// Runs an update program of the store on its argument, as the next operation of the history. A number behind the catalogue's programs
@@ -362,8 +355,8 @@ impl Session {
             → UpdateGoes self.old self.new (install_of mode arg_len bytes.now) result }
     {
         check_install(&mut self.room, mode, arg_len as u64, bytes)?;
-        let program = NewProgram::new(mode, arg_len, bytes);
-        self.perform(rt, store, Asked::New(&program), false)
+        let op = OpRef::install(mode, arg_len, bytes);
+        self.perform(rt, store, &op, false)
     }
 
     // Looks at the replica of the session's node, once the replica has everything that was completed when the call began.

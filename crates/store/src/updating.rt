@@ -14,14 +14,14 @@ ghost use Rattle.store_steps.specs.Views.{op_of};
 
 use crate::polled::Polled;
 use crate::store::Store;
-use oplog::{Call, Op};
+use oplog::OpRef;
 use replica::{StoreRefused, check_call};
 use store_steps::{Here, try_begin};
 use verifier::Mode;
 
 impl Polled {
     // Posts an operation that is not refused, and claims the requests of its node in the same hold of the desk. `None` where the desk is held.
-    fn begin(&mut self, store: &Store, op: &Op) -> Option<()>
+    fn begin(&mut self, store: &Store, op: &OpRef<'_>) -> Option<()>
         requires own { IsOf store.now self.old }
         requires idle { self.old.note.pending ≡ None }
         requires update { is_operation Update store.now.catalogue op.now ≡ true }
@@ -87,8 +87,8 @@ impl Polled {
         // This opens the session's invariant for the proof: a refused call uses no other part of the session.
         let _seat = &self.seat;
         check_call(store.catalogue(), Mode::Update, program, argument)?;
-        let call = Call::new(program, argument);
-        let Some(()) = self.begin(store, &Op::Run(call)) else {
+        let op = OpRef::run(program, argument);
+        let Some(()) = self.begin(store, &op) else {
             return Ok(None);
         };
         Ok(Some(()))

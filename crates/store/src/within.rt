@@ -12,14 +12,13 @@ ghost use Rattle.store.specs.Sessions.{IsOf, SessionGoesOn, TellsUpdate};
 ghost use Rattle.store.specs.Within.{install_within, outside_refusal, program_within, refused_as, within_refusal, within_refused};
 
 use crate::answers::Answer;
-use crate::asked::Asked;
 use crate::polled::Polled;
 use crate::session::Session;
 use crate::store::Store;
 use loader::{InstallRefusal, Installed};
 use maps::MAX_ARG_LEN;
 use named_maps::first_outside;
-use oplog::{MAX_INSTALLED_BYTES, NewProgram, Op};
+use oplog::{MAX_INSTALLED_BYTES, OpRef};
 use replica::StoreRefused;
 use std::sync::Wait;
 use verifier::{Accepted, Mode, Refused, VerifyFault};
@@ -136,8 +135,8 @@ impl Session {
         ensures goes { within_refused store.now wanted.entry ≡ None → UpdateGoes self.old self.new (install_within wanted.entry) result }
     {
         check_within(&mut self.room, wanted)?;
-        let program = NewProgram::new(wanted.mode, wanted.arg_len, wanted.bytes);
-        self.perform(rt, store, Asked::New(&program), false)
+        let op = OpRef::install(wanted.mode, wanted.arg_len, wanted.bytes);
+        self.perform(rt, store, &op, false)
     }
 }
 
@@ -179,8 +178,8 @@ impl Polled {
         ensures goes { within_refused store.now asked.entry ≡ None → PostGoes self.old self.new (install_within asked.entry) result }
     {
         check_within(&mut self.room, asked)?;
-        let program = NewProgram::new(asked.mode, asked.arg_len, asked.bytes);
-        let Some(()) = self.post(store, &Op::Install(program)) else {
+        let op = OpRef::install(asked.mode, asked.arg_len, asked.bytes);
+        let Some(()) = self.post(store, &op) else {
             return Ok(None);
         };
         Ok(Some(()))

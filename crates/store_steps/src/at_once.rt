@@ -18,7 +18,7 @@ use crate::steps::Here;
 use crate::values::Value;
 use crate::visits::{try_take_desk, turn_and_put};
 use combiner::{Batch, Reply};
-use oplog::Op;
+use oplog::OpRef;
 use ownlock::Seat;
 use replica::Replies;
 use std::marker::Brand;
@@ -30,7 +30,7 @@ use std::sync::Wait;
 pub fn try_post_and_turn(
     here: Here<'_>,
     seat: &mut Seat<Value>,
-    op: &Op,
+    op: &OpRef<'_>,
     batch: &mut Batch,
 ) -> Option<Turn>
     requires own { seat.old.shelf ≡ here.shared.shelf.now.id }
@@ -78,7 +78,7 @@ fn post_and_turn<R: Wait>(
     rt: &R,
     here: Here<'_>,
     seat: &mut Seat<Value>,
-    op: &Op,
+    op: &OpRef<'_>,
     batch: &mut Batch,
 ) -> Turn
     requires own { seat.old.shelf ≡ here.shared.shelf.now.id }
@@ -135,7 +135,7 @@ pub fn ask_at_once<R: Wait>(
     rt: &R,
     here: Here<'_>,
     seat: &mut Seat<Value>,
-    op: &Op,
+    op: &OpRef<'_>,
     room: &mut Room,
 ) -> Reply
     requires own { seat.old.shelf ≡ here.shared.shelf.now.id }

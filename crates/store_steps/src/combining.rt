@@ -46,7 +46,7 @@ pub(crate) fn try_combine(
         return Err(1 + here.caller.node);
     };
     let node = held.value.replica_mut();
-    let Some(()) = try_append_and_copy(here.shared, seat, node, batch.records(), replies) else {
+    let Some(()) = try_append_and_copy(here.shared, seat, node, &batch.records(), replies) else {
         shelf.put::<Brand>(seat, held);
         return Err(LEADER);
     };

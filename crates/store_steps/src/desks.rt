@@ -12,7 +12,7 @@ ghost use Rattle.store_steps.specs.Standing.{SessionKnown};
 
 use combiner::{Batch, Desk, Reply};
 use node::answer_batch;
-use oplog::Op;
+use oplog::OpRef;
 use replica::Replies;
 
 /// What a session did that looked for the answer to its request.
@@ -28,7 +28,7 @@ pub enum Turn {
 
 /// Posts an update of the store's catalogue in the session's slot. The session waits for no other answer.
 #[inline(always)]
-pub fn post(desk: &mut Desk, slot: usize, op: &Op)
+pub fn post(desk: &mut Desk, slot: usize, op: &OpRef<'_>)
     requires own { (k : SessionKnown) × IsAt slot k desk.old × (k.note.pending ≡ None) × IsAllowed store_meaning k.progress.catalogue op.now }
     ensures posted { posted slot op.now desk.old ≡ Some desk.new }
     ensures step { (k : SessionKnown) → IsAt slot k desk.old → IsAllowed store_meaning k.progress.catalogue op.now → PostSteps k op.now desk.old desk.new }

@@ -16,7 +16,7 @@ use crate::desks::Turn;
 use crate::steps::Here;
 use crate::values::Value;
 use combiner::Batch;
-use oplog::Op;
+use oplog::OpRef;
 use ownlock::{Held, Seat};
 use replica::Replies;
 use std::marker::Brand;
@@ -27,7 +27,7 @@ pub(crate) fn post_and_settle(
     here: Here<'_>,
     seat: &mut Seat<Value>,
     mut held: Held<Value>,
-    op: &Op,
+    op: &OpRef<'_>,
 ) -> Held<Value>
     requires own { seat.old.shelf ≡ here.shared.shelf.now.id }
     requires place { IsDesk here held }
@@ -48,7 +48,7 @@ pub(crate) fn post_and_hand_on(
     here: Here<'_>,
     at: &mut Seat<Value>,
     mut held: Held<Value>,
-    op: &Op,
+    op: &OpRef<'_>,
     next: Seat<Value>,
 ) -> (Held<Value>, Seat<Value>)
     requires own { (at.old.shelf ≡ here.shared.shelf.now.id) × (next.shelf ≡ here.shared.shelf.now.id) }

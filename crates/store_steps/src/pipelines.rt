@@ -22,7 +22,7 @@ use crate::steps::{Caller, Here, Question, Shared};
 use crate::values::Value;
 use crate::visits::turn_and_put;
 use combiner::{Batch, Reply};
-use oplog::Op;
+use oplog::OpRef;
 use ownlock::{Held, Seat};
 use replica::Replies;
 use std::sync::Wait;
@@ -41,7 +41,6 @@ fn post_later(
     shared: Shared<'_>,
     members: &mut [Member],
     calls: &[Question<'_>],
-    op: &mut Op,
     last: (Seat<Value>, Held<Value>),
 ) -> (Seat<Value>, Held<Value>)
     requires members { AreMembers shared.shelf.now.id members.old }
@@ -60,7 +59,7 @@ fn post_later(
     let mut number = calls.len() - 1;
     while 0 < number {
         let asked = calls[number];
-        op.set_call(asked.program, asked.argument);
+        let op = OpRef::run(asked.program, asked.argument);
         let previous = number - 1;
         let before = &mut members[previous];
         let next = shared.shelf.split(&mut before.seat);
@@ -69,7 +68,7 @@ fn post_later(
             shared,
             caller: own.caller,
         };
-        let (again, done) = post_and_hand_on(here, &mut at, held, op, next);
+        let (again, done) = post_and_hand_on(here, &mut at, held, &op, next);
         own.seat = done;
         held = again;
         number = previous;
@@ -140,7 +139,6 @@ pub(crate) fn try_post_each(
     shared: Shared<'_>,
     members: &mut [Member],
     calls: &[Question<'_>],
-    op: &mut Op,
     batch: &mut Batch,
 ) -> Result<(), usize>
     requires may { MayPostEach shared members.old calls.now }
@@ -163,9 +161,9 @@ pub(crate) fn try_post_each(
             return Err(place);
         }
     };
-    let (at, held) = post_later(shared, members, calls, op, (at, held));
-    op.set_call(calls[0].program, calls[0].argument);
-    claim_first(shared, members, op, batch, (at, held));
+    let (at, held) = post_later(shared, members, calls, (at, held));
+    let op = OpRef::run(calls[0].program, calls[0].argument);
+    claim_first(shared, members, &op, batch, (at, held));
     Ok(())
 }
 
@@ -173,7 +171,7 @@ pub(crate) fn try_post_each(
 fn claim_first(
     shared: Shared<'_>,
     members: &mut [Member],
-    op: &Op,
+    op: &OpRef<'_>,
     batch: &mut Batch,
     first: (Seat<Value>, Held<Value>),
 )
@@ -238,8 +236,6 @@ pub(crate) fn try_give_each(
 /// Room for what the sessions of a pipeline do together.
 #[derive(Drop)]
 pub struct EachRoom {
-    /// For the operation that a session posts.
-    pub op: Op,
     /// For the requests of their node, with what the first session has combined.
     pub combining: Room,
 }
@@ -258,7 +254,7 @@ fn post_each<R: Wait>(
 {
     for _ in rt.forever() {
         let batch = &mut room.combining.batch;
-        match try_post_each(shared, members, calls, &mut room.op, batch) {
+        match try_post_each(shared, members, calls, batch) {
             Ok(()) => return,
             Err(place) => watch(shared.shelf, place),
         }
@@ -319,7 +315,6 @@ impl EachRoom {
     /// Room with nothing in it.
     pub fn new() -> EachRoom {
         EachRoom {
-            op: Op::default(),
             combining: Room::new(),
         }
     }

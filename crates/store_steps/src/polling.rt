@@ -17,7 +17,7 @@ use crate::desks::Turn;
 use crate::steps::Here;
 use crate::values::Value;
 use combiner::Batch;
-use oplog::Op;
+use oplog::OpRef;
 use ownlock::Seat;
 use replica::Replies;
 
@@ -26,7 +26,7 @@ use replica::Replies;
 pub fn try_begin(
     here: Here<'_>,
     seat: &mut Seat<Value>,
-    op: &Op,
+    op: &OpRef<'_>,
     batch: &mut Batch,
     stage: &mut Stage,
 ) -> Option<()>

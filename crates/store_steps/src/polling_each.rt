@@ -45,7 +45,7 @@ pub fn try_begin_each(
     ensures held { IfSome result (λ _. PostsInOneHold (session_at members.old) (session_at members.new) calls.now room.new.combining.batch) }
 {
     let batch = &mut room.combining.batch;
-    let Ok(()) = try_post_each(shared, members, calls, &mut room.op, batch) else {
+    let Ok(()) = try_post_each(shared, members, calls, batch) else {
         return None;
     };
     *stage = EachStage::Claimed;

@@ -16,14 +16,14 @@ use crate::values::Value;
 use crate::visits::{try_take_desk, turn_and_put};
 use combiner::{Batch, Reply};
 use crossbeam_utils::Backoff;
-use oplog::Op;
+use oplog::OpRef;
 use ownlock::{Seat, Shelf};
 use std::marker::Brand;
 use std::sync::Wait;
 
 /// Posts an operation at the desk of the caller's node. If another session holds the desk, the answer is `None`, and nothing has changed.
 #[inline(always)]
-pub fn try_post(here: Here<'_>, seat: &mut Seat<Value>, op: &Op) -> Option<()>
+pub fn try_post(here: Here<'_>, seat: &mut Seat<Value>, op: &OpRef<'_>) -> Option<()>
     requires own { seat.old.shelf ≡ here.shared.shelf.now.id }
     requires idle { AwaitsNothing seat.old here.caller here.shared }
     requires update { is_operation Update here.shared.catalogue.now op.now ≡ true }
@@ -42,7 +42,7 @@ pub fn try_post(here: Here<'_>, seat: &mut Seat<Value>, op: &Op) -> Option<()>
 
 /// `try_post`, but waits while another session holds the desk.
 #[inline(always)]
-pub fn post<R: Wait>(rt: &R, here: Here<'_>, seat: &mut Seat<Value>, op: &Op)
+pub fn post<R: Wait>(rt: &R, here: Here<'_>, seat: &mut Seat<Value>, op: &OpRef<'_>)
     requires own { seat.old.shelf ≡ here.shared.shelf.now.id }
     requires idle { AwaitsNothing seat.old here.caller here.shared }
     requires update { is_operation Update here.shared.catalogue.now op.now ≡ true }

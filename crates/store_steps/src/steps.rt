@@ -24,7 +24,7 @@ use node::{
     NodeReplica, append_only, copy, exchange, follow, may_rebase, rebase, reclaim, replay,
     replay_first,
 };
-use oplog::{LogState, MAX_NODES, MAX_SESSIONS, Record};
+use oplog::{LogState, MAX_NODES, MAX_SESSIONS, Records};
 use ownlock::{Held, LEADER, Seat, Shelf};
 use readpath::ready;
 use replica::Replies;
@@ -264,7 +264,7 @@ fn make_room(
 }
 
 // Applies the first of the records in the hand to the replica, so many, and puts these behind the others.
-fn replay_owed(node: &mut NodeReplica, catalogue: &Catalogue, owed: usize, appended: &[Record])
+fn replay_owed(node: &mut NodeReplica, catalogue: &Catalogue, owed: usize, appended: &Records<'_>)
     requires next { IsNext catalogue.now node.old }
     requires owed { owed ≤ length node.old.hand.records }
     requires room { length (drop owed node.old.hand.records) + length appended.now ≤ node.old.hand.window }
@@ -285,7 +285,7 @@ pub(crate) fn try_append_and_copy(
     shared: Shared<'_>,
     seat: &mut Seat<Value>,
     node: &mut NodeReplica,
-    records: &[Record],
+    records: &Records<'_>,
     replies: &mut Replies,
 ) -> Option<()>
     requires own { seat.old.shelf ≡ shared.shelf.now.id }
@@ -301,10 +301,13 @@ pub(crate) fn try_append_and_copy(
         return None;
     };
     let log = held.value.log_mut();
-    let owed = make_room(shared, seat, log, node, records.len());
+    let wanted = records.len();
+    let owed = make_room(shared, seat, log, node, wanted);
     append_only(log, records, replies);
     shared.shelf.put::<Brand>(seat, held);
-    replay_owed(node, shared.catalogue, owed, &records[..replies.len()]);
+    let count = replies.len();
+    let appended = records.first(count);
+    replay_owed(node, shared.catalogue, owed, &appended);
     Some(())
 }
 

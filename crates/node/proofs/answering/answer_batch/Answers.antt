@@ -7,7 +7,7 @@ pub loop-k-preserved : goal.loop-k-preserved
 loop-k-preserved c =
     let i = c.loop-k.invariant in
     let lt = c.loop-k-test.true in
-    let all = ap length c.records-k-end.ensures.records in
+    let all = c.len-k-end.ensures.len ∙ ap length c.records.ensures.records in
     record {
       records = ap (λ b. b.records) c.answer.ensures.set ∙ i.records;
       answers = ap (λ b. length b.answers) c.answer.ensures.set ∙ (length-set c.loop-k.batch.answers c.loop-k.k _ ∙ i.answers);

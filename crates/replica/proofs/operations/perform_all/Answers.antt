@@ -1,22 +1,25 @@
-use Rattle.std.proofs.Common.{◌∙◌, ◌<◌, length, refl, rules}
-use Rattle.std.proofs.lemmas.Option.{slice_get_read}
+use Rattle.std.proofs.Common.{◌≡◌, ◌∙◌, Some, subst, sym}
 use Rattle.loader.specs.StoreState.{StoreState}
+use Rattle.oplog.specs.declared.records.Record.{Record}
+use Rattle.oplog.specs.Operations.{Operation}
 use Rattle.replica.specs.Grounds.{state_in}
+use Rattle.replica.specs.StoreMeaning.{answered, updated}
 use Rattle.replica.proofs.Afters.{after_one_more}
 use Rattle.replica.proofs.Kept.{leaves}
 use Rattle.replica.proofs.operations.perform_all.Goals as goal
 
-pub loop-record-preserved : goal.loop-record-preserved
-loop-record-preserved c =
+pub loop-k-preserved : goal.loop-k-preserved
+loop-k-preserved c =
     let opening : StoreState = state_in c.args.on.now in
-    let before : StoreState = state_in c.loop-record.on in
+    let before : StoreState = state_in c.loop-k.on in
     let after : StoreState = state_in c.perform.new.on in
-    let within : c.loop-record.record-index < length c.args.records.now = search rules in
-    let there = slice_get_read c.args.records.now (length c.args.records.now) c.loop-record.record-index c.record-item.result refl within c.record-item.is in
+    let r : Record = c.op-op.ensures.op.0 in
+    let does : updated c.args.catalogue.now r.op before ≡ Some (answered c.perform.result after) =
+    subst (λ (op : Operation). updated c.args.catalogue.now op before ≡ Some (answered c.perform.result after)) (sym c.op-op.ensures.op.2) c.perform.ensures.updated in
     record {
       shapes = c.perform.ensures.shapes;
-      programs = c.perform.ensures.sizes.0 ∙ c.loop-record.invariant.programs;
+      programs = c.perform.ensures.sizes.0 ∙ c.loop-k.invariant.programs;
       state =
-          after_one_more c.args.catalogue.now opening before after c.args.records.now c.loop-record.record-index c.record-item.result there c.loop-record.invariant.state
-          (leaves c.args.catalogue.now c.record-item.result.op before after c.perform.result c.perform.ensures.updated);
+          after_one_more c.args.catalogue.now opening before after c.args.records.now c.loop-k.k r c.op-op.ensures.op.1 c.loop-k.invariant.state
+          (leaves c.args.catalogue.now r.op before after c.perform.result does);
     }

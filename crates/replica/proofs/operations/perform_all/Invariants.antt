@@ -7,9 +7,9 @@ use Rattle.replica.specs.Grounds.{state_in}
 use Rattle.replica.specs.StoreMeaning.{store_meaning}
 use Rattle.replica.proofs.operations.perform_all.Given as goal
 
-abbrev pub invariant-loop-record : goal.invariant-loop-record
-invariant-loop-record l = record {
+abbrev pub invariant-loop-k : goal.invariant-loop-k
+invariant-loop-k l = record {
   shapes : HasShapes l.catalogue.shapes (maps_of l.on.maps);
   programs : l.on.programs.shapes ≡ l.catalogue.shapes;
-  state : state_in l.on ≡ after store_meaning l.catalogue (state_in l.fn.on) (take l.record-index l.records);
+  state : state_in l.on ≡ after store_meaning l.catalogue (state_in l.fn.on) (take l.k l.records);
 }

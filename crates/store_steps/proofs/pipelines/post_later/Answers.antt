@@ -32,8 +32,8 @@ loop-number-init c =
       };
     }
 
-pub set_call-requires : goal.set_call-requires
-set_call-requires c =
+pub run-op-requires : goal.run-op-requires
+run-op-requires c =
     let up = c.loop-number.invariant.posting.upto in
     let q = at_there c.args.calls.now c.loop-number.number up in
     record { fits = subst (λ (z : Question). length z.argument.now ≤ MAX_ARG_LEN) (sym (or_at c.args.calls.now c.loop-number.number _ q.0 q.1)) (c.requires.calls c.loop-number.number q.0 q.1).1 }
@@ -89,7 +89,7 @@ post_and_hand_on-again-requires-clause-next c =
 pub post_and_hand_on-again-requires-clause-update : goal.post_and_hand_on-again-requires-clause-update
 post_and_hand_on-again-requires-clause-update c =
     let q = at_there c.args.calls.now c.loop-number.number c.loop-number.invariant.posting.upto in
-    subst (λ z. is_operation Update c.args.shared.catalogue.now z ≡ true) (sym (c.set_call.ensures.call ∙ ap asked_op (or_at c.args.calls.now c.loop-number.number _ q.0 q.1))) (c.requires.calls c.loop-number.number q.0 q.1).0
+    subst (λ z. is_operation Update c.args.shared.catalogue.now z ≡ true) (sym (c.run-op.ensures.call ∙ ap asked_op (or_at c.args.calls.now c.loop-number.number _ q.0 q.1))) (c.requires.calls c.loop-number.number q.0 q.1).0
 
 pub loop-number-preserved : goal.loop-number-preserved
 loop-number-preserved c =
@@ -102,7 +102,7 @@ loop-number-preserved c =
     let alone = alone_now c.args.shared c.args.members.now (length c.args.calls.now - 1) c.args.last.0 c.args.last.1 c.requires.has idle c.loop-number.number (omega (arith, c.loop-number.invariant.posting.upto)) in
     record {
       posting = posting_on c.args.shared c.args.members.now c.args.calls.now c.args.last.0 c.args.last.1 c.loop-number.members c.loop-number.number c.loop-number.at c.loop-number.held inv (c.loop-number.number - 1) (omega (arith, c.loop-number-test.true)) _ _ there own c.requires.idle (are.near c.loop-number.number (c.loop-number.number - 1) _ _ own there) c.split-next.result (λ k ks is. (c.split-next.ensures.apart k ks is).1) cur alone c.split-next.new.seat c.post_and_hand_on-again.result.1
-          c.split-next.ensures.same.0 (c.post_and_hand_on-again.ensures.same.1 ∙ (inv.shelf ∙ sym (are.own c.loop-number.number _ own))) _ refl c.post_and_hand_on-again.new.at (c.post_and_hand_on-again.ensures.same.0 ∙ inv.shelf) c.post_and_hand_on-again.result.0 c.set_call.new.self (λ q at. c.set_call.ensures.call ∙ ap asked_op (or_at c.args.calls.now c.loop-number.number _ q at))
+          c.split-next.ensures.same.0 (c.post_and_hand_on-again.ensures.same.1 ∙ (inv.shelf ∙ sym (are.own c.loop-number.number _ own))) _ refl c.post_and_hand_on-again.new.at (c.post_and_hand_on-again.ensures.same.0 ∙ inv.shelf) c.post_and_hand_on-again.result.0 c.run-op.result (λ q at. c.run-op.ensures.call ∙ ap asked_op (or_at c.args.calls.now c.loop-number.number _ q at))
           c.post_and_hand_on-again.ensures.handed c.post_and_hand_on-again.ensures.posted c.post_and_hand_on-again.ensures.same.2;
     }
 

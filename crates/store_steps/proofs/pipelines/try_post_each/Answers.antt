@@ -98,8 +98,8 @@ post_later-at-requires-clause-has c member at =
     let t = c.in-Ok.ensures.taken m.0 (c.split-at.ensures.apart m.0 [] m.1).1 in
     subst (λ (z : Member). MayPostWith (here_of c.args.shared z) c.try_take_free.new.seat c.in-Ok.held) is (c.in-Ok.ensures.desk, (m.0, t.0, t.1, m.3))
 
-pub set_call-requires : goal.set_call-requires
-set_call-requires c =
+pub run-op-requires : goal.run-op-requires
+run-op-requires c =
     let q = at_there c.args.calls.now 0 c.requires.may.some in
     record { fits = subst (λ (z : Question). length z.argument.now ≤ MAX_ARG_LEN) (sym (or_at c.args.calls.now 0 _ q.0 q.1)) (c.requires.may.calls 0 q.0 q.1).1 }
 
@@ -123,7 +123,7 @@ claim_first-requires-clause-has c member at =
 pub claim_first-requires-clause-update : goal.claim_first-requires-clause-update
 claim_first-requires-clause-update c =
     let q = at_there c.args.calls.now 0 c.requires.may.some in
-    subst (λ z. is_operation Update c.args.shared.catalogue.now z ≡ true) (sym (c.set_call.ensures.call ∙ ap asked_op (or_at c.args.calls.now 0 _ q.0 q.1))) (c.requires.may.calls 0 q.0 q.1).0
+    subst (λ z. is_operation Update c.args.shared.catalogue.now z ≡ true) (sym (c.run-op.ensures.call ∙ ap asked_op (or_at c.args.calls.now 0 _ q.0 q.1))) (c.requires.may.calls 0 q.0 q.1).0
 
 pub returns-clause-same : goal.returns-clause-same
 returns-clause-same c =
@@ -147,7 +147,7 @@ returns-clause-posted c =
     let w = c.post_later-at.ensures.holds.0 k (begins 0 k known) in
     let may = c.requires.may.idle 0 known.0 known.1 in
     let alone = subst IsAlone (one_known known.0.seat may.0 k may.1 known.2) may.3 in
-    let e = c.set_call.ensures.call ∙ ap asked_op (or_at c.args.calls.now 0 _ r at) in
+    let e = c.run-op.ensures.call ∙ ap asked_op (or_at c.args.calls.now 0 _ r at) in
     let now = c.claim_first.ensures.claims w.0 k w.1 w.2 w.3 alone in
     (claims_as c.claim_first.new.members k _ (asked_op r) c.claim_first.new.batch e now.0, w.0, w.1, w.3, now.1) in
     let w0 = c.post_later-at.ensures.holds.0 m0.0 (begins 0 m0.0 (p0.0, p0.1, m0.1)) in

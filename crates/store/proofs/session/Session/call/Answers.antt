@@ -1,5 +1,6 @@
-use Rattle.std.proofs.Common.{rules, ◌≡◌, None}
+use Rattle.std.proofs.Common.{rules, ◌≡◌, true, None, sym, subst}
 use Rattle.verifier.specs.declared.refusal.Mode.TheVariants.{Update}
+use Rattle.replica.specs.StoreMeaning.{is_operation}
 use Rattle.replica.specs.Refusals.{early_refusal}
 use Rattle.replica.proofs.Export.{is_asked}
 use Rattle.store.proofs.session.Session.call.Goals as goal
@@ -7,4 +8,5 @@ use Rattle.store.proofs.session.Session.call.Goals as goal
 pub perform-requires-clause-update : goal.perform-requires-clause-update
 perform-requires-clause-update g c =
     let none : early_refusal c.args.store.now.catalogue Update c.args.question.program c.args.question.argument.now ≡ None = search rules in
-    is_asked Update c.args.store.now.catalogue c.args.question.program c.args.question.argument.now none c.requires.bytes
+    subst (λ o. is_operation Update c.args.store.now.catalogue o ≡ true) (sym c.run-op.ensures.call)
+    (is_asked Update c.args.store.now.catalogue c.args.question.program c.args.question.argument.now none c.requires.bytes)

@@ -2,7 +2,6 @@ use Rattle.std.proofs.Common.{◌+◌, ◌≤◌, sym, ap, ◌∙◌, subst, ref
 use Rattle.loader.specs.CatalogueView.{CatalogueView}
 use Rattle.oplog.specs.declared.configuration.Sizes.{Sizes}
 use Rattle.oplog.specs.declared.configuration.TheConstants.{MAX_NODES}
-use Rattle.store.specs.Asked.{operation_of}
 use Rattle.store.specs.Sessions.{TellsUpdate}
 use Rattle.store_steps.proofs.Export.{seen_as}
 use Rattle.store_steps.specs.Asking.{SessionPosts}
@@ -35,8 +34,8 @@ ask_at_once-given-requires-clause-idle g c =
 pub invariant_of-self : goal.invariant_of-self
 invariant_of-self g c =
     let k = c.self.invariant.0.known in
-    let op = operation_of c.args.asked in
-    let a = subst (λ o. AsksAtOnce c.ask_at_once-given.new.seat k o c.ask_at_once-given.result) c.write.ensures.op (c.ask_at_once-given.ensures.asked k c.self.invariant.0.is) in
+    let op = c.args.op.now in
+    let a = (c.ask_at_once-given.ensures.asked k c.self.invariant.0.is) in
     let v = invoked k a.asked a.after op c.ask_at_once-given.result a.posted a.completed in
     let old = c.self.inside.seat in
     let seat = c.ask_at_once-given.new.seat in
@@ -48,8 +47,8 @@ invariant_of-self g c =
 pub returns-then-at_once : goal.returns-then-at_once
 returns-then-at_once g c =
     let k = c.self.invariant.0.known in
-    let op = operation_of c.args.asked in
-    let a = subst (λ o. AsksAtOnce c.ask_at_once-given.new.seat k o c.ask_at_once-given.result) c.write.ensures.op (c.ask_at_once-given.ensures.asked k c.self.invariant.0.is) in
+    let op = c.args.op.now in
+    let a = (c.ask_at_once-given.ensures.asked k c.self.invariant.0.is) in
     let v = invoked k a.asked a.after op c.ask_at_once-given.result a.posted a.completed in
     let was = sym c.self.view_is ∙ seen_as c.self.inside.seat k c.self.invariant.0.is in
     let seat = c.ask_at_once-given.new.seat in
@@ -63,7 +62,7 @@ returns-then-at_once g c =
         c.ask_at_once-given.result,
         c.answer_of.ensures.said,
         goes_seen (λ k f. UpdatesBy k f op c.ask_at_once-given.result) c.self.inside.seat seat c.args.self.now k a.after c.self.invariant.0.is c.self.invariant.0.free.held c.self.view_is a.is v.held
-            (subst (λ o. UpdatesBy k a.after o c.ask_at_once-given.result) c.write.ensures.op (c.ask_at_once-given.ensures.goes k a.after c.self.invariant.0.is a.is)),
+            ((c.ask_at_once-given.ensures.goes k a.after c.self.invariant.0.is a.is)),
       );
     }
 
@@ -72,8 +71,8 @@ returns-then-at_once g c =
 pub invariant_of-self-2 : goal.invariant_of-self-2
 invariant_of-self-2 g c =
     let k = c.self.invariant.0.known in
-    let op = operation_of c.args.asked in
-    let p = subst (λ o. SessionPosts c.self.inside.seat c.post.new.seat o) c.write.ensures.op c.post.ensures.posted k c.self.invariant.0.is in
+    let op = c.args.op.now in
+    let p = c.post.ensures.posted k c.self.invariant.0.is in
     let was = sym c.self.view_is ∙ seen_as c.self.inside.seat k c.self.invariant.0.is in
     let config = ap (λ (z : SessionView). z.progress.config) (sym was) ∙ c.requires.own.config in
     let asked = has_asked k p.0 op c.args.store.now.config p.2 config c.shared-shared.ensures.config c.self.invariant.0.batch c.self.invariant.0.within c.self.invariant.0.well_formed in
@@ -89,8 +88,8 @@ invariant_of-self-2 g c =
 pub returns : goal.returns
 returns g c =
     let k = c.self.invariant.0.known in
-    let op = operation_of c.args.asked in
-    let p = subst (λ o. SessionPosts c.self.inside.seat c.post.new.seat o) c.write.ensures.op c.post.ensures.posted k c.self.invariant.0.is in
+    let op = c.args.op.now in
+    let p = c.post.ensures.posted k c.self.invariant.0.is in
     let was = sym c.self.view_is ∙ seen_as c.self.inside.seat k c.self.invariant.0.is in
     let config = ap (λ (z : SessionView). z.progress.config) (sym was) ∙ c.requires.own.config in
     let asked = has_asked k p.0 op c.args.store.now.config p.2 config c.shared-shared.ensures.config c.self.invariant.0.batch c.self.invariant.0.within c.self.invariant.0.well_formed in
@@ -107,6 +106,6 @@ returns g c =
         c.complete-reply.result,
         c.answer_of-2.ensures.said,
         goes_seen (λ k f. UpdatesBy k f op c.complete-reply.result) c.self.inside.seat seat c.args.self.now k f.0 c.self.invariant.0.is c.self.invariant.0.free.held c.self.view_is f.1 v.held
-            (record { asked = p.0; posts = subst (λ o. PostsBy k p.0 o) c.write.ensures.op (c.post.ensures.goes k p.0 c.self.invariant.0.is p.1); completes = c.complete-reply.ensures.goes p.0 f.0 p.1 f.1 }),
+            (record { asked = p.0; posts = (c.post.ensures.goes k p.0 c.self.invariant.0.is p.1); completes = c.complete-reply.ensures.goes p.0 f.0 p.1 f.1 }),
       );
     }
