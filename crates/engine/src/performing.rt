@@ -86,6 +86,7 @@ pub fn write_text<W: Sink>(writer: &mut W, text: &[u8], status: Status) -> Statu
 pub fn write_pieces<W: Sink>(writer: &mut W, mut pieces: Pieces<'_>, status: Status) -> Status
     ensures sent { Sends (W.contents writer.old) (W.contents writer.new) result pieces.entry status }
     ensures failed { (result ≡ status) ⊎ ((result ≡ statuses.CannotWrite) × W.has_failed writer.new) }
+    ensures spared { result ≢ statuses.CannotWrite → W.has_failed writer.new → W.has_failed writer.old }
 {
     let mut room = [0u8; PIECE_BYTES];
     loop {
@@ -104,6 +105,7 @@ pub fn write_pieces<W: Sink>(writer: &mut W, mut pieces: Pieces<'_>, status: Sta
 fn write_answer<W: Sink>(writer: &mut W, text: AnswerText<'_>, status: Status) -> Status
     ensures sent { Sends (W.contents writer.old) (W.contents writer.new) result (whole_text text.entry) status }
     ensures failed { (result ≡ status) ⊎ ((result ≡ statuses.CannotWrite) × W.has_failed writer.new) }
+    ensures spared { result ≢ statuses.CannotWrite → W.has_failed writer.new → W.has_failed writer.old }
 {
     let Some(state) = text.state else {
         return write_text(writer, text.bytes, status);

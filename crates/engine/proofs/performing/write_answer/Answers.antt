@@ -26,3 +26,6 @@ returns-in-Err-clause-sent g c =
     let new = contents c.send.new.self in
     subst (λ (t : List ℕ). Sends old new statuses.CannotWrite t c.args.status) (sym (ap (λ o. option_map_or (λ s. first ++ s.now.left) o first) c.in-Some.is))
     (inr (refl, first_broken_off old new first left c.in-Err.ensures.stopped))
+
+pub returns-in-Ok-clause-spared : goal.returns-in-Ok-clause-spared
+returns-in-Ok-clause-spared g c other failed = c.in-Ok.ensures.spared (c.write_pieces.ensures.spared other failed)

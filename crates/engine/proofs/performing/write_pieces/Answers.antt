@@ -10,6 +10,7 @@ loop-pieces-preserved g c =
       piece_sent (contents c.args.writer.now) (contents c.loop-pieces.writer) (contents c.send.new.self) c.args.pieces c.loop-pieces.pieces c.read-count.new.self (take c.read-count.result c.read-count.new.room)
           c.read-count.ensures.read c.in-Ok.ensures.sent c.loop-pieces.invariant.0,
       omega (arith, same, long),
+      λ failed. c.loop-pieces.invariant.2 (c.in-Ok.ensures.spared failed),
     )
 
 pub returns-in-Err : goal.returns-in-Err
@@ -22,4 +23,5 @@ returns-in-Err g c =
                 c.read-count.ensures.read c.in-Err.ensures.stopped c.loop-pieces.invariant.0,
           );
       failed = inr (refl, c.in-Err.ensures.failed);
+      spared = λ other. absurd (other refl);
     }
