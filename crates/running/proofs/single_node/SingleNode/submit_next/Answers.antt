@@ -12,7 +12,7 @@ pub replay-requires : goal.replay-requires
 replay-requires c =
     let before = c.make_room.new.self in
     let r : Record = record { author = 0; seq = c.tail-seq.result; op = before.next.op } in
-    let one : c.from_ref-records.result.now ≡ r ∷ [] = c.from_ref-records.ensures.value in
+    let one : c.of-records.result ≡ r ∷ [] = c.of-records.ensures.records ∙ c.from_ref.ensures.value in
     let log : c.append.new.log ≡ grown (r ∷ []) before.log = subst (λ (x : History). c.append.new.log ≡ grown x before.log) one c.append.ensures.log in
     let same : before.next.op ≡ c.args.self.now.next.op = ap (λ (x : Record). x.op) c.make_room.ensures.next in
     let update : is_operation Update c.args.catalogue.now before.next.op ≡ true = subst (λ (o : Operation). is_operation Update c.args.catalogue.now o ≡ true) (sym same) c.requires.update in
@@ -26,7 +26,7 @@ pub returns-clause-updated : goal.returns-clause-updated
 returns-clause-updated c =
     let before = c.make_room.new.self in
     let r : Record = record { author = 0; seq = c.tail-seq.result; op = before.next.op } in
-    let one : c.from_ref-records.result.now ≡ r ∷ [] = c.from_ref-records.ensures.value in
+    let one : c.of-records.result ≡ r ∷ [] = c.of-records.ensures.records ∙ c.from_ref.ensures.value in
     let log : c.append.new.log ≡ grown (r ∷ []) before.log = subst (λ (x : History). c.append.new.log ≡ grown x before.log) one c.append.ensures.log in
     let replies : c.append.new.replies ≡ replies_for (r ∷ []) before.log = subst (λ (x : History). c.append.new.replies ≡ replies_for x before.log) one c.append.ensures.replies in
     updated c.args.catalogue.now before.log c.append.new.log before.own c.append.new.node r
@@ -39,7 +39,7 @@ pub returns-clause-ended : goal.returns-clause-ended
 returns-clause-ended c =
     let before = c.make_room.new.self in
     let r : Record = record { author = 0; seq = c.tail-seq.result; op = before.next.op } in
-    let one : c.from_ref-records.result.now ≡ r ∷ [] = c.from_ref-records.ensures.value in
+    let one : c.of-records.result ≡ r ∷ [] = c.of-records.ensures.records ∙ c.from_ref.ensures.value in
     let log : c.append.new.log ≡ grown (r ∷ []) before.log = subst (λ (x : History). c.append.new.log ≡ grown x before.log) one c.append.ensures.log in
     let replies : c.append.new.replies ≡ replies_for (r ∷ []) before.log = subst (λ (x : History). c.append.new.replies ≡ replies_for x before.log) one c.append.ensures.replies in
     not_ended c.args.catalogue.now before.log c.append.new.log before.own c.append.new.node r
