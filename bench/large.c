@@ -189,7 +189,7 @@ static int compare_bytes(void *to, const char *bytes, size_t len) {
 /* What the formula says that a store takes, in bytes. */
 static double formula(void) {
     const double maps = (double)entries * (8 + 8 + 18) + 8 + 10 + 16 * 8;
-    return 208.0 * WINDOW * 2 + 3856 + 600 + 4446 + 2 * maps;
+    return 208.0 * WINDOW * 2 + 3856 + 600 + 4248 + 2 * maps;
 }
 
 static nrbpf_store *opened(const nrbpf_state *state, double *took) {
