@@ -1,6 +1,6 @@
 -- What a command did, from what it made.
 use Rattle.std.proofs.Common.{◌≡◌, inl, inr, ℕ, List, Option, Some, None, Result, Ok, Err, refl, sym, ap, subst, ◌∙◌}
-use Rattle.std.specs.Prelude.{IfOk}
+use Rattle.std.specs.Prelude.{IfOk, IfSome}
 use Rattle.std.specs.Io.KnownBytes.{Appends}
 use Rattle.engine.specs.declared.replies.Status.{Status}
 use Rattle.engine.specs.declared.replies.Status.TheVariants as statuses
@@ -13,7 +13,7 @@ use Rattle.engine.specs.Texts.{no_memory_line}
 use Rattle.engine.specs.ReadFaults.{IfCannotRead}
 use Rattle.engine.specs.Answer.{Answer}
 use Rattle.engine.specs.Report.{Failed, Sends}
-use Rattle.engine.specs.Engine.{Performs, Reports, Writes, handed_back}
+use Rattle.engine.specs.Engine.{IfAnswered, Performs, Reports, Writes, handed_back}
 
 module _ {M : Type 0} (answer : M → Answer) (Is : M → Type 0) (old new : Option (List ℕ)) where
   -- an answer that was sent, or broke off
@@ -79,3 +79,38 @@ module _ {M : Type 0} (answer : M → Answer) (Is : M → Type 0) (old new : Opt
   performed statuses.Good None did = absurd did
   performed statuses.Refused None did = absurd did
   performed statuses.Differs None did = absurd did
+
+  -- what is so beside what is handed back is so where an answer was written whole
+  pub answered : (P : M → Type 0) (Q : Type 0) → ((m : M) → P m → Q) → (got : Status) (back : Option M) → Did got back → IfSome back P → IfAnswered got Q
+  answered P Q f got (Some m) did so = by_status got
+    where
+      by_status : (s : Status) → IfAnswered s Q
+      by_status statuses.Good = f m so
+      by_status statuses.Refused = f m so
+      by_status statuses.Differs = f m so
+      by_status statuses.NoMemory = tt
+      by_status statuses.CannotRead = tt
+      by_status statuses.CannotWrite = tt
+  answered P Q f statuses.NoMemory None did so = tt
+  answered P Q f statuses.CannotRead None did so = tt
+  answered P Q f statuses.CannotWrite None did so = tt
+  answered P Q f statuses.Good None did so = absurd did
+  answered P Q f statuses.Refused None did so = absurd did
+  answered P Q f statuses.Differs None did so = absurd did
+
+-- what is so of what was made is so of what is handed back
+pub so_of_back : {M : Type 0} (P : M → Type 0) (got : Status) (back : Option M) (made : Result M ReadFault) → back ≡ handed_back got made → IfOk made P → IfSome back P
+so_of_back {M} P got back made is so = subst (λ (o : Option M). IfSome o P) (sym is) (by_made got made so)
+  where
+    by_made : (s : Status) (r : Result M ReadFault) → IfOk r P → IfSome (handed_back s r) P
+    by_made statuses.CannotWrite r so = tt
+    by_made statuses.Good (Ok m) so = so
+    by_made statuses.Refused (Ok m) so = so
+    by_made statuses.Differs (Ok m) so = so
+    by_made statuses.NoMemory (Ok m) so = so
+    by_made statuses.CannotRead (Ok m) so = so
+    by_made statuses.Good (Err e) so = tt
+    by_made statuses.Refused (Err e) so = tt
+    by_made statuses.Differs (Err e) so = tt
+    by_made statuses.NoMemory (Err e) so = tt
+    by_made statuses.CannotRead (Err e) so = tt

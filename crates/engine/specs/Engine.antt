@@ -1,5 +1,5 @@
 -- What a command wrote, over what the writer held, from what it made.
-use Rattle.std.specs.Prelude.{◌≡◌, ◌⊎◌, ℕ, List, Option, Some, None, Result, Ok, Err, MatchOption}
+use Rattle.std.specs.Prelude.{◌≡◌, ◌⊎◌, ⊤, ℕ, List, Option, Some, None, Result, Ok, Err, MatchOption}
 use Rattle.std.specs.Io.KnownBytes.{Appends, Keeps}
 use Rattle.engine.specs.declared.replies.Status.{Status}
 use Rattle.engine.specs.declared.replies.Status.TheVariants as statuses
@@ -20,6 +20,13 @@ Reports answer Is old new statuses.NoMemory = Appends old new no_memory_line
 Reports answer Is old new statuses.CannotRead = Keeps old new
 Reports {M} answer Is old new statuses.CannotWrite = ((m : M) × Is m × AppendsBeginning old new (answer m).text) ⊎ AppendsBeginning old new no_memory_line
 Reports {M} answer Is old new status = (m : M) × Is m × (status ≡ status_of (answer m).verdict) × Appends old new (answer m).text
+
+-- this is so where an answer was written whole
+abbrev pub IfAnswered : Status → Type 0 → Type 0
+IfAnswered statuses.NoMemory P = ⊤
+IfAnswered statuses.CannotRead P = ⊤
+IfAnswered statuses.CannotWrite P = ⊤
+IfAnswered status P = P
 
 -- `Reports`, but of what may be made of the texts that are read of these bytes, in a writer by what it holds
 abbrev pub ReportsRead : {M W : Type 0} → (M → Answer) → (Option TextsRead → M → Type 0) → (W → Option (List ℕ)) → W → W → Status → Given → Type 0

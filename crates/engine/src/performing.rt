@@ -1,13 +1,14 @@
 // The engine of all commands: reads all, makes an answer, writes it.
 
-ghost use Rattle.std.specs.Prelude.{◌≡◌, ◌≢◌, ◌⊎◌, Option, Err, IfOk};
+ghost use Rattle.std.specs.Prelude.{◌≡◌, ◌≢◌, ◌⊎◌, ⊤, Option, Err, IfOk, IfSome};
+ghost use Rattle.engine.specs.declared.replies.Notes.{Notes};
 ghost use Rattle.engine.specs.declared.replies.Status.TheVariants as statuses;
 ghost use Rattle.engine.specs.declared.transfer.ReadFault.TheVariants as faults;
 ghost use Rattle.engine.specs.Notes.{IsQuiet};
 ghost use Rattle.engine.specs.ReadFaults.{IfCannotRead};
 ghost use Rattle.engine.specs.Reading.{FailedInTurn, IfGiven, StopsAtStranger, TextsRead, read, texts_in};
 ghost use Rattle.engine.specs.Report.{Failed, Sends, whole_text};
-ghost use Rattle.engine.specs.Engine.{Performs, PerformsRead, Reports, ReportsRead, Writes, handed_back};
+ghost use Rattle.engine.specs.Engine.{IfAnswered, Performs, PerformsRead, Reports, ReportsRead, Writes, handed_back};
 
 use crate::reading::{Folder, Gathered, Inputs, gather};
 use crate::replies::{AnswerText, Answering, Notes, Status, status_of};
@@ -27,6 +28,9 @@ pub trait Command {
     // What the command may make of these texts; of none, if one of them is not UTF-8.
     ghost may_make: { Self → Option TextsRead → Self.Made → Type 0 };
 
+    // What it may tell beside its answer to these texts: the notes before and after. Where a command doesn't say, anything.
+    ghost may_tell: { Self → Option TextsRead → Notes → Notes → Type 0 } = { λ _ _ _ _. ⊤ };
+
     /// Makes it of what was read: of all texts, or of the first that is not UTF-8.
     fn make(
         &self,
@@ -35,6 +39,7 @@ pub trait Command {
         notes: &mut Notes,
     ) -> Result<Self::Made, AllocError>
         ensures made { IfOk result (may_make self.now (texts_in read)) }
+        ensures told { IfOk result (λ _. may_tell self.now (texts_in read) notes.old notes.new) }
         ensures quiet { IsQuiet notes.old notes.new };
 }
 
@@ -54,10 +59,14 @@ pub fn prepare<C: Command, F: Folder, R: Source + Drop>(
 ) -> Result<C::Made, ReadFault>
     // Where the readers and the folder tell their bytes, it is made of those.
     ensures known { IfGiven F.holds R.remaining inputs.old (λ g. IfOk result (C.may_make command.now (read g))) }
+    // What is told beside it is of those too.
+    ensures told { IfGiven F.holds R.remaining inputs.old (λ g. IfOk result (λ _. C.may_tell command.now (read g) notes.old notes.new)) }
     // The result says that a read failed only after one did, and all texts before that one are UTF-8.
     ensures failed { IfCannotRead result (FailedInTurn F.holds F.can_fail R.remaining R.has_failed inputs.old inputs.new) }
     // Whatever they give.
     ensures some { IfOk result (λ m. (t : Option TextsRead) × C.may_make command.now t m) }
+    // What is told beside it is of the same texts.
+    ensures noted { IfOk result (λ m. (t : Option TextsRead) × C.may_make command.now t m × C.may_tell command.now t notes.old notes.new) }
     // However it ends, a text is read only if all texts before it are UTF-8.
     ensures stops { IfGiven F.holds R.remaining inputs.old (StopsAtStranger inputs.old inputs.new) }
     // Where nothing is to be told beside the answer, nothing is.
@@ -167,12 +176,16 @@ where
     C::Made: Answering,
     // Where the readers and the folder tell their bytes, it is made of those, and its answer is what was written.
     ensures written { IfGiven F.holds R.remaining inputs.old (PerformsRead C.Made.answer (C.may_make command.now) W.contents writer.old writer.new result) }
+    // What is told beside an answer that is written whole is of those too.
+    ensures told { IfGiven F.holds R.remaining inputs.old (λ g. IfSome result.made (λ _. C.may_tell command.now (read g) notes.old notes.new)) }
     // The status says that a read or a write failed only after one did, and of a read that all texts before that one are UTF-8.
     ensures failed { Failed result.status (FailedInTurn F.holds F.can_fail R.remaining R.has_failed inputs.old inputs.new) (W.has_failed writer.new) }
     // With any other status no write has failed that had not before.
     ensures spared { result.status ≢ statuses.CannotWrite → W.has_failed writer.new → W.has_failed writer.old }
     // Whatever they give, or where they fail.
     ensures ended { Performs C.Made.answer (λ m. (t : Option TextsRead) × C.may_make command.now t m) (W.contents writer.old) (W.contents writer.new) result }
+    // What is handed back, and what is told beside it, are of the same texts.
+    ensures noted { IfSome result.made (λ m. (t : Option TextsRead) × C.may_make command.now t m × C.may_tell command.now t notes.old notes.new) }
     // However it ends, a text is read only if all texts before it are UTF-8.
     ensures stops { IfGiven F.holds R.remaining inputs.old (StopsAtStranger inputs.old inputs.new) }
     // Where nothing is to be told beside the answer, nothing is.
@@ -194,12 +207,16 @@ where
     C::Made: Answering,
     // Where the readers and the folder tell their bytes, what is written is what the command answers to those.
     ensures written { IfGiven F.holds R.remaining inputs.old (ReportsRead C.Made.answer (C.may_make command.now) W.contents writer.old writer.new result) }
+    // What is told beside an answer that is written whole is of those too.
+    ensures told { IfGiven F.holds R.remaining inputs.old (λ g. IfAnswered result (C.may_tell command.now (read g) notes.old notes.new)) }
     // The status says that a read or a write failed only after one did, and of a read that all texts before that one are UTF-8.
     ensures failed { Failed result (FailedInTurn F.holds F.can_fail R.remaining R.has_failed inputs.old inputs.new) (W.has_failed writer.new) }
     // With any other status no write has failed that had not before.
     ensures spared { result ≢ statuses.CannotWrite → W.has_failed writer.new → W.has_failed writer.old }
     // Whatever they give, or where they fail.
     ensures ended { Reports C.Made.answer (λ m. (t : Option TextsRead) × C.may_make command.now t m) (W.contents writer.old) (W.contents writer.new) result }
+    // What is told beside an answer that is written whole is of some texts.
+    ensures noted { IfAnswered result ((t : Option TextsRead) × C.may_tell command.now t notes.old notes.new) }
     // However it ends, a text is read only if all texts before it are UTF-8.
     ensures stops { IfGiven F.holds R.remaining inputs.old (StopsAtStranger inputs.old inputs.new) }
     // Where nothing is to be told beside the answer, nothing is.
