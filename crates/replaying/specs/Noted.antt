@@ -58,8 +58,10 @@ abbrev pub notes_on : List ℕ → Result CatalogueView Answer → List ℕ
 notes_on transcript (Ok c) = notes_text c 1 nothing_replayed (lines_of transcript)
 notes_on transcript (Err a) = []
 
-abbrev pub replay_notes : ℕ → TextsRead → List ℕ
-replay_notes spare t = notes_on t.file (opening (places_within spare) t)
+-- what is told beside `replay_answer`; nothing of a text that is not UTF-8
+abbrev pub replay_notes : ℕ → Option TextsRead → List ℕ
+replay_notes spare None = []
+replay_notes spare (Some t) = notes_on t.file (opening (places_within spare) t)
 
 -- if reasons are to be told, this text comes after what was told before
 abbrev pub Explains : Notes → Notes → List ℕ → Type 0

@@ -77,7 +77,7 @@ impl Replay {
     ) -> Result<Reply, AllocError>
         ensures quiet { IsQuiet notes.old notes.new }
         // With `Telling::Reasons`: what the first line should tell that does not agree, if it differs.
-        ensures told { IfOk result (λ _. Explains notes.old notes.new (replay_notes self.now.spare (texts_read texts.now))) }
+        ensures told { IfOk result (λ _. Explains notes.old notes.new (replay_notes self.now.spare (Some (texts_read texts.now)))) }
         ensures answered { IfOk result (λ r. answer_of r ≡ replay_answer self.now.spare (Some (texts_read texts.now))) }
     {
         let transcript = texts.file.as_str();
@@ -94,6 +94,8 @@ impl Command for Replay {
     type Made = Reply;
 
     ghost may_make = { λ c t r. answer_of r ≡ replay_answer c.spare t };
+
+    ghost may_tell = { λ c t old new. Explains old new (replay_notes c.spare t) };
 
     fn make(&self, alloc: Global, read: Gathered, notes: &mut Notes) -> Result<Reply, AllocError> {
         let Ok(texts) = read else {
