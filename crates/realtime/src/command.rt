@@ -4,6 +4,7 @@ ghost use Rattle.std.specs.Prelude.{◌≡◌, ◌*◌, ◌++◌, length, codes,
 ghost use Rattle.engine.specs.declared.replies.Verdict.TheVariants as verdicts;
 ghost use Rattle.engine.specs.Reading.{texts_read};
 ghost use Rattle.engine.specs.Report.{answer_of};
+ghost use Rattle.replaying.specs.Noted.{Explains, replay_notes};
 ghost use Rattle.realtime.specs.Judging.{AreGood, timed};
 ghost use Rattle.realtime.specs.TimedAnswer.{calls_answer, timed_answer};
 
@@ -80,6 +81,8 @@ impl Command for ReplayTimed {
     type Made = Reply;
 
     ghost may_make = { λ c t r. answer_of r ≡ timed_answer c.spare t };
+
+    ghost may_tell = { λ c t old new. Explains old new (replay_notes c.spare t) };
 
     fn make(&self, alloc: Global, read: Gathered, notes: &mut Notes) -> Result<Reply, AllocError> {
         let Ok(texts) = read else {
