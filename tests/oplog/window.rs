@@ -4,8 +4,8 @@ use crate::replica::replicas::{SHAPES, new_state};
 use loader::Installed;
 use maps::{MapSet, shapes_ok};
 use oplog::{
-    Appended, Call, Config, CopyAnswer, ENDLESS, Ended, Hand, LogState, Op, OpenError, Record,
-    Sizes,
+    Appended, Call, Config, CopyAnswer, ENDLESS, Ended, Hand, LogState, Op, OpParts, OpenError,
+    Record, Records, Sizes,
 };
 use std::alloc::Global;
 use std::test::Fail;
@@ -28,10 +28,10 @@ fn third_program(author: u16, seq: u64) -> Record {
 fn appends_up_to_the_limit(rt: HostRuntime) {
     let mut log = opened_log(rt.alloc()).expect(&rt, "log");
     let batch = [third_program(1, 0), third_program(0, 0)];
-    assert!(&rt; log.append(&[]) == Ok(Appended { first: 0, count: 0 }));
-    assert!(&rt; log.append(&batch) == Ok(Appended { first: 0, count: 2 }));
-    assert!(&rt; log.append(&batch) == Ok(Appended { first: 2, count: 1 }));
-    assert!(&rt; log.append(&batch) == Err(Ended));
+    assert!(&rt; log.append(&Records::of(&[])) == Ok(Appended { first: 0, count: 0 }));
+    assert!(&rt; log.append(&Records::of(&batch)) == Ok(Appended { first: 0, count: 2 }));
+    assert!(&rt; log.append(&Records::of(&batch)) == Ok(Appended { first: 2, count: 1 }));
+    assert!(&rt; log.append(&Records::of(&batch)) == Err(Ended));
     assert_eq!(rt;
         (log.room(), log.left(), log.base(), log.tail()),
         (13, 0, 0, 3)
@@ -43,17 +43,16 @@ fn copies_records(rt: HostRuntime) {
     let mut log = opened_log(rt.alloc()).expect(&rt, "log");
     let mut hand = Hand::open(rt.alloc(), 16).expect(&rt, "hand");
     let batch = [third_program(1, 0), third_program(0, 0)];
-    assert!(&rt; log.append(&batch).is_ok());
+    assert!(&rt; log.append(&Records::of(&batch)).is_ok());
     assert!(&rt; log.copy_from(1, &mut hand) == CopyAnswer::Copied);
     assert_eq!(rt; (hand.begin(), hand.len()), (1, 1));
-    let copied = hand.record(0);
-    assert_eq!(rt; (copied.author, copied.seq), (0, 0));
-    match &copied.op {
-        Op::Run(call) => {
-            assert_eq!(rt; call.program(), 2);
-            assert!(&rt; call.argument() == [7, 0, 0, 255].as_slice());
+    let copied = hand.records().op(0);
+    match copied.parts() {
+        OpParts::Run { program, argument } => {
+            assert_eq!(rt; program, 2);
+            assert!(&rt; argument == [7, 0, 0, 255].as_slice());
         }
-        Op::Install(_) => assert!(&rt; false),
+        OpParts::Install { .. } => assert!(&rt; false),
     }
 }
 
@@ -66,7 +65,7 @@ fn reclaims(rt: HostRuntime) {
     let maps = MapSet::open(rt.alloc(), &SHAPES).expect(&rt, "maps");
     let programs = Installed::open(rt.alloc(), &SHAPES, 1).expect(&rt, "programs");
     let batch = [third_program(1, 0), third_program(0, 0)];
-    assert!(&rt; log.append(&batch).is_ok());
+    assert!(&rt; log.append(&Records::of(&batch)).is_ok());
     log.raise_done(2);
     log.raise_done(1);
     log.reclaim(1, &maps, &programs);
@@ -85,7 +84,7 @@ fn copies_nothing_below_the_base(rt: HostRuntime) {
     let mut hand = Hand::open(rt.alloc(), 16).expect(&rt, "hand");
     let maps = MapSet::open(rt.alloc(), &SHAPES).expect(&rt, "maps");
     let programs = Installed::open(rt.alloc(), &SHAPES, 1).expect(&rt, "programs");
-    assert!(&rt; log.append(&[third_program(1, 0)]).is_ok());
+    assert!(&rt; log.append(&Records::of(&[third_program(1, 0)])).is_ok());
     log.raise_done(1);
     log.reclaim(1, &maps, &programs);
     assert!(&rt; log.copy_from(0, &mut hand) == CopyAnswer::Below(1));
