@@ -1,7 +1,9 @@
-//! A state as text: two maps and a place for one program, the first bad line with the number of its fault, and states that are written.
+//! A state as text: two maps and a place for one program, the first bad line with the number of its fault, states that are written, and what a watcher is
+//! told while one is loaded.
 
-use dumps::{dump, load};
+use dumps::{Watcher, dump, load, load_watched};
 use loader::{StoreState, load_manifest};
+use std::cell::Cell;
 
 const MAPS: &str = "map array 2 4\nmap hash 1 1 2\n";
 
@@ -83,4 +85,65 @@ fn writes_nothing_of_a_new_state(rt: HostRuntime) {
     let state = StoreState::open(rt.alloc(), &catalogue).expect(&rt, "state");
     let written = dump(rt.alloc(), &state).expect(&rt, "text");
     assert!(rt; written.is_empty());
+}
+
+// What a watcher was told: how often, how many bytes in all, and how many ends.
+#[derive(Drop)]
+struct Told {
+    calls: Cell<usize>,
+    bytes: Cell<usize>,
+    ends: Cell<usize>,
+}
+
+impl Told {
+    fn nothing() -> Told {
+        Told {
+            calls: Cell::new(0),
+            bytes: Cell::new(0),
+            ends: Cell::new(0),
+        }
+    }
+}
+
+impl Watcher for Told {
+    fn passed(&self, bytes: usize) {
+        self.calls.set(self.calls.get() + 1);
+        self.bytes.set(self.bytes.get() + bytes);
+    }
+
+    fn ended(&self) {
+        self.ends.set(self.ends.get() + 1);
+    }
+}
+
+#[test]
+fn tells_a_watcher_of_all_bytes(rt: HostRuntime) {
+    let catalogue = load_manifest(rt.alloc(), "map hash 4 1 20000\n", &[]).expect(&rt, "catalogue");
+    let mut text = String::new(rt.alloc());
+    for key in 0..20000u32 {
+        let line = format!(in rt.alloc(); "0 {key:08x} 07\n").expect(&rt, "line");
+        text.push_str(line.as_str()).expect(&rt, "room");
+    }
+    let told = Told::nothing();
+    let state = load_watched(rt.alloc(), catalogue.shapes(), 0, text.as_str(), &told);
+    assert!(rt; state.is_ok());
+    assert_eq!(rt; text.len(), 280_000);
+    assert_eq!(rt;
+        (told.calls.get(), told.bytes.get(), told.ends.get()),
+        (5, 280_000, 1)
+    );
+}
+
+#[test]
+fn tells_a_watcher_of_the_end_at_a_bad_line(rt: HostRuntime) {
+    let catalogue = load_manifest(rt.alloc(), MAPS, &[]).expect(&rt, "catalogue");
+    for &(text, _, _) in BAD {
+        let told = Told::nothing();
+        let state = load_watched(rt.alloc(), catalogue.shapes(), 1, text, &told);
+        assert!(rt; state.is_err());
+        assert_eq!(rt;
+            (told.calls.get(), told.bytes.get(), told.ends.get()),
+            (0, 0, 1)
+        );
+    }
 }

@@ -80,6 +80,11 @@ impl<'a> EndedLines<'a> {
         }
     }
 
+    // How many bytes the lines have that are left.
+    pub(crate) fn left(&self) -> usize {
+        self.rest.len()
+    }
+
     // Takes the next line, without its line feed, and its number; of a last line that lacks it the number alone. `None` behind the last.
     pub(crate) fn take_line(&mut self) -> Option<(u32, Option<&'a str>)>
         ensures taken { Takes self.old self.new (option_map (λ l. (l.0, option_map (λ t. t.now) l.1)) result) }

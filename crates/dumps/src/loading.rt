@@ -15,6 +15,7 @@ ghost use Rattle.dumps.specs.Shown.{entry_of, program_of, key_of, view_of, Progr
 
 use crate::lines::{EndedLines, EntryLine, Line, ProgramLine, VALUE_ROOM, read_line};
 use crate::refusals::{DumpError, DumpFault, LineError};
+use crate::watching::{Passing, Unwatched, Watcher};
 use arrayvec::ArrayVec;
 use loader::{Catalogue, Installed, StoreState};
 use maps::{MapSet, Shape};
@@ -264,6 +265,39 @@ fn opened(alloc: Global, shapes: &[Shape], places: usize) -> Result<PartialState
     })
 }
 
+/// [`load`], which tells a watcher how much of the text is loaded. No watcher changes what is loaded.
+///
+/// # Errors
+///
+/// As [`load`].
+pub fn load_watched<V: Watcher>(
+    alloc: Global,
+    shapes: &[Shape],
+    places: usize,
+    text: &str,
+    watcher: &V,
+) -> Result<StoreState, DumpError>
+    requires shapes { AreShapesSupported shapes.now }
+    requires places { places ≤ MOST_SPARE }
+    ensures loaded { IsLoadAnswer (loaded_state shapes.now places text.now) result }
+{
+    let mut so_far = opened(alloc, shapes, places)?;
+    let mut lines = EndedLines::new(text);
+    let mut passing = Passing::new(watcher, text.len());
+    let mut room = [0u8; VALUE_ROOM];
+    while let Some((number, line)) = lines.take_line() {
+        match take_ended(alloc, shapes, &mut so_far, line, &mut room) {
+            Ok(()) => passing.note(lines.left()),
+            Err(e) => {
+                watcher.ended();
+                return Err(e.at(number));
+            }
+        }
+    }
+    passing.end();
+    Ok(StoreState::of(so_far.maps, so_far.installed))
+}
+
 /// The state that a dump says, on maps of these shapes and with so many places for programs; else the first
 /// bad line, and of its faults the one of lowest number.
 ///
@@ -283,16 +317,7 @@ pub fn load(
     requires places { places ≤ MOST_SPARE }
     ensures loaded { IsLoadAnswer (loaded_state shapes.now places text.now) result }
 {
-    let mut so_far = opened(alloc, shapes, places)?;
-    let mut lines = EndedLines::new(text);
-    let mut room = [0u8; VALUE_ROOM];
-    while let Some((number, line)) = lines.take_line() {
-        match take_ended(alloc, shapes, &mut so_far, line, &mut room) {
-            Ok(()) => {}
-            Err(e) => return Err(e.at(number)),
-        }
-    }
-    Ok(StoreState::of(so_far.maps, so_far.installed))
+    load_watched(alloc, shapes, places, text, &Unwatched)
 }
 
 /// The state that a dump says, for stores of a catalogue: on its maps, and with as many places as it has.

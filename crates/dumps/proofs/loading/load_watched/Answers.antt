@@ -2,20 +2,20 @@ use Rattle.std.proofs.Common.{sym, ◌∙◌, refl}
 use Rattle.dumps.specs.Loading.{loaded_state}
 use Rattle.maps.proofs.Export.{stored_are}
 use Rattle.dumps.proofs.Loop.{one_on, fails_here, at_end}
-use Rattle.dumps.proofs.loading.load.Goals as goal
+use Rattle.dumps.proofs.loading.load_watched.Goals as goal
 
 pub loop-number-init : goal.loop-number-init
 unfolding loaded_state
-loop-number-init c = (c.in_ok-so_far.ensures.for_shapes, rw (c.new-lines.ensures.all, c.in_ok-so_far.ensures.opened) refl)
+loop-number-init g c = (c.in_ok-so_far.ensures.for_shapes, rw (c.new-lines.ensures.all, c.in_ok-so_far.ensures.opened) refl)
 
 pub loop-number-preserved : goal.loop-number-preserved
-loop-number-preserved c =
+loop-number-preserved g c =
     let taken = c.in-Some.ensures.taken in
     let next = one_on c.args.shapes.now c.loop-number.lines.number c.take_line.new.self.number _ _ c.loop-number.lines.lines c.take_line.new.self.lines _ taken.0 taken.2 c.in-Ok.ensures.made in
     (c.take_ended.ensures.same, sym next ∙ c.loop-number.invariant.1)
 
 pub returns-in-Err : goal.returns-in-Err
-returns-in-Err c =
+returns-in-Err g c =
     let taken = c.in-Some.ensures.taken in
     record {
       loaded =
@@ -24,13 +24,13 @@ returns-in-Err c =
     }
 
 pub of-requires-clause-shapes : goal.of-requires-clause-shapes
-of-requires-clause-shapes c = record { same = refl; each = c.loop-number.invariant.0.each }
+of-requires-clause-shapes g c = record { same = refl; each = c.loop-number.invariant.0.each }
 
 pub of-requires-clause-programs : goal.of-requires-clause-programs
-of-requires-clause-programs c = c.loop-number.invariant.0.programs ∙ sym c.loop-number.invariant.0.maps ∙ stored_are _
+of-requires-clause-programs g c = c.loop-number.invariant.0.programs ∙ sym c.loop-number.invariant.0.maps ∙ stored_are _
 
 pub returns : goal.returns
-returns c =
+returns g c =
     let taken = c.in_default.ensures.taken in
     record {
       loaded = rw c.of.ensures.state (at_end c.args.shapes.now c.loop-number.lines.number _ c.loop-number.lines.lines _ taken.0 c.loop-number.invariant.1);

@@ -1,11 +1,11 @@
 use Rattle.std.proofs.Common.{◌≡◌, length}
 use Rattle.dumps.specs.Loading.{after_lines, loaded_state}
 use Rattle.dumps.specs.Shown.{view_of, IsFor}
-use Rattle.dumps.proofs.loading.load.Given as goal
+use Rattle.dumps.proofs.loading.load_watched.Given as goal
 
 abbrev pub invariant-loop-number : goal.invariant-loop-number
-invariant-loop-number l =
+invariant-loop-number g l =
     IsFor l.shapes l.so_far × (after_lines l.shapes l.lines.number (view_of l.so_far) l.lines.lines ≡ loaded_state l.shapes l.places l.text)
 
 abbrev pub decreases-loop-number : goal.decreases-loop-number
-decreases-loop-number l = length l.lines.lines
+decreases-loop-number g l = length l.lines.lines
