@@ -1,7 +1,7 @@
 //! What a run of `stress` leaves beside its transcript: the history of its calls in real time, the state that it ends in, and its counts.
 
 use crate::stress::sessions::{Programs, given};
-use dumps::dump;
+use dumps::{Unwatched, dump};
 use oplog::Config;
 use std::alloc::Global;
 use std::io;
@@ -50,6 +50,7 @@ fn left_by<R: Threads + Wait + Sync>(
         gate: &OpenGate,
         has_history: true,
         clock: Some(&clock),
+        watcher: &Unwatched,
     };
     let folder = Programs;
     let mut inputs = given(&folder, script, state);

@@ -2,6 +2,7 @@
 
 ghost use Rattle.std.specs.Prelude.{⊤};
 
+use dumps::Unwatched;
 use engine::{Folder, Inputs, MapSizes, Notes, perform};
 use oplog::Config;
 use replaying::Replay;
@@ -103,6 +104,7 @@ fn two_sessions_wait_for_each_other(rt: HostRuntime) {
         gate: &meeting,
         has_history: false,
         clock: None::<&NoClock>,
+        watcher: &Unwatched,
     };
     let folder = Programs;
     let mut inputs = given(&folder, SCRIPT, b"");
@@ -112,7 +114,10 @@ fn two_sessions_wait_for_each_other(rt: HostRuntime) {
     let mut inputs = given(&folder, transcript.as_slice(), b"");
     let mut found = Vec::new(rt.alloc());
     let mut notes = Notes::none(rt.alloc());
-    let command = Replay { spare: 4 };
+    let command = Replay {
+        spare: 4,
+        watcher: &Unwatched,
+    };
     let status = perform(rt.alloc(), &command, &mut inputs, &mut notes, &mut found);
     assert_eq!(rt;
         (status.code(), found.as_slice()),

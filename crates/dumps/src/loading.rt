@@ -320,15 +320,21 @@ pub fn load(
     load_watched(alloc, shapes, places, text, &Unwatched)
 }
 
-/// The state that a dump says, for stores of a catalogue: on its maps, and with as many places as it has.
+/// The state that a dump says, for stores of a catalogue: on its maps, and with as many places as it has. Tells a watcher how much of the text is
+/// loaded.
 ///
 /// # Errors
 ///
 /// As [`load`].
-pub fn load_for(alloc: Global, catalogue: &Catalogue, text: &str) -> Result<StoreState, DumpError>
+pub fn load_for<V: Watcher>(
+    alloc: Global,
+    catalogue: &Catalogue,
+    text: &str,
+    watcher: &V,
+) -> Result<StoreState, DumpError>
     ensures loaded { IsLoadAnswer (loaded_state catalogue.now.shapes catalogue.now.places text.now) result }
     ensures fits { IfOk result (MayOpenOn catalogue.now) }
 {
     let places = catalogue.places();
-    load(alloc, catalogue.shapes(), places, text)
+    load_watched(alloc, catalogue.shapes(), places, text, watcher)
 }

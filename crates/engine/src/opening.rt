@@ -9,7 +9,7 @@ ghost use Rattle.engine.specs.StateAnswer.{opened_by, reason_text, refusal_text}
 use crate::reading::{Texts, lent};
 use crate::replies::{Reply, sizes_refused};
 use crate::texts::{begin_refusal, put_decode, put_numbered, put_verify, refusal_text};
-use dumps::{DumpError, DumpFault, DumpRefusal, load_for};
+use dumps::{DumpError, DumpFault, DumpRefusal, Watcher, load_for};
 use loader::{Catalogue, InstallRefusal, LoadError, MAX_SPARE, StoreState, load_manifest_within};
 use std::alloc::{AllocError, Global};
 
@@ -75,7 +75,12 @@ pub enum Opened {
 }
 
 // A catalogue on the state that a text says, or on a new one where the text is empty.
-fn open_on(alloc: Global, catalogue: Catalogue, text: &str) -> Result<Opened, AllocError>
+fn open_on<V: Watcher>(
+    alloc: Global,
+    catalogue: Catalogue,
+    text: &str,
+    watcher: &V,
+) -> Result<Opened, AllocError>
     requires new { catalogue.opening ≡ None }
     ensures opened { IfOk result IsOpened }
     ensures answered { IfOk result (λ o. on_which o ≡ opened_by catalogue text.now) }
@@ -83,7 +88,7 @@ fn open_on(alloc: Global, catalogue: Catalogue, text: &str) -> Result<Opened, Al
     if text.is_empty() {
         return Ok(Opened::On(catalogue, None));
     }
-    match load_for(alloc, &catalogue, text) {
+    match load_for(alloc, &catalogue, text, watcher) {
         Ok(state) => Ok(Opened::On(catalogue.on(&state), Some(state))),
         Err(DumpError::NoMemory) => Err(AllocError),
         Err(DumpError::Refused(refusal)) => {
@@ -106,12 +111,18 @@ pub fn places_within(spare: u32) -> Option<usize>
 }
 
 /// Loads the manifest that was read, with so many places behind its programs, and the state that was read. A refused manifest gets only
-/// its refusal; without a number of places it is `refused O1`, and a refused state gets `line N: En`.
+/// its refusal; without a number of places it is `refused O1`, and a refused state gets `line N: En`. The watcher is told how much of the
+/// state is loaded.
 ///
 /// # Errors
 ///
 /// The system has no memory left.
-pub fn open_texts(alloc: Global, texts: &Texts, places: Option<usize>) -> Result<Opened, AllocError>
+pub fn open_texts<V: Watcher>(
+    alloc: Global,
+    texts: &Texts,
+    places: Option<usize>,
+    watcher: &V,
+) -> Result<Opened, AllocError>
     requires few { IfSome places (λ n. n ≤ MAX_SPARE) }
     // The catalogue opens on the state that was read.
     ensures opened { IfOk result IsOpened }
@@ -121,7 +132,8 @@ pub fn open_texts(alloc: Global, texts: &Texts, places: Option<usize>) -> Result
         (Loaded::Refused(reply), _) => Ok(Opened::Refused(reply)),
         (Loaded::Catalogue(_), None) => Ok(Opened::Refused(sizes_refused(alloc)?)),
         (Loaded::Catalogue(catalogue), Some(places)) => {
-            open_on(alloc, catalogue.with_places(places), texts.state.as_str())
+            let catalogue = catalogue.with_places(places);
+            open_on(alloc, catalogue, texts.state.as_str(), watcher)
         }
     }
 }

@@ -9,6 +9,7 @@ ghost use Rattle.example_answers.specs.Counter.{counter_checked, counter_ran};
 ghost use Rattle.example_answers.specs.Pages.{IsOnPage};
 
 use console::Check;
+use dumps::Unwatched;
 use engine::{Held, HeldFiles, Inputs, MapSizes, Notes, Page, Reply, Status, in_memory, perform};
 use running::{Kept, Run};
 use std::alloc::{AllocError, Global};
@@ -97,7 +98,11 @@ pub fn counter_ran(alloc: Global) -> Result<Kept, AllocError>
         state: None,
         history: None,
     };
-    in_memory::make(alloc, &Run { is_signed: false }, inputs)
+    let run = Run {
+        is_signed: false,
+        watcher: &Unwatched,
+    };
+    in_memory::make(alloc, &run, inputs)
 }
 
 /// The command itself, writing on a page.
@@ -118,12 +123,10 @@ pub fn counter_on_page(alloc: Global) -> (Status, Page)
         history: None,
     };
     let mut notes = Notes::none(alloc);
-    let status = perform(
-        alloc,
-        &Run { is_signed: false },
-        &mut inputs,
-        &mut notes,
-        &mut page,
-    );
+    let run = Run {
+        is_signed: false,
+        watcher: &Unwatched,
+    };
+    let status = perform(alloc, &run, &mut inputs, &mut notes, &mut page);
     (status, page)
 }

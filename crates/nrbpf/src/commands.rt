@@ -117,8 +117,8 @@ pub fn perform<
         ),
         Task::Encode => encode_command::perform(rt, inputs, writer),
         Task::Decode => decode_command::perform(rt, call.telling, inputs, writer),
-        Task::Run(asked) => run_command::perform(rt, asked, call.output, inputs, writer),
-        Task::Replay(spare) => replay_command::perform(rt, spare, call.telling, inputs, writer),
+        Task::Run(asked) => run_command::perform(rt, asked, call, inputs, writer),
+        Task::Replay(spare) => replay_command::perform(rt, spare, call, inputs, writer),
         Task::Schedule(config) => schedule_command::perform(
             rt,
             config,
@@ -126,7 +126,7 @@ pub fn perform<
             inputs,
             writer,
         ),
-        Task::Serve(options) => { serve_command::perform(rt, options, call.output, inputs, writer) }
+        Task::Serve(options) => serve_command::perform(rt, options, call, inputs, writer),
         Task::Stress(config) => stress_command::perform(rt, config, call, inputs, writer),
     }
 }

@@ -109,8 +109,8 @@ impl<'a, R: Files + Input + Screen> LateFile<'a, R> {
     }
 
     // So many bytes more are read; none at its end.
-    fn note(&mut self, count: usize) {
-        match &mut self.progress {
+    fn note(&self, count: usize) {
+        match &self.progress {
             Some(progress) if count == 0 => progress.end(),
             Some(progress) => progress.add(count),
             None => {}

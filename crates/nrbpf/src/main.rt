@@ -9,7 +9,7 @@
 //! - It makes the call that the task asks for.
 //! - If all is well, it writes a text into its file: first into one next to it, which then replaces it.
 //! - It writes the state of `stress` after a file of times.
-//! - Standard error gets the notes, faults, sizes, counts, and how far a file is.
+//! - Standard error gets the notes, faults, sizes, counts, and how much of a large file is read, loaded or written.
 //! - The exit status is the status's code.
 #![tactic(auto)]
 

@@ -82,7 +82,7 @@ impl<'a> Target<'a> {
     fn replace<R: Files + Screen>(&self, rt: &R, text: &mut Handed) -> io::Result<()> {
         let part = self.part.as_str();
         let mut file = fs::create(rt, part)?;
-        let written = match write_text(&mut file, text, &mut self.progress(rt)) {
+        let written = match write_text(&mut file, text, &self.progress(rt)) {
             Ok(()) => fs::rename(rt, part, self.path),
             Err(error) => Err(error),
         };
@@ -98,7 +98,7 @@ impl<'a> Target<'a> {
             Ok(found) if !found.is_file() => write_text(
                 &mut fs::create(rt, self.path)?,
                 text,
-                &mut self.progress(rt),
+                &self.progress(rt),
             ),
             _ => self.replace(rt, text),
         }
@@ -120,7 +120,7 @@ impl<'a> Target<'a> {
 fn write_pieces<R: Screen, W: Write>(
     writer: &mut W,
     text: &mut StateText,
-    progress: &mut Progress<'_, R>,
+    progress: &Progress<'_, R>,
 ) -> io::Result<()> {
     let mut room = [0u8; PIECE_BYTES];
     loop {
@@ -138,7 +138,7 @@ fn write_pieces<R: Screen, W: Write>(
 fn write_text<R: Screen, W: Write>(
     writer: &mut W,
     text: &mut Handed,
-    progress: &mut Progress<'_, R>,
+    progress: &Progress<'_, R>,
 ) -> io::Result<()> {
     match text {
         Handed::Text(text) => writer.write_all(text),
@@ -169,7 +169,7 @@ pub fn put_state<R: Files + Screen, W: Write>(
 ) -> Status {
     match (target, text) {
         (Some(target), Some(mut text)) if status == Status::Good && target.path == DASH => {
-            match write_text(writer, &mut text, &mut target.progress(rt)) {
+            match write_text(writer, &mut text, &target.progress(rt)) {
                 Ok(()) => Status::Good,
                 Err(_) => Status::CannotWrite,
             }

@@ -1,10 +1,13 @@
-// How far long reads and writes of files are, on standard error.
+// How far long reads and writes of files are, and the loading of a state, on standard error.
 
+use crate::disk::DASH;
+use dumps::Watcher;
+use std::cell::Cell;
 use std::io::{Eprint, IsTerminal};
 use std::rt::{Clock, HostRuntime};
 use std::time::Instant;
 
-// From so many bytes on, the end of a read or a write is told however fast it was: what follows takes long too.
+// From so many bytes on, the end is told however fast it came: what follows takes long too.
 const LARGE_BYTES: u64 = 1 << 26;
 
 /// What tells whether somebody watches standard error.
@@ -19,69 +22,94 @@ impl Screen for HostRuntime {
     }
 }
 
-/// Says on standard error how much of a file is read or written: after two seconds, then each second, and at its end if the file is large. If
-/// standard error is no terminal, it says nothing.
+/// Says on standard error how much of a file is read, loaded or written: after two seconds, then each second, and at its end if the file is large.
+/// If standard error is no terminal, it says nothing.
 #[derive(Drop)]
 pub struct Progress<'a, R: Screen> {
     rt: &'a R,
     path: &'a str,
-    // `read` or `written`.
+    // `read`, `loaded` or `written`.
     done: &'static str,
-    // When it began; `None` if nobody watches.
-    begun: Option<Instant>,
-    bytes: u64,
+    // Whether somebody watches.
+    is_watched: bool,
+    // When the first bytes were done; `None` before.
+    begun: Cell<Option<Instant>>,
+    bytes: Cell<u64>,
     // The second in which the last line was said; 0 before the first.
-    said: u64,
+    said: Cell<u64>,
 }
 
 impl<'a, R: Screen> Progress<'a, R> {
-    /// That of a file of which nothing is read or written yet.
+    /// That of a file of which nothing is done yet.
     pub fn new(rt: &'a R, path: &'a str, done: &'static str) -> Progress<'a, R> {
-        let begun = if rt.is_watched() {
-            Instant::now(rt).ok()
-        } else {
-            None
-        };
         Progress {
             rt,
             path,
             done,
-            begun,
-            bytes: 0,
-            said: 0,
+            is_watched: rt.is_watched(),
+            begun: Cell::new(None),
+            bytes: Cell::new(0),
+            said: Cell::new(0),
         }
+    }
+
+    /// That of a state which a command loads from the file of this path. If there is no file, nothing will be done.
+    pub fn of_state(rt: &'a R, path: Option<&'a str>) -> Progress<'a, R> {
+        Progress::new(rt, path.unwrap_or(DASH), "loaded")
     }
 
     // Says how many bytes are done, over what was said before.
     fn say(&self) {
-        let (path, done, megabytes) = (self.path, self.done, self.bytes / 1_000_000);
+        let (path, done, megabytes) = (self.path, self.done, self.bytes.get() / 1_000_000);
         let _ = eprint!(self.rt; "\r{path}: {megabytes} MB {done}");
     }
 
+    // The whole seconds since the first bytes were done.
+    fn seconds(&self) -> u64 {
+        match self.begun.get() {
+            Some(begun) => match begun.elapsed(self.rt) {
+                Ok(time) => time.as_secs(),
+                Err(_) => 0,
+            },
+            None => {
+                self.begun.set(Instant::now(self.rt).ok());
+                0
+            }
+        }
+    }
+
     /// So many bytes more are done.
-    pub fn add(&mut self, count: usize) {
-        let Some(begun) = self.begun else {
+    pub fn add(&self, count: usize) {
+        if !self.is_watched {
             return;
-        };
-        self.bytes = self.bytes.saturating_add(count as u64);
-        let Ok(time) = begun.elapsed(self.rt) else {
-            return;
-        };
-        let second = time.as_secs();
-        if second >= 2 && second > self.said {
-            self.said = second;
+        }
+        self.bytes
+            .set(self.bytes.get().saturating_add(count as u64));
+        let second = self.seconds();
+        if second >= 2 && second > self.said.get() {
+            self.said.set(second);
             self.say();
         }
     }
 
-    /// All is done.
-    pub fn end(&mut self) {
-        if self.said > 0 || self.bytes >= LARGE_BYTES {
+    /// No more is done.
+    pub fn end(&self) {
+        if self.said.get() > 0 || self.bytes.get() >= LARGE_BYTES {
             self.say();
             let _ = eprintln!(self.rt; "");
         }
-        self.begun = None;
-        self.bytes = 0;
-        self.said = 0;
+        self.begun.set(None);
+        self.bytes.set(0);
+        self.said.set(0);
+    }
+}
+
+impl<R: Screen> Watcher for Progress<'_, R> {
+    fn passed(&self, bytes: usize) {
+        self.add(bytes);
+    }
+
+    fn ended(&self) {
+        self.end();
     }
 }

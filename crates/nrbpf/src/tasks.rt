@@ -7,7 +7,6 @@ use console::Disassemble;
 use engine::{MapSizes, Telling};
 use loader::MAX_SPARE;
 use oplog::{Config, MAX_LIMIT, MAX_NODE_SLOTS, MAX_NODES, MAX_WINDOW, MIN_WINDOW};
-use running::Run;
 use serving::ServeOptions;
 use std::io::Eprint;
 
@@ -36,8 +35,8 @@ pub struct Explaining<'a> {
 /// What is run, and how.
 #[derive(Clone, Copy)]
 pub struct Running {
-    /// The run.
-    pub run: Run,
+    /// Whether next to each negative reply is that number with a sign.
+    pub is_signed: bool,
     /// Whether the arguments of the script's calls are values.
     pub has_values: bool,
 }

@@ -11,6 +11,7 @@ ghost use Rattle.realtime.specs.TimedAnswer.{calls_answer, timed_answer};
 use crate::histories::{Timed, read_history};
 use crate::orders::{beginnings, first_misplaced, first_out_of_turn};
 use crate::ranks::ranks;
+use dumps::Watcher;
 use engine::texts::put_numbered;
 use engine::{Command, Gathered, Notes, Reply, Texts, Verdict, not_text};
 use replaying::Replay;
@@ -71,13 +72,15 @@ fn history_reply(alloc: Global, reply: Reply, texts: &Texts) -> Result<Reply, Al
 /// while an earlier call of its session wasn't back, or behind one of a LINE that isn't lower. Then a call that was back
 /// before another began must have no higher rank, an update at index i 2i + 1 and a read at point p 2p: the answer is
 /// `history line N differs` for the first that has. The notes tell what they tell of a replay.
-#[derive(Clone, Copy)]
-pub struct ReplayTimed {
+#[derive(Drop)]
+pub struct ReplayTimed<'w, V> {
     /// How many places there are behind the manifest's programs.
     pub spare: u32,
+    /// What is told how much of the state is loaded.
+    pub watcher: &'w V,
 }
 
-impl Command for ReplayTimed {
+impl<V: Watcher> Command for ReplayTimed<'_, V> {
     type Made = Reply;
 
     ghost may_make = { λ c t r. answer_of r ≡ timed_answer c.spare t };
@@ -88,8 +91,11 @@ impl Command for ReplayTimed {
         let Ok(texts) = read else {
             return not_text(alloc);
         };
-        let spare = self.spare;
-        let reply = Replay { spare }.reply(alloc, &texts, notes)?;
+        let replay = Replay {
+            spare: self.spare,
+            watcher: self.watcher,
+        };
+        let reply = replay.reply(alloc, &texts, notes)?;
         match reply.verdict {
             Verdict::Good => history_reply(alloc, reply, &texts),
             Verdict::Refused | Verdict::Differs => Ok(reply),

@@ -12,6 +12,7 @@ ghost use Rattle.replaying.specs.Replaying.{ended_answer};
 
 use crate::lines::{ReplayEnd, Replaying};
 use crate::replay_texts::{put_end, tell_end};
+use dumps::Watcher;
 use engine::{Command, Gathered, Notes, Opened, Reply, Texts, not_text, open_texts, places_within};
 use loader::{Catalogue, StoreState};
 use std::alloc::{AllocError, Global};
@@ -56,13 +57,15 @@ fn transcript_reply(
 ///
 /// The state is given as [`dumps::dump`] writes one; without a text it is a new one. A refused manifest gets only its
 /// refusal, more than 16 places `refused O1`, and a refused state `line N: En`; then no line is replayed.
-#[derive(Clone, Copy)]
-pub struct Replay {
+#[derive(Drop)]
+pub struct Replay<'w, V> {
     /// How many places there are behind the manifest's programs.
     pub spare: u32,
+    /// What is told how much of the state is loaded.
+    pub watcher: &'w V,
 }
 
-impl Replay {
+impl<V: Watcher> Replay<'_, V> {
     /// What is answered to these texts.
     ///
     /// # Errors
@@ -81,7 +84,7 @@ impl Replay {
         ensures answered { IfOk result (λ r. answer_of r ≡ replay_answer self.now.spare (Some (texts_read texts.now))) }
     {
         let transcript = texts.file.as_str();
-        match open_texts(alloc, texts, places_within(self.spare))? {
+        match open_texts(alloc, texts, places_within(self.spare), self.watcher)? {
             Opened::On(catalogue, state) => {
                 transcript_reply(alloc, &catalogue, state.as_ref(), transcript, notes)
             }
@@ -90,7 +93,7 @@ impl Replay {
     }
 }
 
-impl Command for Replay {
+impl<V: Watcher> Command for Replay<'_, V> {
     type Made = Reply;
 
     ghost may_make = { λ c t r. answer_of r ≡ replay_answer c.spare t };

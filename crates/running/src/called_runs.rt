@@ -7,15 +7,21 @@ ghost use Rattle.running.specs.CalledRun.{called_run, calls_refused};
 
 use crate::dumped_runs::DumpedRun;
 use crate::single_node::RUN_PLACES;
+use dumps::Watcher;
 use encoding::{EncodeError, EncodeRefusal, encode, refusal_line};
 use engine::{Command, Gathered, Notes, Opened, Parted, Reply, Texts, not_text, open_texts};
 use std::alloc::{AllocError, Global};
 
 // What is answered to calls that are refused, where manifest and state are good.
-fn refused(alloc: Global, texts: &Texts, refusal: EncodeRefusal) -> Result<Parted, AllocError>
+fn refused<V: Watcher>(
+    alloc: Global,
+    texts: &Texts,
+    refusal: EncodeRefusal,
+    watcher: &V,
+) -> Result<Parted, AllocError>
     ensures { IfOk result (λ p. parted_of p ≡ calls_refused refusal (texts_read texts.now)) }
 {
-    match open_texts(alloc, texts, Some(RUN_PLACES))? {
+    match open_texts(alloc, texts, Some(RUN_PLACES), watcher)? {
         Opened::On(..) => Ok(Parted::whole(Reply::refused(refusal_line(alloc, refusal)?))),
         Opened::Refused(reply) => Ok(Parted::whole(reply)),
     }
@@ -24,13 +30,13 @@ fn refused(alloc: Global, texts: &Texts, refusal: EncodeRefusal) -> Result<Parte
 /// Runs calls as [`DumpedRun`] runs the script that [`encoding::encode`] makes of them.
 ///
 /// Where they are refused, nothing is run: the answer is the line of the refusal, `line N column C: wanted ..`.
-#[derive(Clone, Copy)]
-pub struct CalledRun {
+#[derive(Drop)]
+pub struct CalledRun<'w, V> {
     /// The run of the script.
-    pub run: DumpedRun,
+    pub run: DumpedRun<'w, V>,
 }
 
-impl Command for CalledRun {
+impl<V: Watcher> Command for CalledRun<'_, V> {
     type Made = Parted;
 
     ghost may_make = { λ c t p. parted_of p ≡ called_run c.run.run.is_signed c.run.dump t };
@@ -45,7 +51,9 @@ impl Command for CalledRun {
                 self.run.make(alloc, Ok(texts), notes)
             }
             Err(EncodeError::NoMemory) => Err(AllocError),
-            Err(EncodeError::Refused(refusal)) => refused(alloc, &texts, refusal),
+            Err(EncodeError::Refused(refusal)) => {
+                refused(alloc, &texts, refusal, self.run.run.watcher)
+            }
         }
     }
 }

@@ -5,6 +5,7 @@ ghost use Rattle.engine.specs.Parted.{parted_of};
 ghost use Rattle.running.specs.KeptRun.{dumped_run, kept_of, with_dump};
 
 use crate::runs::{Kept, Run};
+use dumps::Watcher;
 use engine::{Command, Destination, Gathered, Notes, Parted};
 use std::alloc::{AllocError, Global};
 
@@ -22,15 +23,15 @@ fn dumped(alloc: Global, kept: Kept, to: Destination) -> Result<Parted, AllocErr
 /// Runs a script as [`Run`] does, and makes the text of the state that it leaves, as [`dumps::dump`] writes it.
 ///
 /// Where a line is bad, or where nothing was run, there is no such text.
-#[derive(Clone, Copy)]
-pub struct DumpedRun {
+#[derive(Drop)]
+pub struct DumpedRun<'w, V> {
     /// The run.
-    pub run: Run,
+    pub run: Run<'w, V>,
     /// Where the text of the state goes.
     pub dump: Destination,
 }
 
-impl Command for DumpedRun {
+impl<V: Watcher> Command for DumpedRun<'_, V> {
     type Made = Parted;
 
     ghost may_make = { λ c t p. parted_of p ≡ dumped_run c.run.is_signed c.dump t };

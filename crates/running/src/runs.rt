@@ -14,7 +14,7 @@ ghost use Rattle.running.specs.Running.{IsSteady, HasLeft, with_signs};
 use crate::lines::take_lines;
 use crate::signed_texts::signed_text;
 use crate::single_node::{RUN_PLACES, SingleNode};
-use dumps::Dumping;
+use dumps::{Dumping, Watcher};
 use engine::{
     AnswerText, Answering, Command, Gathered, Notes, Opened, Reply, Sink, Status, Texts, Verdict,
     not_text, open_texts, write_pieces,
@@ -82,10 +82,10 @@ fn run_lines(
 
 // Runs the script on what the manifest, its files and the state say. Otherwise refuses as they are refused.
 #[tactic(auto, using(engine::proofs::Openings::opens_on))]
-fn run_script(alloc: Global, texts: Texts) -> Result<Kept, AllocError>
+fn run_script<V: Watcher>(alloc: Global, texts: Texts, watcher: &V) -> Result<Kept, AllocError>
     ensures { IfOk result (λ k. kept_of k ≡ run_kept false (Some (texts_read texts))) }
 {
-    let opened = open_texts(alloc, &texts, Some(RUN_PLACES))?;
+    let opened = open_texts(alloc, &texts, Some(RUN_PLACES), watcher)?;
     let script = texts.into_file();
     match opened {
         Opened::On(catalogue, state) => {
@@ -116,13 +116,15 @@ fn add_signs(alloc: Global, plain: Kept) -> Result<Kept, AllocError>
 /// The state is given as [`dumps::dump`] writes one; without a text it is a new one. There are four places behind the
 /// programs of the manifest, those that are installed in the state among them. A refused manifest gets only its refusal, a
 /// refused state `line N: En`, and nothing is run.
-#[derive(Clone, Copy)]
-pub struct Run {
+#[derive(Drop)]
+pub struct Run<'w, V> {
     /// Whether beside each reply of 2^63 or more stands that number with a sign: ` = -N`.
     pub is_signed: bool,
+    /// What is told how much of the state is loaded.
+    pub watcher: &'w V,
 }
 
-impl Command for Run {
+impl<V: Watcher> Command for Run<'_, V> {
     type Made = Kept;
 
     ghost may_make = { λ c t k. kept_of k ≡ run_kept c.is_signed t };
@@ -131,7 +133,7 @@ impl Command for Run {
         let Ok(texts) = read else {
             return Ok(refuse(not_text(alloc)?));
         };
-        let kept = run_script(alloc, texts)?;
+        let kept = run_script(alloc, texts, self.watcher)?;
         if self.is_signed {
             add_signs(alloc, kept)
         } else {

@@ -7,4 +7,4 @@ mod store_texts;
 mod turns;
 
 pub use laws::{served_in_parts, served_is_encoded, served_is_run};
-pub use turns::{ServeEnd, ServeOptions, serve};
+pub use turns::{ServeEnd, ServeOptions, Server};

@@ -13,6 +13,7 @@ ghost use Rattle.serving.specs.ServeAnswer.{Serves, ServesAll, ServesGiven, Serv
 ghost use Rattle.serving.specs.ServiceKept.{IfOpened, ServesOpened, Stands, TakesTurns};
 
 use crate::service::Service;
+use dumps::Watcher;
 use engine::texts::no_memory;
 use engine::{
     Command, Feed, Folder, Gathered, Inputs, Notes, Opened, ReadFault, Reply, Sink, Source, Status,
@@ -171,12 +172,13 @@ fn serve_opened<R: Feed, W: Sink>(
 }
 
 // Opens a service on the catalogue of a manifest, with so many places behind its programs, and on a state.
-#[derive(Clone, Copy)]
-pub(crate) struct Opening {
+#[derive(Drop)]
+pub(crate) struct Opening<'w, V> {
     pub spare: u32,
+    pub watcher: &'w V,
 }
 
-impl Command for Opening {
+impl<V: Watcher> Command for Opening<'_, V> {
     type Made = Opened;
 
     ghost may_make = { λ c t o. IsOpened o × (on_which o ≡ service c.spare t) };
@@ -188,42 +190,56 @@ impl Command for Opening {
         _notes: &mut Notes,
     ) -> Result<Opened, AllocError> {
         match read {
-            Ok(texts) => open_texts(alloc, &texts, places_within(self.spare)),
+            Ok(texts) => open_texts(alloc, &texts, places_within(self.spare), self.watcher),
             Err(_) => Ok(Opened::Refused(not_text(alloc)?)),
         }
     }
 }
 
-/// Answers the lines of a script as they come in, on a store with the maps and the programs of a manifest, and so many places behind
-/// these: one log, which has no end ([`oplog::ENDLESS`]), and one replica, on one thread. The store opens on the state that a text says, as
-/// [`dumps::dump`] writes one; without a text it is a new one. If calls have values, a line is answered as the line of a script that
-/// [`encoding::encode`] makes of it.
-///
-/// Writes for each line what `run` writes for it. A line that is bad writes `line N bad`, changes nothing, and the service goes on; so does
-/// one that is not UTF-8, and one that `encode` refuses. A line `?` writes what the store has, and changes nothing. What a read brings is
-/// answered, and all that was answered is written, before the next read. A last line that has no line feed is not answered. A refused manifest
-/// writes only its refusal, more than 16 places `refused O1`, and a refused state `line N: En`; then nothing of the input is read. Says how it
-/// ended: at the end of input well, and then gives the state that the answered lines leave. Where memory runs out, `no memory` stands behind the
-/// answers so far.
-pub fn serve<F: Folder, S: Source + Drop, R: Feed, W: Sink>(
-    alloc: Global,
-    how: ServeOptions,
-    inputs: &mut Inputs<'_, F, S>,
-    reader: &mut R,
-    writer: &mut W,
-) -> ServeEnd
-    // Where the readers and the folder tell their bytes, those are served.
-    ensures written { IfGiven F.holds S.remaining inputs.old (ServesGiven how (ports R.remaining reader.old reader.new W.contents writer.old writer.new) result) }
-    // The status says that a read failed only after one of the input did, or of a text after texts that are all UTF-8.
-    ensures read { result.status ≡ statuses.CannotRead → FailedInTurn F.holds F.can_fail S.remaining S.has_failed inputs.old inputs.new ⊎ R.has_failed reader.new }
-    // The status says that a write failed only after one did.
-    ensures wrote { result.status ≡ statuses.CannotWrite → W.has_failed writer.new }
-    // Whatever they give, or where they fail.
-    ensures ended { (t : Option TextsRead) × ServesRead how (ports R.remaining reader.old reader.new W.contents writer.old writer.new) result t }
-    // However it ends, a text is read only if all texts before it are UTF-8.
-    ensures stops { IfGiven F.holds S.remaining inputs.old (StopsAtStranger inputs.old inputs.new) }
-{
-    let ServeOptions { spare, has_values } = how;
-    let opened = prepare(alloc, &Opening { spare }, inputs, &mut Notes::none(alloc));
-    serve_opened(alloc, has_values, opened, reader, writer)
+/// What serves.
+#[derive(Drop)]
+pub struct Server<'w, V> {
+    /// What is told how much of the state is loaded.
+    pub watcher: &'w V,
+}
+
+impl<V: Watcher> Server<'_, V> {
+    /// Answers the lines of a script as they come in, on a store with the maps and the programs of a manifest, and so many places behind
+    /// these: one log, which has no end ([`oplog::ENDLESS`]), and one replica, on one thread. The store opens on the state that a text says, as
+    /// [`dumps::dump`] writes one; without a text it is a new one. If calls have values, a line is answered as the line of a script that
+    /// [`encoding::encode`] makes of it.
+    ///
+    /// Writes for each line what `run` writes for it. A line that is bad writes `line N bad`, changes nothing, and the service goes on; so does
+    /// one that is not UTF-8, and one that `encode` refuses. A line `?` writes what the store has, and changes nothing. What a read brings is
+    /// answered, and all that was answered is written, before the next read. A last line that has no line feed is not answered. A refused manifest
+    /// writes only its refusal, more than 16 places `refused O1`, and a refused state `line N: En`; then nothing of the input is read. Says how it
+    /// ended: at the end of input well, and then gives the state that the answered lines leave. Where memory runs out, `no memory` stands behind the
+    /// answers so far.
+    pub fn serve<F: Folder, S: Source + Drop, R: Feed, W: Sink>(
+        &self,
+        alloc: Global,
+        how: ServeOptions,
+        inputs: &mut Inputs<'_, F, S>,
+        reader: &mut R,
+        writer: &mut W,
+    ) -> ServeEnd
+        // Where the readers and the folder tell their bytes, those are served.
+        ensures written { IfGiven F.holds S.remaining inputs.old (ServesGiven how (ports R.remaining reader.old reader.new W.contents writer.old writer.new) result) }
+        // The status says that a read failed only after one of the input did, or of a text after texts that are all UTF-8.
+        ensures read { result.status ≡ statuses.CannotRead → FailedInTurn F.holds F.can_fail S.remaining S.has_failed inputs.old inputs.new ⊎ R.has_failed reader.new }
+        // The status says that a write failed only after one did.
+        ensures wrote { result.status ≡ statuses.CannotWrite → W.has_failed writer.new }
+        // Whatever they give, or where they fail.
+        ensures ended { (t : Option TextsRead) × ServesRead how (ports R.remaining reader.old reader.new W.contents writer.old writer.new) result t }
+        // However it ends, a text is read only if all texts before it are UTF-8.
+        ensures stops { IfGiven F.holds S.remaining inputs.old (StopsAtStranger inputs.old inputs.new) }
+    {
+        let ServeOptions { spare, has_values } = how;
+        let opening = Opening {
+            spare,
+            watcher: self.watcher,
+        };
+        let opened = prepare(alloc, &opening, inputs, &mut Notes::none(alloc));
+        serve_opened(alloc, has_values, opened, reader, writer)
+    }
 }

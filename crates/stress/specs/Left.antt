@@ -39,5 +39,5 @@ IsLeft to s l =
     (record { answer = answer_left l; times = option_map handed_text l.times; state = option_map handed_text l.state } ≡ left_by to s) × (l.counts ≡ s.counts)
 
 -- what this command may leave of what was read
-abbrev pub MayLeave : {R G C : Type 0} → Stress R G C → Leaving → Option TextsRead → LeftTexts → Type 0
+abbrev pub MayLeave : {R G C V : Type 0} → Stress R G C V → Leaving → Option TextsRead → LeftTexts → Type 0
 MayLeave c to t l = (s : Stressed) × MayMake c t s × IsLeft to s l

@@ -40,5 +40,5 @@ IsStressRun config timed (Some t) s =
     (λ c. MatchResult (script_calls c 1 (lines_of t.file)) (λ calls. IsRun config timed c calls s) (λ n. IsOnly (bad_line n) s)) (λ a. IsOnly a s)
 
 -- what this command may make of them
-abbrev pub MayMake : {R G C : Type 0} → Stress R G C → Option TextsRead → Stressed → Type 0
+abbrev pub MayMake : {R G C V : Type 0} → Stress R G C V → Option TextsRead → Stressed → Type 0
 MayMake c t s = IsStressRun c.config c.has_history t s

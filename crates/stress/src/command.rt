@@ -20,6 +20,7 @@ use crate::left_texts::{Leaving, LeftTexts, left_texts};
 use crate::lines::WrittenCalls;
 use crate::sharing::Left;
 use crate::stressed::Stressed;
+use dumps::Watcher;
 use engine::{
     Folder, Gathered, Inputs, Opened, Performed, ReadFault, Reply, Sink, Source, Status, Texts,
     Verdict, gather, hand_back, not_text, open_texts, report,
@@ -44,7 +45,7 @@ use std::thread::Threads;
 /// Beside the answer it gives back the history of the calls in real time where one is kept, the state that the store ends in, and how many
 /// calls there were.
 #[derive(Drop)]
-pub struct Stress<'a, R, G, C> {
+pub struct Stress<'a, R, G, C, V> {
     /// What starts the threads and waits.
     pub rt: &'a R,
     /// The sizes of the store.
@@ -55,6 +56,8 @@ pub struct Stress<'a, R, G, C> {
     pub has_history: bool,
     /// The clock that calls are timed by, where they are.
     pub clock: Option<&'a C>,
+    /// What is told how much of the state is loaded.
+    pub watcher: &'a V,
 }
 
 // How many places a store of these sizes has behind its programs; none where a size is out of its limits.
@@ -69,7 +72,13 @@ fn places_in(config: Config) -> Option<usize>
     }
 }
 
-impl<'a, R: Threads + Wait + Sync, G: Gate + Sync, C: Clock + Sync> Stress<'a, R, G, C> {
+impl<'a, R: Threads + Wait + Sync, G: Gate + Sync, C: Clock + Sync, V: Watcher> Stress<
+    'a,
+    R,
+    G,
+    C,
+    V,
+> {
     // What calls give back that no session is refused.
     fn calls_run(
         &self,
@@ -120,7 +129,7 @@ impl<'a, R: Threads + Wait + Sync, G: Gate + Sync, C: Clock + Sync> Stress<'a, R
     fn texts_run(&self, alloc: Global, texts: Texts) -> Result<Stressed, AllocError>
         ensures { IfOk result (MayMake self.now (Some (texts_read texts))) }
     {
-        let opened = open_texts(alloc, &texts, places_in(self.config))?;
+        let opened = open_texts(alloc, &texts, places_in(self.config), self.watcher)?;
         let script = texts.into_file();
         match opened {
             Opened::On(catalogue, state) => {

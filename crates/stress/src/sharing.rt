@@ -213,7 +213,7 @@ fn written(
     write_told(alloc, catalogue, timed, told?, spent)
 }
 
-impl<'t, R: Threads + Wait + Sync, G: Gate + Sync, C: Clock + Sync> Stress<'t, R, G, C> {
+impl<'t, R: Threads + Wait + Sync, G: Gate + Sync, C: Clock + Sync, V> Stress<'t, R, G, C, V> {
     // Makes the calls on a store that opens on a state, or on a new one, and closes it. What is left of it.
     pub(crate) fn tell_all(
         &self,

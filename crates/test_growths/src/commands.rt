@@ -8,12 +8,13 @@ use crate::served::{
 };
 use crate::streams::{Narrow, Programs, Slow, Turns};
 use console::{Assemble, Check, Disassemble};
+use dumps::Unwatched;
 use engine::{Answering, Inputs, MapSizes, Notes, Status};
 use oplog::Config;
 use replaying::Replay;
 use running::Run;
 use scheduling::Schedule;
-use serving::{ServeOptions, serve};
+use serving::{ServeOptions, Server};
 use std::alloc::Global;
 use std::sync::Wait;
 use std::thread::Threads;
@@ -41,6 +42,7 @@ fn stressed<R: Threads + Wait + Sync>(
         gate: &OpenGate,
         has_history: false,
         clock: None::<&NoClock>,
+        watcher: &Unwatched,
     };
     let mut inputs = Inputs {
         sizes: MapSizes::Standard,
@@ -68,7 +70,12 @@ fn served(alloc: Global, reads: &Turns, out: &mut Narrow<'_>) -> Status {
         spare: 4,
         has_values: false,
     };
-    serve(alloc, options, &mut inputs, &mut lines, out).status
+    let server = Server {
+        watcher: &Unwatched,
+    };
+    server
+        .serve(alloc, options, &mut inputs, &mut lines, out)
+        .status
 }
 
 // The texts that a command reads, where it reads them.
@@ -141,7 +148,10 @@ pub fn ended<R: Threads + Wait + Sync>(
             answered(alloc, &Check, manifest, reads, out)
         }
         Command::Run => {
-            let command = Run { is_signed: false };
+            let command = Run {
+                is_signed: false,
+                watcher: &Unwatched,
+            };
             answered(alloc, &command, with_manifest(SCRIPT), reads, out)
         }
         Command::Assemble => {
@@ -163,7 +173,10 @@ pub fn ended<R: Threads + Wait + Sync>(
             answered(alloc, &command, with_manifest(STEPS), reads, out)
         }
         Command::Replay => {
-            let command = Replay { spare: 4 };
+            let command = Replay {
+                spare: 4,
+                watcher: &Unwatched,
+            };
             answered(alloc, &command, with_manifest(TRANSCRIPT), reads, out)
         }
         Command::Stress => stressed(rt, alloc, reads, out),

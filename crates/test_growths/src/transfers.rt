@@ -3,6 +3,7 @@
 use crate::commands::ended;
 use crate::served::{COUNTER, Command, FIVE_CALLS, may_have_written, written};
 use crate::streams::{Narrow, Programs, Slow, Turns};
+use dumps::Unwatched;
 use engine::{Inputs, MapSizes, Notes, Status, perform};
 use running::Run;
 use std::alloc::Global;
@@ -96,6 +97,9 @@ pub fn counted(alloc: Global, out: &mut Narrow<'_>) -> Status {
         state: None,
         history: None,
     };
-    let command = Run { is_signed: false };
+    let command = Run {
+        is_signed: false,
+        watcher: &Unwatched,
+    };
     perform(alloc, &command, &mut inputs, &mut Notes::none(alloc), out)
 }

@@ -2,13 +2,14 @@
 
 use crate::commands::options;
 use crate::keeping::perform_noting;
-use crate::tasks::Task;
+use crate::progress::{Progress, Screen};
+use crate::tasks::{Call, Task};
 use clap::{ArgMatches, Command, arg};
-use engine::{Folder, Inputs, Status, Telling};
+use engine::{Folder, Inputs, Status};
 use realtime::ReplayTimed;
 use replaying::Replay;
 use std::alloc::{AllocError, Global};
-use std::io::{Eprint, Read, Write};
+use std::io::{Read, Write};
 
 // The help's text after the arguments.
 const HELP: &str = "\
@@ -84,15 +85,18 @@ pub fn task<'a>(matches: &ArgMatches<'a>) -> Option<Task<'a>> {
 }
 
 /// Replays a transcript, with so many places for installed programs. Judges the times of its calls too, if they are given.
-pub fn perform<R: AllocGlobal + Eprint, F: Folder, I: Read + Drop, W: Write>(
+pub fn perform<R: AllocGlobal + Screen, F: Folder, I: Read + Drop, W: Write>(
     rt: &R,
     spare: u32,
-    telling: Telling,
+    call: &Call<'_>,
     inputs: &mut Inputs<'_, F, I>,
     writer: &mut W,
 ) -> Status {
+    let watcher = &Progress::of_state(rt, call.state);
     if inputs.history.is_some() {
-        return perform_noting(rt, &ReplayTimed { spare }, telling, inputs, writer);
+        let command = ReplayTimed { spare, watcher };
+        return perform_noting(rt, &command, call.telling, inputs, writer);
     }
-    perform_noting(rt, &Replay { spare }, telling, inputs, writer)
+    let command = Replay { spare, watcher };
+    perform_noting(rt, &command, call.telling, inputs, writer)
 }

@@ -3,8 +3,8 @@
 use crate::commands::options;
 use crate::keeping::{destination_of, elsewhere};
 use crate::output::{Target, no_memory, put_after};
-use crate::progress::Screen;
-use crate::tasks::{Running, Task};
+use crate::progress::{Progress, Screen};
+use crate::tasks::{Call, Running, Task};
 use clap::{ArgMatches, Command, arg};
 use engine::{Folder, Inputs, Notes, Performed, Sink, Source, Status, perform_kept};
 use running::{CalledRun, DumpedRun, Run};
@@ -91,27 +91,30 @@ pub fn arguments<'a>(alloc: Global) -> Result<Command<'a>, AllocError> {
 
 /// The task that the command's words ask for.
 pub fn task<'a>(matches: &ArgMatches<'a>) -> Option<Task<'a>> {
-    let run = Run {
+    Some(Task::Run(Running {
         is_signed: matches.get_flag("signed"),
-    };
-    let has_values = matches.get_flag("calls");
-    Some(Task::Run(Running { run, has_values }))
+        has_values: matches.get_flag("calls"),
+    }))
 }
 
-/// Runs a script. Puts the state that it leaves into the file of a path, if no line was bad and all was written.
+/// Runs a script. Puts the state that it leaves into its file, if no line was bad and all was written.
 pub fn perform<R: Files + AllocGlobal + Screen, F: Folder, I: Source + Drop, W: Sink>(
     rt: &R,
     asked: Running,
-    dump: Option<&str>,
+    call: &Call<'_>,
     inputs: &mut Inputs<'_, F, I>,
     writer: &mut W,
 ) -> Status {
-    let Ok(target) = Target::of(rt.alloc(), dump) else {
+    let loading = Progress::of_state(rt, call.state);
+    let Ok(target) = Target::of(rt.alloc(), call.output) else {
         return no_memory(writer);
     };
     let run = DumpedRun {
-        run: asked.run,
-        dump: destination_of(dump),
+        run: Run {
+            is_signed: asked.is_signed,
+            watcher: &loading,
+        },
+        dump: destination_of(call.output),
     };
     let mut notes = Notes::none(rt.alloc());
     let Performed { status, made } = if asked.has_values {

@@ -4,14 +4,14 @@ use crate::commands::options;
 use crate::disk::LateFile;
 use crate::keeping::destination_of;
 use crate::output::{Target, no_memory, put_after};
-use crate::progress::Screen;
-use crate::tasks::Task;
+use crate::progress::{Progress, Screen};
+use crate::tasks::{Call, Task};
 use clap::{ArgMatches, Command};
 use dumps::StateText;
 use engine::{Destination, Folder, Handed, Inputs, Sink, Source, Status};
 use loader::StoreState;
 use running::dump_to;
-use serving::{ServeEnd, ServeOptions};
+use serving::{ServeEnd, ServeOptions, Server};
 use std::alloc::{AllocError, Global};
 use std::io::Input;
 use std::rt::Files;
@@ -84,27 +84,22 @@ fn dump_after<W: Sink>(alloc: Global, state: &StoreState, writer: &mut W) -> Sta
     }
 }
 
-/// Answers the lines of standard input while they arrive. Puts the state that they leave into the file of a path, if standard input has
-/// ended.
+/// Answers the lines of standard input while they arrive. Puts the state that they leave into its file, if standard input has ended.
 pub fn perform<R: Files + Input + AllocGlobal + Screen, F: Folder, I: Source + Drop, W: Sink>(
     rt: &R,
     options: ServeOptions,
-    path: Option<&str>,
+    call: &Call<'_>,
     inputs: &mut Inputs<'_, F, I>,
     writer: &mut W,
 ) -> Status {
-    let Ok(target) = Target::of(rt.alloc(), path) else {
+    let mut lines = LateFile::lines(rt);
+    let Ok(target) = Target::of(rt.alloc(), call.output) else {
         return no_memory(writer);
     };
-    let mut lines = LateFile::lines(rt);
-    let ServeEnd { status, state } = serving::serve(
-        rt.alloc(),
-        options,
-        inputs,
-        &mut lines,
-        writer,
-    );
-    match (destination_of(path), state) {
+    let loading = Progress::of_state(rt, call.state);
+    let server = Server { watcher: &loading };
+    let ServeEnd { status, state } = server.serve(rt.alloc(), options, inputs, &mut lines, writer);
+    match (destination_of(call.output), state) {
         (Destination::Writer, Some(state)) => dump_after(rt.alloc(), &state, writer),
         (Destination::Elsewhere, Some(state)) => match StateText::new(rt.alloc(), state) {
             Ok(text) => put_after(rt, status, &target, Some(Handed::State(text))),

@@ -3,7 +3,7 @@
 use crate::commands::options;
 use crate::keeping::destination_of;
 use crate::output::{Target, no_memory, put_after, put_state};
-use crate::progress::Screen;
+use crate::progress::{Progress, Screen};
 use crate::tasks::{Call, Task, config_of};
 use clap::{ArgMatches, Command, arg};
 use engine::{Destination, Folder, Inputs, Performed, Status};
@@ -133,12 +133,14 @@ pub fn perform<
     inputs: &mut Inputs<'_, F, I>,
     writer: &mut W,
 ) -> Status {
+    let loading = Progress::of_state(rt, call.state);
     let command = Stress {
         rt,
         config,
         gate: &OpenGate,
         has_history: call.times.is_some(),
         clock: if call.has_stats { Some(rt) } else { None },
+        watcher: &loading,
     };
     let (Ok(times), Ok(state)) = (
         Target::of(rt.alloc(), call.times),

@@ -7,7 +7,7 @@ use Rattle.realtime.proofs.Answered.{if_ok}
 use Rattle.realtime.proofs.command.ReplayTimedCommand.make.Goals as goal
 
 pub returns-in-Good-clause-made : goal.returns-in-Good-clause-made
-returns-in-Good-clause-made c =
+returns-in-Good-clause-made g c =
     let t = texts_read c.in-Ok.texts in
     rw c.in-Ok.is
     (if_ok c.history_reply.result (λ r. answer_of r ≡ timed (answer_of c.in_ok-reply.reply) t.file t.history) (λ r. answer_of r ≡ timed_answer c.args.self.now.spare (Some t))

@@ -4,7 +4,7 @@ use Rattle.engine.specs.Reading.{FailedInTurn, read}
 use Rattle.engine.proofs.Export.{given_so}
 use Rattle.serving.specs.ServeAnswer.{service}
 use Rattle.serving.proofs.ServedAll.{before_or_in, is_opened, of_some, opened_as}
-use Rattle.serving.proofs.turns.serve.Goals as goal
+use Rattle.serving.proofs.turns.Server.serve.Goals as goal
 
 pub serve_opened-requires : goal.serve_opened-requires
 serve_opened-requires g c = record { opened = is_opened c.args.how.spare c.prepare-opened.result c.prepare-opened.ensures.some }
