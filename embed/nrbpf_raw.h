@@ -196,8 +196,8 @@ void nrbpf_raw_open_on(const struct nrbpf_raw_opening *opening, struct nrbpf_raw
 /* Writes the number of the program that has this name. Statuses: 0, S1, H2, H4. */
 void nrbpf_raw_number(struct nrbpf_raw_store *at);
 
-/* Gives a session of the node that the store's word `node` names, and writes its handle into the room at `session`. Both handles get the status: 0, H1,
- * H2. If it is refused, the session's handle is closed. */
+/* Gives the first session of the node that the store's word `node` names, of those that are not attached, and writes its handle into the room at `session`.
+ * Both handles get the status: 0, H1, H2. If it is refused, the session's handle is closed. */
 void nrbpf_raw_attach(struct nrbpf_raw_store *at, struct nrbpf_raw_session *session);
 
 /* Takes a session back into the store that it was attached to. Then its handle is closed, and its memory is as good as room. The store's handle gets the

@@ -128,7 +128,7 @@ pub unsafe extern "C" fn nrbpf_raw_number(at: *mut u8)
     find_number(&mut *(at as *mut StoreHandle));
 }
 
-/// Gives a session of the node in the store's words, and writes its handle. It is closed where there is none.
+/// Gives the first session of the node in the store's words that is not attached, and writes its handle. It is closed where there is none.
 #[unsafe(no_mangle)]
 pub unsafe extern "C" fn nrbpf_raw_attach(at: *mut u8, room: *mut u8)
     ghost value: { StoreHandle }

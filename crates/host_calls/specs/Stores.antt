@@ -28,6 +28,10 @@ IsOfNode p node k = (k < length p.places.items) × (0 < p.slots) × (k / p.slots
 abbrev pub NoneIsFree : Pool → ℕ → Type 0
 NoneIsFree p node = (k : ℕ) → IsOfNode p node k → seated p k ≡ None
 
+-- all sessions of the node before this place are attached
+abbrev pub NoneIsFreeBefore : Pool → (node place : ℕ) → Type 0
+NoneIsFreeBefore p node place = (k : ℕ) → k < place → IsOfNode p node k → seated p k ≡ None
+
 -- the pool has the same store, and as many sessions a node
 abbrev pub IsKept : (p q : Pool) → Type 0
 IsKept p q = (q.store ≡ p.store) × (q.slots ≡ p.slots)
@@ -36,9 +40,9 @@ IsKept p q = (q.store ≡ p.store) × (q.slots ≡ p.slots)
 abbrev pub IsUnmoved : (p q : Pool) → Type 0
 IsUnmoved p q = q.places.items ≡ p.places.items
 
--- the session stood at a place of the node, which is empty now
+-- the session stood at a place of the node, the first of those at which one stood; it is empty now
 abbrev pub IsTaken : (p q : Pool) → ℕ → Attached → Type 0
-IsTaken p q node a = (k : ℕ) × IsOfNode p node k × (seated p k ≡ Some a) × (q.places.items ≡ set p.places.items k None)
+IsTaken p q node a = (k : ℕ) × IsOfNode p node k × NoneIsFreeBefore p node k × (seated p k ≡ Some a) × (q.places.items ≡ set p.places.items k None)
 
 -- the place at which the session stood is there and empty
 abbrev pub HasPlaceFor : Pool → Attached → Type 0

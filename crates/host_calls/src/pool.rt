@@ -1,12 +1,12 @@
 // The sessions of a store that are not attached.
 
-ghost use Rattle.std.specs.Prelude.{◌≡◌, ◌↔◌, ◌<◌, length, is_some, IfErr, IfOk, IsSome, IsTrue, MatchOption, None};
+ghost use Rattle.std.specs.Prelude.{◌≡◌, ◌↔◌, ◌<◌, length, is_some, IfErr, IfOk, IfSome, IsSome, IsTrue, MatchOption, None, set};
 ghost use Rattle.std.specs.List.{list_all};
 ghost use Rattle.std.specs.Arc.{arc_value};
 ghost use Rattle.loader.specs.CatalogueView.{number_named};
 ghost use Rattle.host_calls.specs.Seating.{AreInOrder};
 ghost use Rattle.host_calls.specs.States.{new_state_of};
-ghost use Rattle.host_calls.specs.Stores.{HasPlaceFor, IsGiven, IsKept, IsOfNode, IsTaken, IsUnmoved, NoneIsFree, seated};
+ghost use Rattle.host_calls.specs.Stores.{HasPlaceFor, IsGiven, IsKept, IsOfNode, IsTaken, IsUnmoved, NoneIsFree, NoneIsFreeBefore, seated};
 
 use crate::attached::Attached;
 use std::alloc::{AllocError, Global};
@@ -69,6 +69,7 @@ impl Pool {
     // The first place of a session of the node that is not attached.
     fn free_place(&self, node: u64) -> Option<usize>
         ensures free { MatchOption result (NoneIsFree self.now node) (λ k. IsOfNode self.now node k × IsSome (seated self.now k)) }
+        ensures first { IfSome result (NoneIsFreeBefore self.now node) }
     {
         for place in 0..self.seats.places.len() {
             if self.is_free(node, place) {
@@ -78,12 +79,21 @@ impl Pool {
         None
     }
 
-    /// Takes a session of this node out.
+    /// Takes a session of this node out: of those that are there, the one at the first place.
     pub fn take(&mut self, node: u64) -> Option<Attached>
         ensures kept { IsKept self.old self.new }
         ensures taken { MatchOption result (NoneIsFree self.old node × IsUnmoved self.old self.new) (λ a. IsTaken self.old self.new node a) }
     {
         let place = self.free_place(node)?;
+        self.take_at(place)
+    }
+
+    // Takes out what stands at this place.
+    fn take_at(&mut self, place: usize) -> Option<Attached>
+        requires there { place < length self.old.places.items }
+        ensures kept { IsKept self.old self.new }
+        ensures taken { (result ≡ seated self.old place) × (self.new.places.items ≡ set self.old.places.items place None) }
+    {
         self.seats.places[place].take()
     }
 
