@@ -13,7 +13,7 @@ _nrbpf() {
         return
     fi
     case ${COMP_WORDS[at]}:$before in
-        replay:--spare | schedule:--limit | schedule:--nodes | schedule:--slots | schedule:--spare | schedule:--window | serve:--spare | stress:--limit | stress:--nodes | stress:--slots | stress:--spare | stress:--window) COMPREPLY=(); return ;;
+        replay:--spare | schedule:--limit | schedule:--nodes | schedule:--slots | schedule:--spare | schedule:--window | serve:--spare | stress:--limit | stress:--nodes | stress:--pipeline | stress:--slots | stress:--spare | stress:--window) COMPREPLY=(); return ;;
     esac
     case ${COMP_WORDS[at]} in
         check) words='--large --maps -h --help' ;;
@@ -26,7 +26,7 @@ _nrbpf() {
         serve) words='--spare --calls --large --load --dump -h --help' ;;
         replay) words='--spare --large --load --history --explain -h --help' ;;
         schedule) words='--nodes --slots --window --limit --spare --large --explain --lanes -h --help' ;;
-        stress) words='--nodes --slots --window --limit --spare --large --load --dump --history --stats -h --help' ;;
+        stress) words='--nodes --slots --window --limit --spare --large --load --dump --history --pipeline --stats -h --help' ;;
         help) words='check explain asm dis encode decode run serve replay schedule stress' ;;
         *) words= ;;
     esac

@@ -127,6 +127,6 @@ pub fn perform<
             writer,
         ),
         Task::Serve(options) => serve_command::perform(rt, options, call, inputs, writer),
-        Task::Stress(config) => stress_command::perform(rt, config, call, inputs, writer),
+        Task::Stress(asked) => stress_command::perform(rt, asked, call, inputs, writer),
     }
 }

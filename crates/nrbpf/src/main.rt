@@ -3,7 +3,8 @@
 //! Each command is one proved call: `perform`, `perform_kept` or `serve`. Standard streams, files and words have no model in the kit. So
 //! only tests say that the program does these things:
 //!
-//! - It makes a task of the words, with its options and paths. A second file that is standard input is a fault.
+//! - It makes a task of the words, with its options and paths. A second file that is standard input is a fault, and a pipeline that does not
+//!   divide the slots of a node.
 //! - It enters the folder of `-C`.
 //! - It opens a file at its first read, and gives the call what the file has, and no other file.
 //! - It makes the call that the task asks for.
@@ -81,6 +82,22 @@ fn enter<R: Env + Eprint>(rt: &R, call: &Call) -> bool {
 // A fault of the command line.
 const FAULT: u8 = 2;
 
+// Does what a call asks for, and answers the exit status.
+fn code_of<R: Files + Env + Input + Print + AllocGlobal + Threads + Wait + Screen + Sync>(
+    rt: &R,
+    call: &Call,
+) -> u8 {
+    if let Some(fault) = call.fault() {
+        let _ = eprintln!(rt; "error: {fault}");
+        return FAULT;
+    }
+    if enter(rt, call) {
+        answer(rt, call).code()
+    } else {
+        Status::CannotRead.code()
+    }
+}
+
 fn main(rt: HostRuntime) -> ExitCode {
     let words: Vec<String> = match env::args(&rt) {
         Ok(args) => match args.collect(rt.alloc()) {
@@ -90,12 +107,7 @@ fn main(rt: HostRuntime) -> ExitCode {
         Err(_) => return ExitCode::from(FAULT),
     };
     match command_line::read(rt.alloc(), words.as_slice()) {
-        Ok(Some(call)) if call.reads_twice() => {
-            let _ = eprintln!(rt; "error: only one file can be standard input");
-            ExitCode::from(FAULT)
-        }
-        Ok(Some(call)) if !enter(&rt, &call) => ExitCode::from(Status::CannotRead.code()),
-        Ok(Some(call)) => ExitCode::from(answer(&rt, &call).code()),
+        Ok(Some(call)) => ExitCode::from(code_of(&rt, &call)),
         Ok(None) => ExitCode::from(FAULT),
         Err(error) => {
             let _ = error.print(&rt);

@@ -9,6 +9,7 @@ use loader::MAX_SPARE;
 use oplog::{Config, MAX_LIMIT, MAX_NODE_SLOTS, MAX_NODES, MAX_WINDOW, MIN_WINDOW};
 use serving::ServeOptions;
 use std::io::Eprint;
+use stress::makes_teams;
 
 /// What `explain` writes.
 #[derive(Clone, Copy)]
@@ -41,6 +42,15 @@ pub struct Running {
     pub has_values: bool,
 }
 
+/// A store for the calls of a script on threads, and how many sessions share a thread.
+#[derive(Clone, Copy)]
+pub struct Stressing {
+    /// The sizes of the store.
+    pub config: Config,
+    /// How many sessions of a node share a thread.
+    pub together: u32,
+}
+
 /// What is to be done.
 #[derive(Clone, Copy)]
 pub enum Task<'a> {
@@ -64,8 +74,8 @@ pub enum Task<'a> {
     Schedule(Config),
     /// Answer lines while they arrive, by these options.
     Serve(ServeOptions),
-    /// Make the calls of a script on threads, on a store of these sizes.
-    Stress(Config),
+    /// Make the calls of a script on threads.
+    Stress(Stressing),
 }
 
 /// A task, and the paths of what it reads and writes.
@@ -96,8 +106,8 @@ pub struct Call<'a> {
 }
 
 impl<'a> Call<'a> {
-    /// Whether two files are standard input, which can be read only once. `serve` reads its lines there.
-    pub fn reads_twice(&self) -> bool {
+    // Whether two files are standard input, which can be read only once. `serve` reads its lines there.
+    fn reads_twice(&self) -> bool {
         let lines = match self.task {
             Task::Serve(_) => Some(DASH),
             _ => None,
@@ -105,6 +115,19 @@ impl<'a> Call<'a> {
         let paths = [self.manifest, self.file, self.state, self.history, lines];
         let inputs = paths.iter().flatten().filter(|path| **path == DASH);
         inputs.count() > 1
+    }
+
+    /// What is wrong with the words, although each of them is right.
+    pub fn fault(&self) -> Option<&'static str> {
+        if self.reads_twice() {
+            return Some("only one file can be standard input");
+        }
+        match self.task {
+            Task::Stress(asked) if !makes_teams(asked.config, asked.together) => {
+                Some("--pipeline must divide --slots")
+            }
+            _ => None,
+        }
     }
 }
 
@@ -167,7 +190,7 @@ fn say_size<R: Eprint>(rt: &R, name: &str, size: u32, least: u32, most: u32) {
 /// Says on standard error which sizes of the store of a task are out of their limits.
 pub fn say_sizes<R: Eprint>(rt: &R, task: Task<'_>) {
     let spare = match task {
-        Task::Schedule(config) | Task::Stress(config) => {
+        Task::Schedule(config) | Task::Stress(Stressing { config, .. }) => {
             let (least, most) = (MIN_WINDOW as u32, MAX_WINDOW as u32);
             say_size(rt, "nodes", config.nodes, 1, MAX_NODES);
             say_size(rt, "slots", config.slots, 1, MAX_NODE_SLOTS);

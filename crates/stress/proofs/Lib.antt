@@ -1,7 +1,8 @@
 mod Script
 pub mod Digits
 pub mod Ready
-pub mod Playing
+pub mod Standing
+pub mod EachCall
 mod Ranks
 mod Told
 pub mod Dealt
@@ -12,6 +13,8 @@ pub mod Steady
 pub mod OneHistory
 pub mod Transcripts
 pub mod Turns
+pub mod EachTeam
+pub mod RoundMore
 pub mod Places
 pub mod Agreeing
 mod Programs

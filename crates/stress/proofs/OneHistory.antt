@@ -333,15 +333,6 @@ module _ (sessions : List SessionView) (s : SessionView) (said more : List Answe
 pub told_more : (sessions : List SessionView) (s : SessionView) (said more : List AnsweredCall) → AreTold sessions said → IsTold s more → AreTold (sessions ++ s ∷ []) (said ++ more)
 told_more sessions s said more known new l each = all_told sessions s said more known new l each
 
-module _ {V E : Type 0} (items : V → List AnsweredCall) where
-  pub joined_told : (sessions : List SessionView) (s : SessionView) (all said both : Result V E)
-      → IfOk both (λ v. MatchResult all (λ a. MatchResult said (λ b. items v ≡ items a ++ items b) (λ _. ⊥)) (λ _. ⊥))
-      → IfOk all (λ v. AreTold sessions (items v)) → IfOk said (λ v. IsTold s (items v)) → IfOk both (λ v. AreTold (sessions ++ s ∷ []) (items v))
-  joined_told sessions s all said (Err e) h known new = tt
-  joined_told sessions s (Err e) said (Ok v) h known new = absurd h
-  joined_told sessions s (Ok a) (Err e) (Ok v) h known new = absurd h
-  joined_told sessions s (Ok a) (Ok b) (Ok v) h known new = subst (AreTold (sessions ++ s ∷ [])) (sym h) (told_more sessions s (items a) (items b) known new)
-
 -- ---- the history that is left
 
 is_read : {A : Type 0} (xs : List A) (k : ℕ) (x : A) → At k x xs → get_or xs k x ≡ x

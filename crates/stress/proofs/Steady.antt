@@ -109,28 +109,17 @@ module _ {X : Type 0} (n : ℕ) (calls : List X) where
 abbrev Steady : List AnsweredCall → Type 0
 Steady told = AreSteady (map told_of told)
 
-long_of : (told : List AnsweredCall) (calls : List (Option Called)) → calls_told told ≡ calls → length told ≡ length calls
+pub long_of : (told : List AnsweredCall) (calls : List (Option Called)) → calls_told told ≡ calls → length told ≡ length calls
 long_of told calls is = sym (length-map told told_call) ∙ ap length is
 
 module _ (n m : ℕ) (calls : List (Option Called)) where
-  steady_to : (xs ys : List AnsweredCall) → length xs ≡ length (dealt_from n 0 m calls) → length ys ≡ length (dealt n m calls) → AreSteadyTo n m calls xs → Steady ys → AreSteadyTo n (suc m) calls (xs ++ ys)
+  pub steady_to : (xs ys : List AnsweredCall) → length xs ≡ length (dealt_from n 0 m calls) → length ys ≡ length (dealt n m calls) → AreSteadyTo n m calls xs → Steady ys → AreSteadyTo n (suc m) calls (xs ++ ys)
   steady_to xs ys long mine old new k below =
       ⊎_elim (λ lt. subst Steady (sym (share_front n calls xs ys m long k lt)) (old k lt))
       (λ ge.
       let same : m ≡ k = omega (arith, below, ge) in
       subst (λ j. Steady (share_of n j calls (xs ++ ys))) same (subst Steady (sym (share_last n calls xs ys m long mine)) new))
       (cases_lt k m)
-
-  module _ {V E : Type 0} (items : V → List AnsweredCall) where
-    pub joined_steady : (all said both : Result V E) → IfOk both (λ v. MatchResult all (λ a. MatchResult said (λ b. items v ≡ items a ++ items b) (λ _. ⊥)) (λ _. ⊥))
-        → IfOk all (λ v. calls_told (items v) ≡ dealt_from n 0 m calls) → IfOk said (λ v. calls_told (items v) ≡ dealt n m calls)
-        → IfOk all (λ v. AreSteadyTo n m calls (items v)) → IfOk said (λ v. Steady (items v)) → IfOk both (λ v. AreSteadyTo n (suc m) calls (items v))
-    joined_steady all said (Err e) h told mine old new = tt
-    joined_steady (Err e) said (Ok v) h told mine old new = absurd h
-    joined_steady (Ok a) (Err e) (Ok v) h told mine old new = absurd h
-    joined_steady (Ok a) (Ok b) (Ok v) h told mine old new =
-        subst (AreSteadyTo n (suc m) calls) (sym h)
-        (steady_to (items a) (items b) (long_of (items a) (dealt_from n 0 m calls) told) (long_of (items b) (dealt n m calls) mine) old new)
 
 -- ---- the same of calls that are seen otherwise
 

@@ -1,5 +1,5 @@
 -- A transcript, from what the sessions were told.
-use Rattle.std.proofs.Common.{◌≡◌, ◌∙◌, ℕ, Bool, true, false, List, [], ◌∷◌, All, map, Some, None, refl, sym, ap, subst}
+use Rattle.std.proofs.Common.{◌≡◌, ◌∙◌, ℕ, Bool, true, false, List, [], ◌∷◌, All, length, map, Some, None, refl, sym, ap, subst}
 use Rattle.std.specs.Prelude.{if◌then◌else◌, Result, Ok, Err, IfOk, MatchResult}
 use Rattle.std.proofs.lemmas.List.Elements.{All-nil, All-cons, All-map}
 use Rattle.std.specs.List.Sorted.{IsPermutation}
@@ -7,15 +7,17 @@ use Rattle.std.proofs.lemmas.List.Sorted.{All-permutation, IsPermutation-trans, 
 use Rattle.loader.specs.CatalogueView.{CatalogueView}
 use Rattle.oplog.specs.declared.configuration.Config.{Config}
 use Rattle.engine.specs.declared.replies.Verdict.TheVariants as verdicts
+use Rattle.store_steps.specs.Views.{SessionView}
 use Rattle.stress.specs.declared.calls.ScriptCall.{ScriptCall}
 use Rattle.stress.specs.declared.lines.AnsweredCall.{AnsweredCall}
 use Rattle.stress.specs.declared.sharing.Left.{Left}
 use Rattle.stress.specs.Calls.{Called, told_as}
-use Rattle.stress.specs.Dealt.{dealt_to}
+use Rattle.stress.specs.Dealt.{dealt_from, dealt_to}
 use Rattle.stress.specs.Lines.{ToldCall, AreSteady, suits}
 use Rattle.stress.specs.Timed.{IsHistoryIf, IsInTurn, AreCounted}
 use Rattle.stress.specs.Shown.{called, said_of, told_call, calls_told, to_be_told, told_of, timed_of}
 use Rattle.stress.specs.Playing.{IsLeft, IsWritten, EndsIn, AreSteadyTo, history_if}
+use Rattle.stress.specs.Teams.{WereTold}
 use Rattle.running.specs.RunAnswer.{state_of}
 use Rattle.stress.specs.Playing.{calls_of}
 use Rattle.stress.specs.Transcripts.{session_count, IsTranscript, EachCallHasOneLine}
@@ -101,12 +103,17 @@ each_call_has_one_line config c calls a sizes t =
 
 -- ---- what is left
 
--- what is left of a store, where memory was left
-module _ {V E : Type 0} (items : V → List AnsweredCall) (config : Config) (c : CatalogueView) (timed : Bool) (script : List ScriptCall) where
-  pub is_left : (told : Result V E) (left : Left) → IfOk told (λ v. calls_told (items v) ≡ dealt_to (session_count config) (to_be_told script))
-      → IfOk told (λ v. All (λ t. IsInTurn (session_count config) (map called script) (timed_of t)) (items v))
-      → IfOk told (λ v. AreSteadyTo (session_count config) (session_count config) (to_be_told script) (items v))
+-- what is left of a store whose sessions are back from their teams, where memory was left
+module _ {V E : Type 0} (items : V → List AnsweredCall) (config : Config) (c : CatalogueView) (timed : Bool) (script : List ScriptCall) (sessions : List SessionView) where
+  pub is_left : (told : Result V E) (left : Left) → length sessions ≡ session_count config → IfOk told (λ v. WereTold (session_count config) script sessions (items v))
       → IfOk told (λ v. EndsIn c config.limit left.state (items v)) → MatchResult told (λ v. IsWritten c timed (items v) left.written) (λ _. ⊥)
       → IsLeft config c timed script left
-  is_left (Err e) left dealt turns steady ends written = absurd written
-  is_left (Ok v) left dealt turns steady ends written = record { told = items v; in_turn = dealt; turns = turns; steady = steady; written = written; ends = ends }
+  is_left (Err e) left count were ends written = absurd written
+  is_left (Ok v) left count were ends written = record {
+    told = items v;
+    in_turn = were.dealt ∙ ap (λ m. dealt_from (session_count config) 0 m (to_be_told script)) count;
+    turns = were.turns;
+    steady = subst (λ m. AreSteadyTo (session_count config) m (to_be_told script) (items v)) count were.steady;
+    written = written;
+    ends = ends;
+  }

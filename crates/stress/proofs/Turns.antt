@@ -34,16 +34,3 @@ in_turn n number one calls told is by k d below =
     let theirs = (so told (dealt n number all) (is ∙ ap (dealt n number) (sym (twice calls)) ∙ one_map (λ c. Some c) n number all)).0 in
     let t = get_or told k d in
     subst (λ s. (s < n) × Contains (dealt n s all) (called t.call.now)) (sym (by k d below)) (one, subst (λ cs. Contains cs (called t.call.now)) theirs (one_of told k d below))
-
-abbrev AreInTurn : ℕ → List Called → List AnsweredCall → Type 0
-AreInTurn n calls told = All (λ t. IsInTurn n calls (timed_of t)) told
-
--- what one session more was told
-module _ {V E : Type 0} (items : V → List AnsweredCall) (n : ℕ) (calls : List Called) where
-  pub joined_turns : (all said both : Result V E) → IfOk both (λ v. MatchResult all (λ a. MatchResult said (λ b. items v ≡ items a ++ items b) (λ _. ⊥)) (λ _. ⊥))
-      → IfOk all (λ v. AreInTurn n calls (items v)) → IfOk said (λ v. AreInTurn n calls (items v)) → IfOk both (λ v. AreInTurn n calls (items v))
-  joined_turns all said (Err e) h old new = tt
-  joined_turns (Err e) said (Ok v) h old new = absurd h
-  joined_turns (Ok a) (Err e) (Ok v) h old new = absurd h
-  joined_turns (Ok a) (Ok b) (Ok v) h old new =
-      subst (AreInTurn n calls) (sym h) (All-append (λ t. IsInTurn n calls (timed_of t)) (items a) (items b) old new)

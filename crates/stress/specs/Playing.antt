@@ -16,8 +16,6 @@ use Rattle.stress.specs.declared.calls.LineCall.{LineCall}
 use Rattle.stress.specs.declared.calls.LineCall.TheVariants as lines
 use Rattle.stress.specs.declared.calls.ScriptCalls.{ScriptCalls}
 use Rattle.stress.specs.declared.calls.ScriptCalls.TheVariants as reads
-use Rattle.stress.specs.declared.players.Player.{Player}
-use Rattle.stress.specs.declared.players.Playground.{Playground}
 use Rattle.scripts.specs.Script.{line_meaning}
 use Rattle.stress.specs.Calls.{Called, asked_refusal, calls_said}
 use Rattle.stress.specs.Dealt.{dealt, dealt_to, share_of}
@@ -91,48 +89,13 @@ AreReady c (reads.Bad number) = Unit {0}
 abbrev pub AreIn : StoreView → ℕ → List SessionView → Type 0
 AreIn store n sessions = (length sessions ≡ n) × All (IsOf store) sessions
 
--- the player's session is one of the store
-abbrev pub IsPlaying : StoreView → Player → Type 0
-IsPlaying store p = IsOf store p.session
-
 -- each session has its index as its number
 abbrev pub AreNumbered : List SessionView → Type 0
 AreNumbered sessions = (k : ℕ) (d : SessionView) → k < length sessions → (slice_index_or sessions k d).session ≡ k
 
--- the calls that the session of this number makes, as they are to be told
-abbrev pub calls_for : {G C : Type 0} → Playground G C → ℕ → List (Option Called)
-calls_for shared number = dealt shared.sessions number (to_be_told shared.calls.now)
-
--- these players have the last of n sessions, the last one first
-abbrev pub AreLast : ℕ → List Player → Type 0
-AreLast n players = (k : ℕ) (d : Player) → k < length players → (slice_index_or players k d).session.session ≡ n - 1 - k
-
--- the players were told the calls that are dealt to n sessions, the last session's player the first
-abbrev pub TellTheirs : ℕ → List (Option Called) → List Player → Type 0
-TellTheirs n calls players =
-    (k : ℕ) (d : Player) → k < length players → TellsCalls (slice_index_or players k d).told (dealt n (n - 1 - k) calls)
-
--- what was told names the sessions that these calls went to, n of them in turn, unless memory ran out
-abbrev pub NamesTurns : {X E : Type 0} → ℕ → List Called → Result (Vec AnsweredCall X) E → Type 0
-NamesTurns n calls told = IfOk told (λ v. All (λ t. IsInTurn n calls (timed_of t)) v.items)
-
 -- of what n sessions were told of these calls, one behind the other, the answers of each of the first m have their lines in its order
 abbrev pub AreSteadyTo : ℕ → ℕ → List (Option Called) → List AnsweredCall → Type 0
 AreSteadyTo n m calls told = (k : ℕ) → k < m → AreSteady (map told_of (share_of n k calls told))
-
--- `AreSteadyTo`, unless memory ran out
-abbrev pub TellsSteady : {X E : Type 0} → ℕ → ℕ → List (Option Called) → Result (Vec AnsweredCall X) E → Type 0
-TellsSteady n m calls told = IfOk told (λ v. AreSteadyTo n m calls v.items)
-
--- where these players were told the calls that are dealt to their sessions, all of them are told, the first session's first
-abbrev pub TellsAll : {X E : Type 0} → List Player → Result (Vec AnsweredCall X) E → Type 0
-TellsAll players told =
-    (calls : List (Option Called)) → TellTheirs (length players) calls players → TellsCalls told (dealt_to (length players) calls)
-
--- and each session's answers have their lines in its order
-abbrev pub AllSteady : {X E : Type 0} → List Player → Result (Vec AnsweredCall X) E → Type 0
-AllSteady players told =
-    (calls : List (Option Called)) → TellTheirs (length players) calls players → TellsSteady (length players) (length players) calls told
 
 -- ---- what the sessions were told, in the history that they know
 
@@ -247,9 +210,3 @@ pub record IsLeft (config : Config) (c : CatalogueView) (timed : Bool) (calls : 
   pub steady : AreSteadyTo (session_count config) (session_count config) (to_be_told calls) told
   pub written : IsWritten c timed told left.written
   pub ends : EndsIn c config.limit left.state told
-
-abbrev pub IsNewPlayer : StoreView → Player → Type 0
-IsNewPlayer store p = IsNew store p.session
-
-abbrev pub IsToldPlayer : Player → Type 0
-IsToldPlayer p = IfOk p.told (λ v. IsTold p.session v.items)

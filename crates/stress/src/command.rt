@@ -50,6 +50,9 @@ pub struct Stress<'a, R, G, C, V> {
     pub rt: &'a R,
     /// The sizes of the store.
     pub config: Config,
+    /// How many sessions of a node share a thread, and make their updates by one list ([`store::Pipeline`]). If it does not divide the slots of a
+    /// node, each session has a thread of its own, as with 1.
+    pub together: u32,
     /// What each session passes before each of its calls.
     pub gate: &'a G,
     /// Whether a history is kept. All threads then raise one counter, just before and just behind each call: a barrier each.

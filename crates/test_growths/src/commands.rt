@@ -39,6 +39,7 @@ fn stressed<R: Threads + Wait + Sync>(
     let command = Stress {
         rt,
         config: ONE_SESSION,
+        together: 1,
         gate: &OpenGate,
         has_history: false,
         clock: None::<&NoClock>,

@@ -4,10 +4,9 @@ use crate::commands::options;
 use crate::keeping::destination_of;
 use crate::output::{Target, no_memory, put_after, put_state};
 use crate::progress::{Progress, Screen};
-use crate::tasks::{Call, Task, config_of};
+use crate::tasks::{Call, Stressing, Task, config_of};
 use clap::{ArgMatches, Command, arg};
 use engine::{Destination, Folder, Inputs, Performed, Status};
-use oplog::Config;
 use std::alloc::{AllocError, Global};
 use std::io::{Eprint, Read, Write};
 use std::rt::Files;
@@ -42,6 +41,10 @@ With `--history FILE` the times of the calls go to FILE, for `nrbpf replay --his
 ended before others began. All threads raise one counter before and after each call. Raising it is a memory barrier,
 which may hide what another run would show. So make a run without it too.
 
+With `--pipeline N` N sessions of a node, of neighbouring slots, share a thread. It makes their next calls round by
+round, one of each session. If a round has several calls, and all are updates, they go by one list: the sessions post
+all of them at once, and one of the sessions combines them. Otherwise they are made one after another.
+
 `--load` and `--dump` are those of `nrbpf run`. Give `nrbpf replay` the same `--load` and `--spare`. `--stats` says on
 standard error how many calls there were, how long they took, and how many requests a combiner claimed together.
 
@@ -67,6 +70,12 @@ pub fn arguments<'a>(alloc: Global) -> Result<Command<'a>, AllocError> {
         .arg(options::dump(alloc))?
         .arg(arg!(in alloc; times: --history <FILE>
             "The path of the file for the times of the calls"))?
+        .arg(options::number(
+            alloc,
+            "pipeline",
+            "1",
+            "Sessions of a node that share a thread; must divide --slots",
+        ))?
         .arg(arg!(in alloc; --stats
             "Says on standard error how many calls there were, how long they took, and how large the batches"))?
         .arg(options::manifest(alloc))?
@@ -75,7 +84,10 @@ pub fn arguments<'a>(alloc: Global) -> Result<Command<'a>, AllocError> {
 
 /// The task that the command's words ask for.
 pub fn task<'a>(matches: &ArgMatches<'a>) -> Option<Task<'a>> {
-    Some(Task::Stress(config_of(matches)?))
+    Some(Task::Stress(Stressing {
+        config: config_of(matches)?,
+        together: matches.get_one("pipeline")?,
+    }))
 }
 
 // Where the times of calls and the state that they leave go. A state for standard output is written behind a file of the times, so it goes elsewhere too.
@@ -128,7 +140,7 @@ pub fn perform<
     W: Write,
 >(
     rt: &R,
-    config: Config,
+    asked: Stressing,
     call: &Call<'_>,
     inputs: &mut Inputs<'_, F, I>,
     writer: &mut W,
@@ -136,7 +148,8 @@ pub fn perform<
     let loading = Progress::of_state(rt, call.state);
     let command = Stress {
         rt,
-        config,
+        config: asked.config,
+        together: asked.together,
         gate: &OpenGate,
         has_history: call.times.is_some(),
         clock: if call.has_stats { Some(rt) } else { None },

@@ -1,37 +1,28 @@
-use Rattle.std.proofs.Common.{◌≡◌, ◌∙◌, ◌++◌, take, drop, map, sym, ap, subst, All, length, rules}
-use Rattle.std.proofs.Math.Seq.{take-append_seam}
-use Rattle.std.specs.Prelude.{IfOk}
-use Rattle.stress.specs.Dealt.{dealt_to}
-use Rattle.stress.specs.Shown.{called, calls_told, to_be_told}
-use Rattle.stress.specs.Playing.{AreLast, IsPlaying, IsToldPlayer, NamesTurns, TellTheirs, TellsSteady}
+use Rattle.std.proofs.Common.{◌≡◌, ◌∙◌, ◌++◌, ◌*◌, take, drop, sym, ap, subst, length}
+use Rattle.ownlock.specs.Seats.{At}
+use Rattle.stress.specs.Teams.{AreVacant}
+use Rattle.stress.proofs.EachTeam.{all_seated}
+use Rattle.stress.proofs.Standing.{wrote_back}
 use Rattle.stress.proofs.sharing.play_all.Goals as goal
 
-pub play_together-requires-clause-playing : goal.play_together-requires-clause-playing
-play_together-requires-clause-playing g c κs within =
-    rw c.deref_mut.ensures.value (c.enter.ensures.playing c.args.ground.now.store.now c.requires.all.1)
+pub play_together-requires-clause-new : goal.play_together-requires-clause-new
+play_together-requires-clause-new g c κs within i t at =
+    let ground = c.args.ground.now in
+    let long = c.enter.auto.teams ∙ c.deref_mut.ensures.len in
+    let here = c.deref_mut-2.ensures.value ∙ wrote_back c.args.teams.len c.enter.new.teams c.args.teams.items long in
+    let all = ap (λ k. k * ground.together) (c.enter.auto.teams ∙ ap length c.deref_mut.ensures.value) ∙ c.requires.rooms.1 in
+    all_seated ground.store.now ground.sessions ground.together c.args.sessions.now.items c.enter.new.teams c.requires.all all c.enter.ensures.seated i t (subst (At i t) here at)
 
-pub play_together-requires-clause-numbers : goal.play_together-requires-clause-numbers
-play_together-requires-clause-numbers g c κs within =
-    rw c.deref_mut.ensures.value (subst (λ n. AreLast n c.enter.new.players.items) c.requires.all.0 (c.enter.ensures.numbers c.requires.all.2))
+pub leave-told-requires-clause-played : goal.leave-told-requires-clause-played
+leave-told-requires-clause-played g c i t at =
+    let seated = take c.args.teams.len (c.enter.new.teams ++ drop (length c.enter.new.teams) c.args.teams.items) in
+    let long = c.play_together.auto.teams ∙ c.deref_mut-2.ensures.len in
+    let here = c.deref_mut-3.ensures.value ∙ wrote_back c.args.teams.len c.play_together.new.teams seated long in
+    c.play_together.ensures i t (subst (At i t) here at)
 
-pub returns : goal.returns
-returns g c =
-    let long : length c.play_together.new.players ≡ c.enter.new.players.len = search rules in
-    let left = ap (λ n. take n (c.play_together.new.players ++ drop (length c.play_together.new.players) c.enter.new.players.items)) (sym long)
-    ∙ take-append_seam c.play_together.new.players (drop (length c.play_together.new.players) c.enter.new.players.items) in
-    let playing = subst (λ xs. All (IsPlaying c.args.ground.now.store.now) xs) (sym left) c.play_together.ensures.playing in
-    let n = c.args.ground.now.sessions in
-    let calls = to_be_told c.args.ground.now.calls.now in
-    let theirs = subst (λ xs. TellTheirs n calls xs) (sym left) c.play_together.ensures.told in
-    let seen = take c.enter.new.players.len (c.play_together.new.players ++ drop (length c.play_together.new.players) c.enter.new.players.items) in
-    let count : length seen ≡ n = ap length left ∙ search rules in
-    record {
-      back = (c.leave-told.ensures.count ∙ ap length left ∙ search rules, c.leave-told.ensures.own c.args.ground.now.store.now playing);
-      told = subst (λ k. IfOk c.leave-told.result (λ v. calls_told v.items ≡ dealt_to k calls)) count (c.leave-told.ensures.told calls (subst (λ k. TellTheirs k calls seen) (sym count) theirs));
-      known = c.leave-told.ensures.known (subst (λ xs. All IsToldPlayer xs) (sym left) c.play_together.ensures.known);
-      numbers = c.leave-told.ensures.numbers (subst (λ k. AreLast k seen) (sym count) (subst (λ xs. AreLast n xs) (sym left) c.play_together.ensures.numbers));
-      steady = subst (λ k. TellsSteady k k calls c.leave-told.result) count
-          (c.leave-told.ensures.steady (subst (λ xs. All IsToldPlayer xs) (sym left) c.play_together.ensures.known) calls (subst (λ k. TellTheirs k calls seen) (sym count) theirs));
-      turns = let all = map called c.args.ground.now.calls.now in
-          c.leave-told.ensures.turns n all (subst (λ xs. All (λ p. NamesTurns n all p.told) xs) (sym left) c.play_together.ensures.turns);
-    }
+pub dissolve-requires : goal.dissolve-requires
+dissolve-requires g c =
+    let seated = take c.args.teams.len (c.enter.new.teams ++ drop (length c.enter.new.teams) c.args.teams.items) in
+    let played = take c.args.teams.len (c.play_together.new.teams ++ drop (length c.play_together.new.teams) seated) in
+    let long = c.leave-told.auto.teams ∙ c.deref_mut-3.ensures.len in
+    record { vacant = subst AreVacant (sym (wrote_back c.args.teams.len c.leave-told.new.teams played long)) c.leave-told.ensures.vacant }

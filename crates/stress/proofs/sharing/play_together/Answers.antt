@@ -1,34 +1,24 @@
-use Rattle.std.proofs.Common.{◌≡◌, ◌<◌, ◌-◌, sym, subst}
-use Rattle.store.specs.Sessions.{IsOf}
-use Rattle.std.specs.Prelude.{map}
-use Rattle.stress.specs.Shown.{TellsCalls, called}
-use Rattle.stress.specs.Playing.{IsNew, IsToldPlayer, NamesTurns, calls_for}
+use Rattle.std.proofs.Common.{◌≡◌, ◌∙◌, ◌+◌, ◌*◌, ◌<◌, ◌≤◌, suc, length, sym, subst, arith, rules, mul-le-mul_right, suc-mul}
+use Rattle.accounts.proofs.Export.{at_below}
+use Rattle.stress.specs.Teams.{HasPlayed, IsNewTeam}
+use Rattle.stress.proofs.Standing.{read, stands}
 use Rattle.stress.proofs.sharing.play_together.Goals as goal
 
 pub for_each_mut-requires-clause-accepts : goal.for_each_mut-requires-clause-accepts
-for_each_mut-requires-clause-accepts g c κs within i p below same = (
-  subst (λ q. IsNew c.args.ground.now.store.now q.session) (sym same) (c.requires.playing i p.now below),
-  (
-    c.requires.ready,
-    (subst (λ n. i < n) c.requires.all below, subst (λ q. q.session.session ≡ c.args.ground.now.sessions - 1 - i) (sym same) (c.requires.numbers i p.now below)),
-  ),
-)
+for_each_mut-requires-clause-accepts g c κs within i p below same =
+    let k = c.args.ground.now.together in
+    let le : suc i * k ≤ length c.args.teams.now * k = mul-le-mul_right k below in
+    let all = c.requires.all in
+    let next = suc-mul i k in (
+      c.requires.whole,
+      (
+        omega (arith, le, next, all),
+        (c.requires.ready, subst (IsNewTeam c.args.ground.now i) (sym same) (c.requires.new i _ (stands c.args.teams.now i p.now below))),
+      ),
+    )
 
 pub returns : goal.returns
-returns g c = record {
-  playing = λ k d below.
-      let did = (c.for_each_mut.ensures k d (subst (λ n. k < n) c.for_each_mut.auto.s below)).1 in
-      subst (λ q. IsOf c.args.ground.now.store.now q.session) did.left did.call.0;
-  told = λ k d below.
-      let did = (c.for_each_mut.ensures k d (subst (λ n. k < n) c.for_each_mut.auto.s below)).1 in
-      subst (λ q. TellsCalls q.told (calls_for c.args.ground.now (c.args.ground.now.sessions - 1 - k))) did.left did.call.1.0;
-  known = λ k d below.
-      let did = (c.for_each_mut.ensures k d (subst (λ n. k < n) c.for_each_mut.auto.s below)).1 in
-      subst IsToldPlayer did.left did.call.1.1.0;
-  numbers = λ k d below.
-      let did = (c.for_each_mut.ensures k d (subst (λ n. k < n) c.for_each_mut.auto.s below)).1 in
-      subst (λ q. q.session.session ≡ c.args.ground.now.sessions - 1 - k) did.left did.call.1.1.1.0;
-  turns = λ k d below.
-      let did = (c.for_each_mut.ensures k d (subst (λ n. k < n) c.for_each_mut.auto.s below)).1 in
-      subst (λ q. NamesTurns c.args.ground.now.sessions (map called c.args.ground.now.calls.now) q.told) did.left did.call.1.1.1.1;
-}
+returns g c = λ i t at.
+    let below = at_below c.for_each_mut.new.s i t at in
+    let did = (c.for_each_mut.ensures i t (subst (λ n. i < n) c.for_each_mut.auto.s below)).1 in
+    subst (HasPlayed c.args.ground.now i) (did.left ∙ read c.for_each_mut.new.s i t at) did.call
