@@ -1,25 +1,21 @@
 -- The calls of a round, one after another and by one list.
-use Rattle.std.proofs.Common.{◌≡◌, ◌∙◌, ⊎_elim, ℕ, zero, suc, ◌+◌, ◌*◌, ◌<◌, ◌≤◌, ◌++◌, List, [], ◌∷◌, map, length, set, Some, None, true, refl, sym, ap, subst, arith}
-use mathlib.Core.Option.{some-injective}
+use Rattle.std.proofs.Common.{◌≡◌, ◌∙◌, ⊎_elim, ℕ, suc, ◌+◌, ◌*◌, ◌<◌, ◌≤◌, ◌++◌, List, [], ◌∷◌, map, length, set, Some, None, true, refl, sym, ap, subst, arith}
 use Rattle.std.specs.Prelude.{Result, Ok, Err, Bool, if◌then◌else◌}
-use Rattle.std.proofs.lemmas.List.{length-map, length_push}
+use Rattle.std.proofs.lemmas.List.{length_push}
 use Rattle.ownlock.specs.Seats.{At}
 use Rattle.text.specs.Digits.{field_bytes}
 use Rattle.verifier.specs.declared.refusal.Mode.TheVariants.{Update}
 use Rattle.loader.specs.CatalogueView.{CatalogueView}
 use Rattle.oplog.specs.declared.configuration.Sizes.{Sizes}
-use Rattle.oplog.specs.Operations.{Operation}
-use Rattle.oplog.specs.Sessions.{session}
-use Rattle.accounts.proofs.Export.{at_below, at_map, at_mapped, at_one, at_there}
+use Rattle.accounts.proofs.Export.{at_below, at_map, at_one, at_there}
 use Rattle.replica.specs.declared.refusals.StoreRefused.{StoreRefused}
 use Rattle.store_steps.specs.Views.{SessionView}
 use Rattle.store_steps.specs.Asking.{asked_op}
 use Rattle.store_steps.specs.Questions.{first_refused_in, refusal_in, refused_or}
 use Rattle.store_steps.specs.declared.steps.Question.{Question}
 use Rattle.store.specs.declared.answers.Answer.{Answer}
-use Rattle.store.specs.Opening.{AreOf}
 use Rattle.store.specs.Pipelines.{AreAscending, EachGoesOn, MayUpdateEach, OthersStay, TellsEach}
-use Rattle.store.specs.Sessions.{IsOf, StoreView, TellsUpdate}
+use Rattle.store.specs.Sessions.{IsOf, StoreView}
 use Rattle.stress.specs.declared.calls.Asked.{Asked}
 use Rattle.stress.specs.declared.calls.Asked.TheVariants as asks
 use Rattle.stress.specs.declared.calls.ScriptCall.{ScriptCall}

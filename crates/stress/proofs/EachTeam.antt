@@ -1,25 +1,24 @@
 -- The sessions of a team at work, and all teams together.
-use Rattle.std.proofs.Common.{◌≡◌, ◌∙◌, ⊎_elim, ℕ, zero, suc, ◌+◌, ◌-◌, ◌*◌, ◌/◌, ◌%◌, ◌<◌, ◌≤◌, ◌++◌, List, [], ◌∷◌, map, length, set, take, drop, get_or, All, Option, Some, refl, sym, ap, subst, arith, append-nil, append_assoc, add-mul, div-add-mod', mul_assoc, mul-le-mul_right, suc-mul}
-use Rattle.std.specs.Prelude.{Vec, slice_index_or, Result, Ok, Err, IfOk, MatchResult}
+use Rattle.std.proofs.Common.{◌≡◌, ◌∙◌, ⊎_elim, ℕ, zero, suc, ◌+◌, ◌-◌, ◌*◌, ◌/◌, ◌%◌, ◌<◌, ◌≤◌, ◌++◌, List, [], ◌∷◌, map, length, set, take, drop, All, Option, refl, sym, ap, subst, arith, append-nil, append_assoc, add-mul, div-add-mod', mul_assoc, mul-le-mul_right, suc-mul}
+use Rattle.std.specs.Prelude.{Vec, Result, Ok, Err, IfOk, MatchResult}
 use Rattle.std.specs.List.{flat_map}
 use Rattle.std.proofs.lemmas.Bool.{cases_lt}
-use Rattle.std.proofs.lemmas.List.{length-map, length-append, length_push, length-drop, length-take}
+use Rattle.std.proofs.lemmas.List.{length_push, length-drop, length-take}
 use Rattle.std.proofs.lemmas.Nat.{mod_below, mod-mul-add}
 use Rattle.std.proofs.lemmas.List.Elements.{All-nil, All-append, All-push}
 use Rattle.ownlock.specs.Seats.{At}
 use Rattle.oplog.specs.declared.configuration.Sizes.{Sizes}
-use Rattle.accounts.proofs.Export.{at_behind, at_below, at_front, at_joined, at_none, at_one, at_there}
+use Rattle.accounts.proofs.Export.{at_below, at_joined, at_none, at_one, at_there}
 use Rattle.store_steps.specs.Views.{SessionView}
-use Rattle.store.specs.Sessions.{IsOf, StoreView}
+use Rattle.store.specs.Sessions.{StoreView}
 use Rattle.store.proofs.Export.{at_of_all}
 use Rattle.store_steps.proofs.Export.{at_drop}
-use Rattle.store.specs.Opening.{AreOf}
 use Rattle.stress.specs.declared.calls.ScriptCall.{ScriptCall}
 use Rattle.stress.specs.declared.lines.AnsweredCall.{AnsweredCall}
 use Rattle.stress.specs.declared.teams.Team.{Team}
 use Rattle.stress.specs.Calls.{Called}
 use Rattle.stress.specs.Dealt.{dealt, dealt_from}
-use Rattle.stress.specs.Playing.{AreSteadyTo, AreTold, IsNew, AreNew, AreNumbered, IsTold}
+use Rattle.stress.specs.Playing.{AreSteadyTo, IsNew, AreNew, AreNumbered, IsTold}
 use Rattle.stress.specs.Shown.{called, calls_told, timed_of, to_be_told, told_call}
 use Rattle.stress.specs.Timed.{IsInTurn}
 use Rattle.stress.specs.Teams.{AreAtWork, AreEmpty, AreOnOneNode, AreSeated, AreTeam, AreUntold, AreWhole, Grow, HasMade, HaveMade, IsAnswered, IsAtWork, MakeEach, WereTold}

@@ -1,10 +1,10 @@
 -- Lists by where their elements stand.
-use Rattle.std.proofs.Common.{◌≡◌, ℕ, zero, suc, ◌+◌, ◌<◌, ◌≤◌, ◌⊎◌, inl, inr, ⊎_elim, List, [], ◌∷◌, ◌++◌, length, take, drop, set, sym, refl, ap, ◌∙◌, subst, arith}
+use Rattle.std.proofs.Common.{◌≡◌, ℕ, zero, suc, ◌+◌, ◌<◌, ◌⊎◌, inl, inr, ⊎_elim, List, [], ◌∷◌, ◌++◌, length, take, drop, set, sym, refl, ap, ◌∙◌, subst, arith}
 use mathlib.Core.Option as kernel
 use Rattle.std.proofs.Math.Seq.{take-append_seam}
 use Rattle.std.specs.Prelude.{slice_index_or}
 use Rattle.ownlock.specs.Seats.{At}
-use Rattle.accounts.proofs.Export.{at_below, at_joined, at_none, at_one, at_front, at_behind}
+use Rattle.accounts.proofs.Export.{at_joined, at_none, at_one}
 
 zero_plus : (j : ℕ) → j ≡ 0 + j
 zero_plus j = omega arith

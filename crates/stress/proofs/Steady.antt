@@ -1,6 +1,6 @@
 -- The answers of a session have their lines in the order of its calls.
 use Rattle.std.proofs.Common.{◌≡◌, ◌∙◌, ⊎_elim, ℕ, zero, suc, ◌+◌, ◌-◌, ◌*◌, ◌<◌, ◌≤◌, List, [], ◌∷◌, ◌++◌, All, Option, map, length, take, drop, refl, sym, ap, subst, arith, append-nil, not-suc-le-zero}
-use Rattle.std.specs.Prelude.{filter, not, Result, Ok, Err, IfOk, MatchResult}
+use Rattle.std.specs.Prelude.{filter, not}
 use Rattle.std.proofs.lemmas.Bool.{cases_lt}
 use Rattle.std.proofs.lemmas.List.{length-append, length-drop, length-map, take-append-le, drop-append-le, take_all}
 use lib.Seq.{drop-length}

@@ -1,11 +1,9 @@
 -- The sessions that a history names.
-use Rattle.std.proofs.Common.{◌≡◌, ◌∙◌, ◌<◌, ℕ, All, Contains, List, ◌++◌, Some, map, length, get_or, sym, ap, subst}
-use Rattle.std.specs.Prelude.{Result, Ok, Err, IfOk, MatchResult}
+use Rattle.std.proofs.Common.{◌≡◌, ◌∙◌, ◌<◌, ℕ, All, Contains, List, Some, map, length, get_or, sym, ap, subst}
 use Rattle.std.proofs.Math.ListN.{length-map}
-use Rattle.std.proofs.lemmas.List.Elements.{All-append, Contains-get_or}
+use Rattle.std.proofs.lemmas.List.Elements.{Contains-get_or}
 use Rattle.stress.specs.declared.calls.ScriptCall.{ScriptCall}
 use Rattle.stress.specs.declared.lines.AnsweredCall.{AnsweredCall}
-use Rattle.stress.specs.Calls.{Called}
 use Rattle.stress.specs.Dealt.{dealt}
 use Rattle.stress.specs.Lines.{ToldCall}
 use Rattle.stress.specs.Shown.{called, calls_told, to_be_told, told_of, timed_of}

@@ -1,5 +1,5 @@
 -- What is kept while sessions make their calls. Clauses of private functions alone cite this.
-use Rattle.std.specs.Prelude.{◌≡◌, ◌⊎◌, ℕ, Bool, true, false, ◌-◌, ◌<◌, ◌≤◌, List, [], ◌∷◌, ◌++◌, map, length, slice_index_or, Option, Some, None, Result, Ok, Err, IfOk, IfSome, MatchResult, Vec, count_by}
+use Rattle.std.specs.Prelude.{◌≡◌, ◌⊎◌, ℕ, Bool, true, false, ◌<◌, ◌≤◌, List, [], ◌∷◌, ◌++◌, map, length, slice_index_or, Option, Some, None, Result, Ok, Err, IfSome, MatchResult, count_by}
 use Rattle.std.specs.Borrow.{Bor}
 use Rattle.std.specs.List.{All, flat_map}
 use Rattle.std.specs.List.Sorted.{IsPermutation}
@@ -18,7 +18,7 @@ use Rattle.stress.specs.declared.calls.ScriptCalls.{ScriptCalls}
 use Rattle.stress.specs.declared.calls.ScriptCalls.TheVariants as reads
 use Rattle.scripts.specs.Script.{line_meaning}
 use Rattle.stress.specs.Calls.{Called, asked_refusal, calls_said}
-use Rattle.stress.specs.Dealt.{dealt, dealt_to, share_of}
+use Rattle.stress.specs.Dealt.{dealt_to, share_of}
 use Rattle.accounts.specs.declared.sessions.Progress.{Progress}
 use Rattle.accounts.specs.declared.sessions.AnsweredUpdate.{AnsweredUpdate}
 use Rattle.accounts.specs.Accounts.{Extends}
@@ -35,7 +35,7 @@ use Rattle.stress.specs.Lines as said
 use Rattle.stress.specs.Lines.{ToldCall, AreOrdered, AreSteady, at_rank, transcript_text}
 use Rattle.stress.specs.Timed.{Timed, IsInTurn, AreCounted, timed_text}
 use Rattle.stress.specs.OneHistory.{Asks, Holds, IsOfOneHistory, is_at}
-use Rattle.stress.specs.Shown.{TellsCalls, called, calls_told, said_of, to_be_told, told_of, timed_of}
+use Rattle.stress.specs.Shown.{called, calls_told, said_of, to_be_told, told_of, timed_of}
 use Rattle.stress.specs.Transcripts.{session_count}
 use Rattle.running.specs.RunAnswer.{bad_line, state_of}
 use Rattle.oplog.specs.History.{History}

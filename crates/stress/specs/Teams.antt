@@ -5,7 +5,6 @@ use Rattle.ownlock.specs.Seats.{At}
 use Rattle.arrayvec.specs.ArrayVec.{ArrayVec}
 use Rattle.text.specs.Digits.{field_bytes}
 use Rattle.verifier.specs.declared.refusal.Mode.TheVariants.{Update}
-use Rattle.loader.specs.CatalogueView.{CatalogueView}
 use Rattle.oplog.specs.declared.configuration.Sizes.{Sizes}
 use Rattle.oplog.specs.Sessions.{session}
 use Rattle.replica.specs.declared.refusals.StoreRefused.{StoreRefused}
@@ -15,7 +14,6 @@ use Rattle.store.specs.declared.answers.Answer.{Answer}
 use Rattle.store.specs.Opening.{AreOf}
 use Rattle.store.specs.Pipelines.{HeldTwice}
 use Rattle.store.specs.Sessions.{StoreView}
-use Rattle.stress.specs.declared.calls.Asked.{Asked}
 use Rattle.stress.specs.declared.calls.Asked.TheVariants as asks
 use Rattle.stress.specs.declared.calls.ScriptCall.{ScriptCall}
 use Rattle.stress.specs.declared.lines.AnsweredCall.{AnsweredCall}
@@ -23,7 +21,6 @@ use Rattle.stress.specs.declared.players.Playground.{Playground}
 use Rattle.stress.specs.declared.rounds.Held.{Held}
 use Rattle.stress.specs.declared.rounds.Held.TheVariants as hands
 use Rattle.stress.specs.declared.teams.Team.{Team}
-use Rattle.stress.specs.Calls.{Called}
 use Rattle.stress.specs.Dealt.{dealt, dealt_from}
 use Rattle.stress.specs.Playing.{AreSteadyTo, AreTold, IsAsked, IsTold, update_said}
 use Rattle.stress.specs.Shown.{called, calls_told, timed_of, to_be_told, told_call}

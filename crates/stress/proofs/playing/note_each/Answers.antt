@@ -1,4 +1,4 @@
-use Rattle.std.proofs.Common.{◌≡◌, ◌∙◌, ◌≤◌, ◌<◌, length, sym, subst, arith, rules}
+use Rattle.std.proofs.Common.{◌≤◌, ◌<◌, length, sym, subst, rules}
 use Rattle.std.specs.Prelude.{MatchResult}
 use Rattle.stress.specs.Teams.{Grow}
 use Rattle.stress.proofs.EachTeam.{all_grown, one_grown}

@@ -1,5 +1,5 @@
-use Rattle.std.proofs.Common.{◌≡◌, ◌∙◌, ◌<◌, ◌≤◌, Some, ap, sym, subst, refl, arith}
-use Rattle.std.specs.Prelude.{length, vec_capacity}
+use Rattle.std.proofs.Common.{◌∙◌, ◌<◌, Some, ap, sym, arith}
+use Rattle.std.specs.Prelude.{length}
 use Rattle.stress.proofs.EachCall.{one_belongs}
 use Rattle.stress.proofs.Standing.{at_read, stands}
 use Rattle.stress.proofs.rounds.questions.Goals as goal

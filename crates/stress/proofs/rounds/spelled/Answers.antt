@@ -1,5 +1,4 @@
-use Rattle.std.proofs.Common.{◌≡◌, ◌∙◌, ◌≤◌, Some, ap, sym, subst, refl, arith}
-use Rattle.std.specs.Prelude.{length, vec_capacity, option_map}
+use Rattle.std.proofs.Common.{sym, arith}
 use Rattle.stress.proofs.EachCall.{one_belongs}
 use Rattle.stress.proofs.Standing.{stands}
 use Rattle.stress.proofs.rounds.spelled.Goals as goal

@@ -1,5 +1,5 @@
-use Rattle.std.proofs.Common.{◌≡◌, ◌∙◌, ◌<◌, ◌≤◌, ap, sym, subst, refl, arith}
-use Rattle.std.specs.Prelude.{length, vec_capacity}
+use Rattle.std.proofs.Common.{◌<◌, refl, arith}
+use Rattle.std.specs.Prelude.{length}
 use Rattle.stress.proofs.EachCall.{are_told, one_belongs}
 use Rattle.stress.proofs.Standing.{stands}
 use Rattle.stress.proofs.rounds.told_of_list.Goals as goal

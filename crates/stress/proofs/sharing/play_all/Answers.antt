@@ -1,4 +1,4 @@
-use Rattle.std.proofs.Common.{◌≡◌, ◌∙◌, ◌++◌, ◌*◌, take, drop, sym, ap, subst, length}
+use Rattle.std.proofs.Common.{◌∙◌, ◌++◌, ◌*◌, take, drop, sym, ap, subst, length}
 use Rattle.ownlock.specs.Seats.{At}
 use Rattle.stress.specs.Teams.{AreVacant}
 use Rattle.stress.proofs.EachTeam.{all_seated}

@@ -1,4 +1,4 @@
-use Rattle.std.proofs.Common.{◌≡◌, ◌∙◌, ◌+◌, ◌*◌, ◌<◌, ◌≤◌, suc, length, sym, subst, arith, rules, mul-le-mul_right, suc-mul}
+use Rattle.std.proofs.Common.{◌∙◌, ◌*◌, ◌<◌, ◌≤◌, suc, length, sym, subst, arith, mul-le-mul_right, suc-mul}
 use Rattle.accounts.proofs.Export.{at_below}
 use Rattle.stress.specs.Teams.{HasPlayed, IsNewTeam}
 use Rattle.stress.proofs.Standing.{read, stands}

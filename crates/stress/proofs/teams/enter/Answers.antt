@@ -1,6 +1,5 @@
-use Rattle.std.proofs.Common.{◌≡◌, ◌∙◌, ⊎_elim, ◌+◌, ◌*◌, ◌<◌, ◌≤◌, [], length, take, drop, refl, sym, ap, subst, arith, rules, mul-le-mul_right, suc-mul, suc}
+use Rattle.std.proofs.Common.{◌≡◌, ◌∙◌, ⊎_elim, ◌+◌, ◌*◌, ◌<◌, ◌≤◌, [], length, take, drop, refl, sym, ap, subst, arith, rules, suc-mul}
 use Rattle.std.proofs.lemmas.Bool.{cases_lt}
-use Rattle.std.proofs.lemmas.List.{length-drop}
 use Rattle.store.proofs.Export.{at_of_all}
 use Rattle.stress.specs.declared.teams.Team.{Team}
 use Rattle.std.specs.Prelude.{vec_capacity}

@@ -1,4 +1,4 @@
-use Rattle.std.proofs.Common.{◌≡◌, ◌≤◌, drop, length, take}
+use Rattle.std.proofs.Common.{◌≡◌, drop, take}
 use Rattle.std.specs.Prelude.{vec_capacity}
 use Rattle.stress.proofs.teams.fill.Given as goal
 

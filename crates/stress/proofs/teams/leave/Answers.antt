@@ -1,8 +1,7 @@
-use Rattle.std.proofs.Common.{◌≡◌, ◌∙◌, ⊎_elim, ◌+◌, ◌*◌, ◌<◌, ◌≤◌, ◌++◌, [], length, refl, sym, ap, subst, arith, rules, mul-le-mul_right, suc-mul, suc}
+use Rattle.std.proofs.Common.{◌≡◌, ◌∙◌, ⊎_elim, ◌*◌, ◌<◌, ◌≤◌, length, refl, sym, ap, subst, arith, rules, mul-le-mul_right, suc-mul, suc}
 use Rattle.std.proofs.lemmas.Bool.{cases_lt}
 use Rattle.std.proofs.lemmas.List.{length-append}
 use Rattle.std.specs.Prelude.{IfOk, slice_index_or, slice_set}
-use Rattle.store.proofs.Export.{all_of_at}
 use Rattle.stress.specs.declared.teams.Team.{Team}
 use Rattle.stress.specs.Teams.{AreTeam, HasPlayed, HaveMade, WereTold}
 use Rattle.stress.proofs.EachTeam.{joined_back, none_back, no_team, team_behind}

@@ -1,4 +1,4 @@
-use Rattle.std.proofs.Common.{rules, ◌≡◌, ◌%◌, ◌<◌, eq-eqb, arith}
+use Rattle.std.proofs.Common.{rules, ◌≡◌, ◌%◌, ◌<◌, eq-eqb}
 use Rattle.stress.proofs.EachTeam.{none_over, parts_of}
 use Rattle.stress.proofs.teams.makes_teams.Goals as goal
 

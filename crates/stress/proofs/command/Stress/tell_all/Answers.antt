@@ -1,4 +1,4 @@
-use Rattle.std.proofs.Common.{◌≡◌, ◌∙◌, ◌*◌, ap, length, subst, sym}
+use Rattle.std.proofs.Common.{◌∙◌, ◌*◌, ap, subst, sym}
 use Rattle.std.specs.Prelude.{MatchResult}
 use Rattle.std.proofs.lemmas.Result.{IfOk-weaker}
 use Rattle.oplog.specs.declared.configuration.Sizes.{Sizes}
