@@ -47,6 +47,7 @@ fn left_by<R: Threads + Wait + Sync>(
             limit: 3,
             spare: 0,
         },
+        together: 1,
         gate: &OpenGate,
         has_history: true,
         clock: Some(&clock),

@@ -101,6 +101,7 @@ fn two_sessions_wait_for_each_other(rt: HostRuntime) {
             limit: 1000,
             spare: 0,
         },
+        together: 1,
         gate: &meeting,
         has_history: false,
         clock: None::<&NoClock>,
