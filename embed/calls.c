@@ -35,10 +35,11 @@ static nrbpf_status told(const struct nrbpf_raw_session *raw, nrbpf_error *why) 
 
 // ---- Updates, reads and installs
 
-// Makes the call that the session's words ask for, or goes on with what is posted.
-static nrbpf_status go_on(struct place *place, nrbpf_answer *out, nrbpf_error *why) {
+// Makes the call that the session's words ask for, or goes on with what is posted: the bytes are not read then. The answer is written last, and may be where
+// they are.
+static nrbpf_status go_on(struct place *place, struct nrbpf_raw_bytes bytes, nrbpf_answer *out, nrbpf_error *why) {
     struct nrbpf_raw_session *const raw = place->raw;
-    nrbpf_raw_call(raw);
+    nrbpf_raw_call(raw, bytes.at, bytes.length);
     if (raw->status == NRBPF_OK) {
         place->is_posted = 0;
         out->point = raw->point;
@@ -49,14 +50,14 @@ static nrbpf_status go_on(struct place *place, nrbpf_answer *out, nrbpf_error *w
     return told(raw, why);
 }
 
-// Goes on until a call that was tried is answered.
-static nrbpf_status wait_for(struct place *place, nrbpf_answer *out, nrbpf_error *why) {
+// Goes on until a call that was tried with these bytes is answered.
+static nrbpf_status wait_for(struct place *place, struct nrbpf_raw_bytes bytes, nrbpf_answer *out, nrbpf_error *why) {
     nrbpf_status status;
     unsigned tries = 0;
     do {
         wait_behind(place, tries);
         tries = one_more(tries);
-        status = go_on(place, out, why);
+        status = go_on(place, bytes, out, why);
     } while (status == NRBPF_BUSY || status == NRBPF_POSTED);
     return status;
 }
@@ -76,8 +77,7 @@ static inline nrbpf_status run(nrbpf_session *session, uint64_t call, uint16_t p
     }
     place->raw->call = call;
     place->raw->program = program;
-    put_bytes(place->raw, argument, len);
-    return go_on(place, out, NULL);
+    return go_on(place, lent(argument, len), out, NULL);
 }
 
 nrbpf_status nrbpf_try_update(nrbpf_session *session, uint16_t program, const void *argument, size_t len, nrbpf_answer *out) {
@@ -91,7 +91,7 @@ nrbpf_status nrbpf_try_read(nrbpf_session *session, uint16_t program, const void
 nrbpf_status nrbpf_update(nrbpf_session *session, uint16_t program, const void *argument, size_t len, nrbpf_answer *out) {
     const nrbpf_status status = run(session, NRBPF_RAW_UPDATE, program, argument, len, out);
     if (status == NRBPF_BUSY || status == NRBPF_POSTED) {
-        return wait_for(place_of(session), out, NULL);
+        return wait_for(place_of(session), lent(argument, len), out, NULL);
     }
     return status;
 }
@@ -99,7 +99,7 @@ nrbpf_status nrbpf_update(nrbpf_session *session, uint16_t program, const void *
 nrbpf_status nrbpf_read(nrbpf_session *session, uint16_t program, const void *argument, size_t len, nrbpf_answer *out) {
     const nrbpf_status status = run(session, NRBPF_RAW_READ, program, argument, len, out);
     if (status == NRBPF_BUSY) {
-        return wait_for(place_of(session), out, NULL);
+        return wait_for(place_of(session), lent(argument, len), out, NULL);
     }
     return status;
 }
@@ -114,16 +114,12 @@ static nrbpf_status install(nrbpf_session *session, uint64_t call, const nrbpf_c
     if (status != NRBPF_OK) {
         return refused(why, status);
     }
-    if (program->len > sizeof place->raw->bytes) {
-        return refused(why, program->mode > NRBPF_MODE_READ ? NRBPF_H5 : NRBPF_S6);
-    }
     place->updates = place->updates + 1;
     place->raw->call = call;
     place->raw->program = program->maps;
     place->raw->mode = program->mode;
     place->raw->argument = program->argument_len;
-    put_bytes(place->raw, program->bytes, program->len);
-    return go_on(place, out, why);
+    return go_on(place, lent(program->bytes, program->len), out, why);
 }
 
 nrbpf_status nrbpf_try_install(nrbpf_session *session, uint32_t mode, uint32_t argument_len, const void *bytes, size_t len, nrbpf_answer *out,
@@ -136,7 +132,7 @@ nrbpf_status nrbpf_install(nrbpf_session *session, uint32_t mode, uint32_t argum
                            nrbpf_error *why) {
     const nrbpf_status status = nrbpf_try_install(session, mode, argument_len, bytes, len, out, why);
     if (status == NRBPF_BUSY || status == NRBPF_POSTED) {
-        return wait_for(place_of(session), out, why);
+        return wait_for(place_of(session), lent(bytes, len), out, why);
     }
     return status;
 }
@@ -148,7 +144,7 @@ nrbpf_status nrbpf_try_install_within(nrbpf_session *session, const nrbpf_confin
 nrbpf_status nrbpf_install_within(nrbpf_session *session, const nrbpf_confined *program, nrbpf_answer *out, nrbpf_error *why) {
     const nrbpf_status status = nrbpf_try_install_within(session, program, out, why);
     if (status == NRBPF_BUSY || status == NRBPF_POSTED) {
-        return wait_for(place_of(session), out, why);
+        return wait_for(place_of(session), lent(program->bytes, program->len), out, why);
     }
     return status;
 }
@@ -164,7 +160,7 @@ nrbpf_status nrbpf_poll(nrbpf_session *session, nrbpf_answer *out) {
     if (!place->is_posted) {
         return NRBPF_H11;
     }
-    return go_on(place, out, NULL);
+    return go_on(place, lent(NULL, 0), out, NULL);
 }
 
 // ---- More reads
@@ -243,13 +239,12 @@ nrbpf_status nrbpf_scan(nrbpf_session *session, uint32_t map, uint32_t from, voi
 }
 
 // The questions, which are at most 16, as the proved library takes them: H7.
-static nrbpf_status questions_of(const nrbpf_question *questions, size_t count, struct nrbpf_raw_question *asked, const uint8_t *none) {
+static nrbpf_status questions_of(const nrbpf_question *questions, size_t count, struct nrbpf_raw_question *asked) {
     for (size_t i = 0; i < count; i++) {
         if (!questions[i].argument && questions[i].len > 0) {
             return NRBPF_H7;
         }
-        asked[i].argument.at = questions[i].argument ? (const uint8_t *)questions[i].argument : none;
-        asked[i].argument.length = questions[i].len;
+        asked[i].argument = lent(questions[i].argument, questions[i].len);
         asked[i].program = questions[i].program;
     }
     return NRBPF_OK;
@@ -259,7 +254,6 @@ nrbpf_status nrbpf_try_read_each(nrbpf_session *session, const nrbpf_question *q
                                  nrbpf_error *why) {
     struct nrbpf_raw_question asked[NRBPF_MOST_QUESTIONS];
     uint64_t own_replies[NRBPF_MOST_QUESTIONS]; // copied at the end: arguments may be where the replies are written
-    const uint8_t none = 0;
     if (!session || (!questions && count > 0) || (!replies && count > 0) || !point) {
         return refused(why, NRBPF_H7);
     }
@@ -271,7 +265,7 @@ nrbpf_status nrbpf_try_read_each(nrbpf_session *session, const nrbpf_question *q
     if (count > NRBPF_MOST_QUESTIONS) {
         return refused(why, NRBPF_H5);
     }
-    status = questions_of(questions, count, asked, &none);
+    status = questions_of(questions, count, asked);
     if (status != NRBPF_OK) {
         return refused(why, status);
     }

@@ -63,16 +63,12 @@ static inline void end_session(struct place *place) {
     place->turn = (place->turn + 1) % TURNS;
 }
 
-// Writes the bytes of a call into the session's words.
-static inline void put_bytes(struct nrbpf_raw_session *raw, const void *bytes, size_t len) {
-    if (len > sizeof raw->bytes) {
-        raw->length = sizeof raw->bytes;        // no argument of a program has as many: S2
-        return;
-    }
-    raw->length = len;
-    if (len > 0) {
-        memcpy(raw->bytes, bytes, len);
-    }
+// The host's bytes, which a call is lent until it returns. No pointer that crosses is null, also if its length is 0.
+static inline struct nrbpf_raw_bytes lent(const void *at, size_t len) {
+    struct nrbpf_raw_bytes bytes;
+    bytes.at = (const uint8_t *)(len > 0 ? at : "");
+    bytes.length = len;
+    return bytes;
 }
 
 // Lets another session go on, behind so many tries: spins for longer from try to try, 16 us or so in all, and then lets another thread run.

@@ -132,8 +132,7 @@ static nrbpf_status go_on(struct place *place, const struct nrbpf_raw_question *
 // The updates of a list, as the library reads them.
 static void write_questions(struct nrbpf_raw_question *asked, const nrbpf_question *calls, size_t count) {
     for (size_t i = 0; i < count; i++) {
-        asked[i].argument.at = calls[i].len > 0 ? (const uint8_t *)calls[i].argument : (const uint8_t *)"";
-        asked[i].argument.length = calls[i].len;
+        asked[i].argument = lent(calls[i].argument, calls[i].len);
         asked[i].program = calls[i].program;
     }
 }

@@ -14,9 +14,12 @@ uint32_t nrbpf_version(void) {
     return NRBPF_VERSION;
 }
 
-// The bytes of a configuration of a host with a header of this version: before 2001 it ends at its limits of maps.
+// The bytes of a configuration of a host with a header of this version: before 2001 it has no limits, and before 2005 none of arguments.
 static size_t size_of_config(uint32_t version) {
-    return version < 2001 ? offsetof(nrbpf_config, limits) : sizeof(nrbpf_config);
+    if (version < 2001) {
+        return offsetof(nrbpf_config, limits);
+    }
+    return version < 2005 ? offsetof(nrbpf_config, limits.argument) : sizeof(nrbpf_config);
 }
 
 nrbpf_status nrbpf_config_init(nrbpf_config *config, uint32_t version, uint32_t nodes, uint32_t slots) {
@@ -87,13 +90,6 @@ static int is_known(uint32_t version) {
     return 1;
 }
 
-static struct nrbpf_raw_bytes bytes_of(const char *text, size_t len) {
-    struct nrbpf_raw_bytes bytes;
-    bytes.at = (const uint8_t *)(text ? text : "");
-    bytes.length = len;
-    return bytes;
-}
-
 // A number of limits, or the standard one where it is 0; of more than 32 bits, one that is refused.
 static uint32_t number_or(uint64_t number, uint32_t standard) {
     if (number > UINT32_MAX) {
@@ -102,15 +98,17 @@ static uint32_t number_or(uint64_t number, uint32_t standard) {
     return number ? (uint32_t)number : standard;
 }
 
-// How large the maps may be.
+// How large maps and arguments may be. What the host's header does not have is 0 here.
 static struct nrbpf_raw_limits limits_of(const nrbpf_config *config) {
     const nrbpf_limits standard = NRBPF_STANDARD;
-    const nrbpf_limits given = config->version < 2001 ? standard : config->limits;
+    nrbpf_config given = NRBPF_CONFIG(0, 0);
     struct nrbpf_raw_limits limits;
-    limits.key = number_or(given.key, standard.key);
-    limits.value = number_or(given.value, standard.value);
-    limits.entries = number_or(given.entries, (uint32_t)standard.entries);
-    limits.bytes = given.bytes ? given.bytes : standard.bytes;
+    memcpy(&given, config, size_of_config(config->version));
+    limits.key = number_or(given.limits.key, standard.key);
+    limits.value = number_or(given.limits.value, standard.value);
+    limits.entries = number_or(given.limits.entries, (uint32_t)standard.entries);
+    limits.bytes = given.limits.bytes ? given.limits.bytes : standard.bytes;
+    limits.argument = number_or(given.limits.argument, standard.argument);
     return limits;
 }
 
@@ -130,10 +128,10 @@ static nrbpf_status prepared(const struct texts *given, struct nrbpf_raw_opening
         return NRBPF_O2;
     }
     for (size_t i = 0; i < given->count; i++) {
-        files[i].name = bytes_of(given->files[i].name, given->files[i].name_len);
-        files[i].text = bytes_of(given->files[i].text, given->files[i].text_len);
+        files[i].name = lent(given->files[i].name, given->files[i].name_len);
+        files[i].text = lent(given->files[i].text, given->files[i].text_len);
     }
-    opening->manifest = bytes_of(given->manifest, given->manifest_len);
+    opening->manifest = lent(given->manifest, given->manifest_len);
     opening->files = files;
     opening->count = given->count;
     opening->nodes = given->config->nodes;
@@ -299,7 +297,7 @@ nrbpf_status nrbpf_close_into(nrbpf_store *store, nrbpf_state **out) {
 nrbpf_status nrbpf_state_load(const nrbpf_config *config, const char *manifest, size_t manifest_len, const nrbpf_file *files, size_t count,
                               const char *text, size_t len, nrbpf_state **out, nrbpf_error *why) {
     const struct texts given = texts_of(config, manifest, manifest_len, files, count);
-    const struct nrbpf_raw_bytes dump = bytes_of(text, len);
+    const struct nrbpf_raw_bytes dump = lent(text, len);
     struct nrbpf_raw_opening opening;
     if (is_missing(text, len) || !out) {
         return refused(why, NRBPF_H7);

@@ -14,9 +14,9 @@
 // duties, which calls suit which service, and what is proved.
 //
 // A call writes its answer only if it succeeds. (Of a list also at S4.) It
-// copies its arguments, keys and questions first, so an answer may overwrite
-// them. It keeps no pointer. The memory of two results of one call must not
-// overlap. A text has a length, and needs no final zero.
+// reads its arguments, keys and questions before that, so an answer may
+// overwrite them. It keeps no pointer. The memory of two results of one call
+// must not overlap. A text has a length, and needs no final zero.
 //
 // Only nrbpf_open, nrbpf_open_on, nrbpf_close_into, nrbpf_state_new,
 // nrbpf_state_dump and nrbpf_state_load take memory. The library starts no
@@ -67,7 +67,7 @@ typedef struct nrbpf_state nrbpf_state;
 // The major number changes if a host has to be changed or compiled again. The
 // minor number changes if something is added.
 #define NRBPF_VERSION_MAJOR 2u
-#define NRBPF_VERSION_MINOR 4u
+#define NRBPF_VERSION_MINOR 5u
 #define NRBPF_VERSION (NRBPF_VERSION_MAJOR * 1000u + NRBPF_VERSION_MINOR)
 
 // Answers the version of the library. [any]
@@ -230,9 +230,9 @@ size_t nrbpf_error_text(const nrbpf_error *why, char *text, size_t room);
 
 // ---- A store
 
-// How large the maps of a manifest may be. A number that is 0 means that of
-// NRBPF_STANDARD. A host that loads the manifests of others may set smaller
-// numbers.
+// How large the maps of a manifest and the arguments of its programs may be. A
+// number that is 0 means that of NRBPF_STANDARD. A host that loads the manifests
+// of others may set smaller numbers.
 typedef struct nrbpf_limits {
     // The most bytes of a key: 4 to 64.
     uint32_t key;
@@ -242,9 +242,11 @@ typedef struct nrbpf_limits {
     uint64_t entries;
     // The most bytes of all maps: at most 1099511627776.
     uint64_t bytes;
+    // The most bytes of an argument: at most 16384.
+    uint32_t argument;
 } nrbpf_limits;
-#define NRBPF_STANDARD {64, 256, 65536, 16777216}
-#define NRBPF_LARGE {64, 16384, 2147483648, 1099511627776}
+#define NRBPF_STANDARD {64, 256, 65536, 16777216, 64}
+#define NRBPF_LARGE {64, 16384, 2147483648, 1099511627776, 16384}
 
 typedef struct nrbpf_config {
     // NRBPF_VERSION.
@@ -260,12 +262,12 @@ typedef struct nrbpf_config {
     uint32_t limit;
     // 0 to 4096: the spare places, for programs that are installed later.
     uint32_t spare;
-    // How large the maps may be. The library reads it if `version` is 2001 or
-    // more.
+    // How large maps and arguments may be. The library reads it if `version` is
+    // 2001 or more, and its member `argument` if `version` is 2005 or more.
     nrbpf_limits limits;
 } nrbpf_config;
 #define NRBPF_ENDLESS 0
-#define NRBPF_CONFIG(nodes, slots) {NRBPF_VERSION, (nodes), (slots), 4096, NRBPF_ENDLESS, 0, {0, 0, 0, 0}}
+#define NRBPF_CONFIG(nodes, slots) {NRBPF_VERSION, (nodes), (slots), 4096, NRBPF_ENDLESS, 0, {0, 0, 0, 0, 0}}
 
 // Fills in what NRBPF_CONFIG does, for languages without macros. `version` is
 // the NRBPF_VERSION of the header that the host was made for. Refuses with H7.

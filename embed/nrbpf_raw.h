@@ -33,8 +33,7 @@ enum {
     NRBPF_RAW_H2,           /* the handle is not open: the opening or the attach was refused, or the state's handle has no state */
     NRBPF_RAW_H3,           /* a read of any kind, a snapshot, or a detach, while an update is posted */
     NRBPF_RAW_H4,           /* a text is not UTF-8: the manifest, a file, its name, the name of a program, or the text of a state */
-    NRBPF_RAW_H5,           /* a word is no call's: `call` above 5, `mode` above 1, `length` above 192; read_each: more than 16 questions, or another
-                             * number of replies */
+    NRBPF_RAW_H5,           /* a word is no call's: `call` above 5, `mode` above 1; read_each: more than 16 questions, or another number of replies */
     NRBPF_RAW_H6,           /* detach: the session's place is not empty here; close_into: a part of the store is elsewhere, and it is ended */
     NRBPF_RAW_H9 = 'H' << 8 | 9 /* snapshot: the state has other maps, or another number of places for programs, than the store */
 };
@@ -46,9 +45,9 @@ struct nrbpf_raw_bytes { const uint8_t *at; size_t length; };
 /* A program file: its name as the manifest has it, and its text, hexadecimal digits. */
 struct nrbpf_raw_file { struct nrbpf_raw_bytes name, text; };
 
-/* How large the maps of a manifest may be: the most bytes of a key and of a value, entries of a map, and bytes of all maps. O1 if one is above the widest,
- * or `key` below 4. */
-struct nrbpf_raw_limits { uint32_t key, value, entries; uint64_t bytes; };
+/* How large the maps of a manifest and the arguments of its programs may be: the most bytes of a key and of a value, entries of a map, bytes of all maps, and
+ * bytes of an argument. O1 if one is above the widest, or `key` below 4. */
+struct nrbpf_raw_limits { uint32_t key, value, entries; uint64_t bytes; uint32_t argument; };
 
 struct nrbpf_raw_opening {
     struct nrbpf_raw_bytes manifest;
@@ -90,8 +89,6 @@ struct nrbpf_raw_session {
                              * another, S8 with V16 */
     uint64_t mode;          /* both installs: 0 for a program that updates, 1 for one that reads */
     uint64_t argument;      /* both installs: how many bytes the program's arguments have */
-    uint64_t length;        /* how many bytes count, of the argument, or of the program that is installed; H5 above 192 */
-    uint8_t bytes[192];
     /* answered */
     uint64_t status;
     uint64_t inner;         /* with S7 a refusal of the letter D, with S8 of the letter V; else 0 */
@@ -220,10 +217,11 @@ void nrbpf_raw_new_state(struct nrbpf_raw_store *at, struct nrbpf_raw_state *sta
 /* Ends a state. Then its handle is room. */
 void nrbpf_raw_drop_state(struct nrbpf_raw_state *at);
 
-/* Makes the call that the session's words ask for. An update or an install posts if none is posted. Else it continues the posted one, whatever operation
- * its words name. NRBPF_RAW_POST is an update that only posts: BUSY or AGAIN, and the session has taken no other update along. NRBPF_RAW_CHECK does nothing:
- * its status is S1 to S3 if the update of these words would be refused so, else 0. Statuses: 0, BUSY, AGAIN, S1 to S4, S6 to S8, H2, H3, H5. */
-void nrbpf_raw_call(struct nrbpf_raw_session *session);
+/* Makes the call that the session's words ask for. `bytes` are the argument, or of an install the program. An update or an install posts if none is posted.
+ * Else it continues the posted one, whatever operation its words name. It reads no bytes then, and there may be none. NRBPF_RAW_POST is an update that only
+ * posts: BUSY or AGAIN, and the session has taken no other update along. NRBPF_RAW_CHECK does nothing: its status is S1 to S3 if the update of these words
+ * and bytes would be refused so, else 0. Statuses: 0, BUSY, AGAIN, S1 to S4, S6 to S8, H2, H3, H5. */
+void nrbpf_raw_call(struct nrbpf_raw_session *session, const uint8_t *bytes, size_t length);
 
 /* Writes the handle of a lane without sessions into the room at `at`. Statuses: 0, O2. With O2 it has no lane, and its memory is as good as room. */
 void nrbpf_raw_new_lane(struct nrbpf_raw_lane *at);

@@ -113,7 +113,7 @@ struct config : nrbpf_config {
     config &with_window(std::uint32_t count) noexcept { return window = count, *this; }
     config &with_limit(std::uint32_t count) noexcept { return limit = count, *this; }
     config &with_spare(std::uint32_t count) noexcept { return spare = count, *this; }
-    config &with_limits(const nrbpf_limits &of_maps) noexcept { return limits = of_maps, *this; }
+    config &with_limits(const nrbpf_limits &most) noexcept { return limits = most, *this; }
 };
 
 // Which maps a store has and which programs it offers: a text (docs/FORMATS.md), and the program files that it names.
@@ -190,7 +190,7 @@ class state {
 public:
     explicit state(nrbpf_state *given) noexcept : at(given) {}
 
-    // The state that a dump describes, for stores of this manifest with so many spare places and these limits of maps. An empty dump is that of a new store.
+    // The state that a dump describes, for stores of this manifest with so many spare places and these limits. An empty dump is that of a new store.
     static state load(const manifest &of, std::string_view dump, std::uint32_t spare = 0, const nrbpf_limits &limits = {}) {
         const auto files = of.native();
         const config sizes = config().with_spare(spare).with_limits(limits);

@@ -115,7 +115,8 @@ static void header() {
     nrbpf_config told{};
     const nrbpf_config wanted = config(2, 4);
     EXPECT(nrbpf_version() / 1000 == NRBPF_VERSION_MAJOR);
-    EXPECT(nrbpf_config_init(&told, NRBPF_VERSION, 2, 4) == NRBPF_OK && std::memcmp(&told, &wanted, sizeof told) == 0);
+    const std::size_t end = offsetof(nrbpf_config, limits.argument) + sizeof told.limits.argument;
+    EXPECT(nrbpf_config_init(&told, NRBPF_VERSION, 2, 4) == NRBPF_OK && std::memcmp(&told, &wanted, end) == 0);
     EXPECT(std::string(nrbpf_status_text(NRBPF_FULL)).rfind("S4: ", 0) == 0);
 }
 
@@ -383,6 +384,11 @@ static void refused_manifests() {
     const nrbpf::store long_values(with("map array 16384 2\n"), config().with_limits(NRBPF_LARGE));
     const std::uint32_t index = 1;
     EXPECT(long_values.attach().get(0, bytes_of(index)).value == std::string(16384, '\0'));
+    const auto of_length = [&](const std::string &length) { return with(it + "update " + length + " other\n", hex(five)); };
+    REFUSED(open(of_length("65")), NRBPF_BAD_LINE, 0, 2);
+    nrbpf::store(of_length("16384"), config().with_limits(NRBPF_LARGE));
+    REFUSED(nrbpf::store(of_length("16385"), config().with_limits(NRBPF_LARGE)), NRBPF_BAD_LINE, 0, 2);
+    REFUSED(nrbpf::store(of_length("4"), config().with_limits({0, 0, 0, 0, 16385})), NRBPF_OUT_OF_LIMITS);
     config other;
     other.version += 1000;
     REFUSED(nrbpf::store(example("counter"), other), NRBPF_OTHER_VERSION);
@@ -446,6 +452,33 @@ static void limits() {
     counter endless(config().with_window(16).with_limit(NRBPF_ENDLESS));
     for (int i = 0; i < 10000; i++) endless.session.update(endless.bump, bytes_of(third));
     ANSWER(endless.session.read(endless.peek, bytes_of(third)), 10000, 10000);
+}
+
+// Puts all bytes of its argument but the first four under these four.
+static const char put_hex[] = "bf12000000000000bf13000000000000070300000400000018510000000000000000000000000000b70400000000000085000000020000009500000000000000";
+// Replies the last eight of the 16,384 bytes of its argument.
+static const char last_hex[] = "7910f83f000000009500000000000000";
+
+// A node reads what another has put, and one byte more is refused.
+static void long_arguments() {
+    auto of = manifest("map hash 4 16380 4\nprogram put update 16384 put\nprogram last read 16384 last\n").file("put", put_hex).file("last", last_hex);
+    nrbpf::store store(of, config(2, 2).with_limits(NRBPF_LARGE));
+    auto one = store.attach(0), other = store.attach(1);
+    auto lane = store.attach_lane(0, 1);
+    std::string longer;
+    std::uint64_t tail = 0;
+    for (unsigned k = 0; k < 16385; k++) longer += static_cast<char>(k + (k >> 8));
+    for (unsigned k = 62; k > 54; k--) tail = tail << 8 | k;
+    const std::string argument = longer.substr(0, 16384);
+    ANSWER(one.update(0, argument), 0, 0);
+    EXPECT(other.get(0, argument.substr(0, 4)).value == argument.substr(4));
+    ANSWER(other.read(1, argument), 1, tail);
+    EXPECT(lane.update_each({{0, argument}})[0].point == 1);
+    EXPECT(other.read_each({{1, argument}}).each[0] == tail);
+    REFUSED(one.update(0, longer), NRBPF_ARGUMENT_LENGTH);
+    REFUSED(one.try_update(0, longer), NRBPF_ARGUMENT_LENGTH);
+    REFUSED(one.read(1, longer), NRBPF_ARGUMENT_LENGTH);
+    REFUSED(lane.update_each({{0, longer}}), NRBPF_ARGUMENT_LENGTH);
 }
 
 // Puts its argument under the argument's first byte, in seven slots.
@@ -560,7 +593,7 @@ int main() {
         {"header", header}, {"scans", scans}, {"rows", rows}, {"installs", installs}, {"installs_within", installs_within}, {"tries", tries}, {"gets_and_scans", gets_and_scans}, {"reads_at_one_point", reads_at_one_point},
         {"four_threads", four_threads}, {"tries_beside_others", tries_beside_others}, {"snapshots", snapshots},
         {"snapshots_beside_threads", snapshots_beside_threads}, {"dumps", dumps}, {"stores_go_on", stores_go_on}, {"close_next_to_a_session", close_next_to_a_session},
-        {"refused_manifests", refused_manifests}, {"refused_dumps", refused_dumps}, {"refused_calls", refused_calls}, {"limits", limits}, {"a_store_tells_what_it_is", a_store_tells_what_it_is}, {"a_store_tells_what_it_has_done", a_store_tells_what_it_has_done}, {"lists", lists}, {"lists_of_threads", lists_of_threads}, {"ends", ends},
+        {"refused_manifests", refused_manifests}, {"refused_dumps", refused_dumps}, {"refused_calls", refused_calls}, {"limits", limits}, {"long_arguments", long_arguments}, {"a_store_tells_what_it_is", a_store_tells_what_it_is}, {"a_store_tells_what_it_has_done", a_store_tells_what_it_has_done}, {"lists", lists}, {"lists_of_threads", lists_of_threads}, {"ends", ends},
     };
     for (const auto &[name, test] : tests) {
         try {

@@ -21,17 +21,18 @@ import (
 	"unsafe"
 )
 
-// Limits says how large the maps of a manifest may be. A number that is 0 is that of Standard.
+// Limits says how large the maps of a manifest and the arguments of its programs may be. A number that is 0 is that of Standard.
 type Limits struct {
 	Key, Value uint32 // the most bytes of a key, 4 to 64, and of a value, to 16,384
 	Entries    uint64 // the most entries of a map, to 2^31
 	Bytes      uint64 // the most bytes of all maps, to 2^40
+	Argument   uint32 // the most bytes of an argument, to 16,384
 }
 
 // Standard and Large are the limits without an option, and the widest.
 var (
-	Standard = Limits{64, 256, 65_536, 16_777_216}
-	Large    = Limits{64, 16_384, 1 << 31, 1 << 40}
+	Standard = Limits{64, 256, 65_536, 16_777_216, 64}
+	Large    = Limits{64, 16_384, 1 << 31, 1 << 40, 16_384}
 )
 
 // Config has the sizes of a store.
@@ -41,7 +42,7 @@ type Config struct {
 	Window uint32 // 16 to 1048576: the updates that the log keeps
 	Limit  uint32 // the updates of the whole history, behind which there is ErrFull; Endless: no end
 	Spare  uint32 // 0 to 4096: the programs that may be installed later
-	Limits Limits // how large the maps of the manifest may be
+	Limits Limits // how large the maps of the manifest and the arguments of its programs may be
 }
 
 // Endless is the limit of a history that has no end.
@@ -63,10 +64,11 @@ func (c Config) inC() C.nrbpf_config {
 		limit:   C.uint32_t(c.Limit),
 		spare:   C.uint32_t(c.Spare),
 		limits: C.nrbpf_limits{
-			key:     C.uint32_t(c.Limits.Key),
-			value:   C.uint32_t(c.Limits.Value),
-			entries: C.uint64_t(c.Limits.Entries),
-			bytes:   C.uint64_t(c.Limits.Bytes),
+			key:      C.uint32_t(c.Limits.Key),
+			value:    C.uint32_t(c.Limits.Value),
+			entries:  C.uint64_t(c.Limits.Entries),
+			bytes:    C.uint64_t(c.Limits.Bytes),
+			argument: C.uint32_t(c.Limits.Argument),
 		},
 	}
 }

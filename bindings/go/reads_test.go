@@ -2,6 +2,7 @@ package nrbpf_test
 
 import (
 	"bytes"
+	"encoding/binary"
 	"errors"
 	"fmt"
 	"io"
@@ -197,6 +198,52 @@ func TestLimits(t *testing.T) {
 	same(t, "its zeros", bytes.Equal(value, make([]byte, 16_384)), true)
 	config.Limits.Entries++
 	refused(t, last(nrbpf.Open(config, past)), nrbpf.ErrOutOfLimits)
+}
+
+// The first program puts all bytes of its argument but the first four under these four. The second replies the last eight bytes of its own.
+var longArguments = nrbpf.Manifest{
+	Text: "map hash 4 16380 4\nprogram put update 16384 put\nprogram last read 16384 last\n",
+	Files: map[string]string{
+		"put":  "bf12000000000000bf13000000000000070300000400000018510000000000000000000000000000b70400000000000085000000020000009500000000000000",
+		"last": "7910f83f000000009500000000000000",
+	},
+}
+
+// A node reads what another has put, and one byte more is refused.
+func TestLongArguments(t *testing.T) {
+	config := nrbpf.NewConfig(2, 2)
+	config.Limits.Value = 16_380
+	same(t, "by the standard limits", refused(t, last(nrbpf.Open(config, longArguments)), nrbpf.ErrBadLine).Line, 2)
+	config.Limits.Argument = 16_385
+	refused(t, last(nrbpf.Open(config, longArguments)), nrbpf.ErrOutOfLimits)
+	config.Limits = nrbpf.Large
+	longer := nrbpf.Manifest{Text: strings.Replace(longArguments.Text, "put update 16384", "put update 16385", 1), Files: longArguments.Files}
+	same(t, "by the largest", refused(t, last(nrbpf.Open(config, longer)), nrbpf.ErrBadLine).Line, 2)
+	store := must(nrbpf.Open(config, longArguments))
+	t.Cleanup(func() {
+		if err := store.Close(); err != nil {
+			t.Error(err)
+		}
+	})
+	one, other, lane := attached(t, store, 0), attached(t, store, 1), laneOf(t, store, 0, 1)
+	argument := make([]byte, 16_384)
+	for k := range argument {
+		argument[k] = byte(k + k>>8)
+	}
+	value, tail := make([]byte, 16_380), binary.LittleEndian.Uint64(argument[16_376:])
+	same(t, "the update", must(one.Update(0, argument)), nrbpf.Answer{})
+	same(t, "the key", must(other.Get(0, argument[:4], value)).IsThere, true)
+	same(t, "the value", bytes.Equal(value, argument[4:]), true)
+	same(t, "the read", must(other.Read(1, argument)), nrbpf.Answer{Point: 1, Reply: tail})
+	same(t, "the list", must(lane.UpdateEach([]nrbpf.Question{{Program: 0, Argument: argument}}))[0].Point, 1)
+	replies, _, err := other.ReadEach([]nrbpf.Question{{Program: 1, Argument: argument}})
+	must(0, err)
+	same(t, "one of several reads", replies[0], tail)
+	argument = append(argument, 0)
+	refused(t, last(one.Update(0, argument)), nrbpf.ErrArgumentLength)
+	refused(t, last(one.TryUpdate(0, argument)), nrbpf.ErrArgumentLength)
+	refused(t, last(one.Read(1, argument)), nrbpf.ErrArgumentLength)
+	refused(t, last(lane.UpdateEach([]nrbpf.Question{{Program: 0, Argument: argument}})), nrbpf.ErrArgumentLength)
 }
 
 // full takes some bytes and then no more.

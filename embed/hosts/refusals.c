@@ -41,7 +41,7 @@ static void configurations(void) {
     const nrbpf_config good = NRBPF_CONFIG(1, 1);
     nrbpf_config wrong;
     EXPECT_STATUS(nrbpf_config_init(&wrong, NRBPF_VERSION, 1, 1), NRBPF_OK);
-    EXPECT(memcmp(&wrong, &good, sizeof good) == 0);
+    EXPECT(memcmp(&wrong, &good, offsetof(nrbpf_config, limits.argument) + sizeof good.limits.argument) == 0);
     const uint32_t versions[] = {0, NRBPF_VERSION - 1000, NRBPF_VERSION + 1000, NRBPF_VERSION + 1, UINT32_MAX};
     for (int i = 0; i < 5; i++) {
         wrong.version = versions[i];
@@ -51,23 +51,25 @@ static void configurations(void) {
                                    {1, 1, 15, 1, 0},   {1, 1, 1048577, 1, 0}, {1, 1, 16, 1, 4097}, {UINT32_MAX, UINT32_MAX, 16, 1, 0}};
     for (int i = 0; i < 8; i++) {
         const uint32_t *it = outside[i];
-        refuse_config((nrbpf_config){NRBPF_VERSION, it[0], it[1], it[2], it[3], it[4], {0, 0, 0, 0}}, NRBPF_O1);
+        refuse_config((nrbpf_config){NRBPF_VERSION, it[0], it[1], it[2], it[3], it[4], {0, 0, 0, 0, 0}}, NRBPF_O1);
     }
-    const nrbpf_limits wider[] = {{65, 0, 0, 0}, {3, 0, 0, 0}, {0, 16385, 0, 0}, {0, 0, 2147483649, 0}, {0, 0, UINT64_MAX, 0}, {0, 0, 0, 1099511627777}};
-    for (int i = 0; i < 6; i++) {
+    const nrbpf_limits wider[] = {{65, 0, 0, 0, 0}, {3, 0, 0, 0, 0}, {0, 16385, 0, 0, 0}, {0, 0, 2147483649, 0, 0}, {0, 0, UINT64_MAX, 0, 0},
+                                  {0, 0, 0, 1099511627777, 0}, {0, 0, 0, 0, 16385}, {0, 0, 0, 0, UINT32_MAX}};
+    for (int i = 0; i < 8; i++) {
         wrong = good;
         wrong.limits = wider[i];
         refuse_config(wrong, NRBPF_O1);
     }
 }
 
-// What a manifest of one map is answered with these limits, by a host with a header of this version.
+// What a manifest is answered with these limits, by a host with a header of this version. It may name a program file `five`.
 static nrbpf_status opened_with(const char *manifest, nrbpf_limits limits, uint32_t version) {
     nrbpf_config config = NRBPF_CONFIG(1, 1);
     nrbpf_store *store = NULL;
+    const nrbpf_file five = file_of("five", "b7000000050000009500000000000000");
     config.limits = limits;
     config.version = version;
-    const nrbpf_status status = nrbpf_open(&config, manifest, strlen(manifest), NULL, 0, &store, NULL);
+    const nrbpf_status status = nrbpf_open(&config, manifest, strlen(manifest), &five, 1, &store, NULL);
     if (status == NRBPF_OK) {
         EXPECT_STATUS(nrbpf_close(store), NRBPF_OK);
     }
@@ -75,7 +77,7 @@ static nrbpf_status opened_with(const char *manifest, nrbpf_limits limits, uint3
 }
 
 static void limits_of_maps(void) {
-    const nrbpf_limits standard = NRBPF_STANDARD, large = NRBPF_LARGE, zeros = {0, 0, 0, 0}, narrow = {0, 0, 16, 0};
+    const nrbpf_limits standard = NRBPF_STANDARD, large = NRBPF_LARGE, zeros = {0, 0, 0, 0, 0}, narrow = {0, 0, 16, 0, 0};
     const char *past = "map hash 8 8 65537\n";
     EXPECT_STATUS(opened_with(past, zeros, NRBPF_VERSION), NRBPF_C1);
     EXPECT_STATUS(opened_with(past, standard, NRBPF_VERSION), NRBPF_C1);
@@ -87,6 +89,55 @@ static void limits_of_maps(void) {
     EXPECT_STATUS(opened_with("map hash 8 16384 16\n", large, NRBPF_VERSION), NRBPF_OK);
     EXPECT_STATUS(opened_with("map hash 8 16385 16\n", large, NRBPF_VERSION), NRBPF_C1);
     EXPECT_STATUS(opened_with("map hash 8 257 16\n", standard, NRBPF_VERSION), NRBPF_C1);
+}
+
+// What a program with arguments of so many bytes is answered.
+static nrbpf_status argument_of(const char *length, nrbpf_limits limits, uint32_t version) {
+    char manifest[80];
+    snprintf(manifest, sizeof manifest, "map array 8 1\nprogram long update %s five\n", length);
+    return opened_with(manifest, limits, version);
+}
+
+static void limits_of_arguments(void) {
+    const nrbpf_limits standard = NRBPF_STANDARD, large = NRBPF_LARGE, zeros = {0, 0, 0, 0, 0}, narrow = {0, 0, 0, 0, 8}, unknown = {0, 0, 0, 0, 16385};
+    const uint32_t older[] = {2000, 2001, 2004};
+    EXPECT_STATUS(argument_of("64", zeros, NRBPF_VERSION), NRBPF_OK);
+    EXPECT_STATUS(argument_of("64", standard, NRBPF_VERSION), NRBPF_OK);
+    EXPECT_STATUS(argument_of("65", zeros, NRBPF_VERSION), NRBPF_C1);
+    EXPECT_STATUS(argument_of("16384", zeros, NRBPF_VERSION), NRBPF_C1);
+    EXPECT_STATUS(argument_of("16384", standard, NRBPF_VERSION), NRBPF_C1);
+    EXPECT_STATUS(argument_of("193", large, NRBPF_VERSION), NRBPF_OK);
+    EXPECT_STATUS(argument_of("16384", large, NRBPF_VERSION), NRBPF_OK);
+    EXPECT_STATUS(argument_of("16385", large, NRBPF_VERSION), NRBPF_C1);
+    EXPECT_STATUS(argument_of("8", narrow, NRBPF_VERSION), NRBPF_OK);
+    EXPECT_STATUS(argument_of("9", narrow, NRBPF_VERSION), NRBPF_C1);
+    for (int i = 0; i < 3; i++) {               // an older host has no limit of arguments there
+        EXPECT_STATUS(argument_of("64", unknown, older[i]), NRBPF_OK);
+        EXPECT_STATUS(argument_of("65", large, older[i]), NRBPF_C1);
+        EXPECT_STATUS(argument_of("16384", large, older[i]), NRBPF_C1);
+    }
+    EXPECT_STATUS(opened_with("map hash 8 16384 16\n", large, 2004), NRBPF_OK);
+}
+
+// The configuration of an older host ends earlier. Nothing behind its end is read or written.
+static void older_configurations(void) {
+    const uint32_t versions[] = {2000, 2001, 2004};
+    const size_t sizes[] = {24, 48, 48};        // as the headers of these versions have them
+    for (int i = 0; i < 3; i++) {
+        nrbpf_config config = NRBPF_CONFIG(1, 1), behind;
+        nrbpf_store *opened = NULL;
+        void *const older = malloc(sizes[i]);
+        EXPECT(older);
+        config.version = versions[i];
+        EXPECT_STATUS(nrbpf_config_init(older, versions[i], 1, 1), NRBPF_OK);
+        EXPECT(memcmp(older, &config, sizes[i]) == 0);
+        EXPECT_STATUS(nrbpf_open(older, files.manifest, strlen(files.manifest), files.files, programs, &opened, NULL), NRBPF_OK);
+        EXPECT_STATUS(nrbpf_close(opened), NRBPF_OK);
+        free(older);
+        memset(&behind, 0xee, sizeof behind);
+        EXPECT_STATUS(nrbpf_config_init(&behind, versions[i], 1, 1), NRBPF_OK);
+        for (size_t k = sizes[i]; k < sizeof behind; k++) EXPECT(((const uint8_t *)&behind)[k] == 0xee);
+    }
 }
 
 // A value of 16,384 bytes is loaded, read by one call and by a page, and dumped.
@@ -164,7 +215,7 @@ static void names_and_ends(void) {
 
 static nrbpf_store *store;
 static nrbpf_session *sessions[2][2];
-static const uint8_t argument[65] = {3};
+static const uint8_t argument[16385] = {3};
 
 // No call that is refused has done anything: the history has one update, and counter 3 is 1, on both nodes.
 static void expect_nothing_changed(void) {
@@ -188,8 +239,8 @@ typedef nrbpf_status run(nrbpf_session *, uint16_t, const void *, size_t, nrbpf_
 static void runs(run *call, uint16_t program, uint16_t of_other_mode) {
     nrbpf_session *session = sessions[0][0];
     nrbpf_answer answer = {77, 77};
-    const size_t lengths[] = {0, 3, 5, 64, 65, SIZE_MAX};
-    for (int i = 0; i < 6; i++) REFUSE(call(session, program, argument, lengths[i], &answer), NRBPF_S2);
+    const size_t lengths[] = {0, 3, 5, 64, 65, 193, 16384, 16385, SIZE_MAX};
+    for (int i = 0; i < 9; i++) REFUSE(call(session, program, argument, lengths[i], &answer), NRBPF_S2);
     REFUSE(call(session, program, NULL, 0, &answer), NRBPF_S2);
     REFUSE(call(session, of_other_mode, argument, 4, &answer), NRBPF_S3);
     REFUSE(call(session, programs + 1, argument, 4, &answer), NRBPF_S1);        // behind the place that is spare
@@ -217,6 +268,7 @@ static void installs(install *call) {
     static const uint8_t opcode_13[] = {0xb7, 0, 0, 0, 5, 0, 0, 0, 0x0d, 0, 0, 0, 0, 0, 0, 0};
     nrbpf_answer answer = {77, 77};
     refuse_install(call, NRBPF_MODE_UPDATE, 4, zeros, 193, (fault){.status = NRBPF_S6});
+    refuse_install(call, NRBPF_MODE_UPDATE, 4, zeros, 194, (fault){.status = NRBPF_S6});
     refuse_install(call, NRBPF_MODE_UPDATE, 4, zeros, SIZE_MAX, (fault){.status = NRBPF_S6});
     refuse_install(call, NRBPF_MODE_READ, 65, nothing_in_r0, 8, (fault){.status = NRBPF_S6});
     refuse_install(call, NRBPF_MODE_READ, UINT32_MAX, nothing_in_r0, 8, (fault){.status = NRBPF_S6});
@@ -416,7 +468,7 @@ static void first_of_several(void) {
     static const uint8_t zeros[200];
     const nrbpf_file no_text = {"other", 5, NULL, 1};
     const nrbpf_question questions[17] = {{NULL, 4, UINT16_MAX}};
-    nrbpf_config other = {NRBPF_VERSION + 1000, 0, 0, 0, 0, 0, {0, 0, 0, 0}};
+    nrbpf_config other = {NRBPF_VERSION + 1000, 0, 0, 0, 0, 0, {0, 0, 0, 0, 0}};
     nrbpf_answer answer = {77, 77};
     uint64_t replies[17], point;
     refuse(&other, NULL, 1, &no_text, 1, (fault){.status = NRBPF_H7});
@@ -428,6 +480,7 @@ static void first_of_several(void) {
     REFUSE(nrbpf_poll(earlier, NULL), NRBPF_H7);
     REFUSE(nrbpf_install(earlier, 2, 65, zeros, 193, &answer, NULL), NRBPF_H2);
     REFUSE(nrbpf_install(sessions[0][0], 2, 65, zeros, 193, &answer, NULL), NRBPF_H5);
+    REFUSE(nrbpf_install(sessions[0][0], 2, 65, zeros, 194, &answer, NULL), NRBPF_H5);
     REFUSE(nrbpf_install(sessions[0][0], 2, 65, zeros, 8, &answer, NULL), NRBPF_H5);
     REFUSE(nrbpf_read_each(earlier, questions, 17, replies, &point, NULL), NRBPF_H2);
     REFUSE(nrbpf_read_each(sessions[0][0], questions, 17, replies, &point, NULL), NRBPF_H5);
@@ -548,6 +601,8 @@ int main(void) {
     EXPECT_STATUS(nrbpf_config_init(NULL, NRBPF_VERSION, 1, 1), NRBPF_H7);
     configurations();
     limits_of_maps();
+    limits_of_arguments();
+    older_configurations();
     long_values();
     manifests();
     null_pointers_of_open();

@@ -31,6 +31,7 @@ static nrbpf_counts counts_of(nrbpf_session *session) {
 }
 
 static void alone(void) {
+    static const uint8_t zeros[194];
     const key seen = key_of(3);
     nrbpf_answer answer;
     open_store();
@@ -51,7 +52,8 @@ static void alone(void) {
     told = counts_of(own);
     EXPECT(told.completed == 1005 && told.appended == 1005 && told.kept <= WINDOW && told.updates == 1005);
     EXPECT_STATUS(nrbpf_update(own, peek, &seen, sizeof seen, &answer), NRBPF_S3); // refused, and asked for
-    EXPECT(counts_of(own).updates == 1006);
+    for (size_t len = 193; len < 195; len++) EXPECT_STATUS(nrbpf_install(own, NRBPF_MODE_READ, 0, zeros, len, &answer, NULL), NRBPF_S6);
+    EXPECT(counts_of(own).updates == 1008);
     EXPECT_STATUS(nrbpf_detach(own), NRBPF_OK);
     own = attached(store, 0);
     told = counts_of(own);

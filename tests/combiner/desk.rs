@@ -10,7 +10,7 @@ fn fourth_program(argument: &[u8; 1]) -> OpRef<'_> {
 
 #[test]
 fn one_request_a_slot(rt: HostRuntime) {
-    let mut desk = Desk::new(0, 2);
+    let mut desk = Desk::open(rt.alloc(), 0, 2).expect(&rt, "desk");
     let first = desk.post(0, &fourth_program(&[1]));
     assert!(&rt; first == Ok(()));
     let second = desk.post(0, &fourth_program(&[2]));
@@ -19,8 +19,9 @@ fn one_request_a_slot(rt: HostRuntime) {
 
 #[test]
 fn nothing_to_claim(rt: HostRuntime) {
-    let mut desk = Desk::new(0, 2);
-    match desk.claim(&mut Batch::new()) {
+    let mut desk = Desk::open(rt.alloc(), 0, 2).expect(&rt, "desk");
+    let mut batch = Batch::open(rt.alloc()).expect(&rt, "batch");
+    match desk.claim(&mut batch) {
         Ok(()) => assert!(&rt; false),
         Err(refused) => assert_eq!(rt; refused.number(), 2),
     }
@@ -28,9 +29,9 @@ fn nothing_to_claim(rt: HostRuntime) {
 
 #[test]
 fn one_combiner_at_a_time(rt: HostRuntime) {
-    let mut desk = Desk::new(1, 2);
+    let mut desk = Desk::open(rt.alloc(), 1, 2).expect(&rt, "desk");
     assert!(&rt; desk.post(1, &fourth_program(&[1])).is_ok());
-    let mut batch = Batch::new();
+    let mut batch = Batch::open(rt.alloc()).expect(&rt, "batch");
     assert!(&rt; desk.claim(&mut batch).is_ok());
     assert!(&rt; desk.claimed());
     match desk.claim(&mut batch) {

@@ -4,34 +4,48 @@ use crate::replica::replicas::{SHAPES, new_state};
 use loader::Installed;
 use maps::{MapSet, shapes_ok};
 use oplog::{
-    Appended, Call, Config, CopyAnswer, ENDLESS, Ended, Hand, LogState, Op, OpParts, OpenError,
-    Record, Records, Sizes,
+    Appended, Config, CopyAnswer, ENDLESS, Ended, Hand, LogRoom, LogState, OpParts, OpRef,
+    OpenError, RecordList, Sizes,
 };
 use std::alloc::Global;
 use std::test::Fail;
 
+// The most bytes of an argument.
+const LONG: usize = 100;
+
 // A new log over these maps, with a place for one program. It keeps sixteen records, and its history may have three.
 fn opened_log(alloc: Global) -> Option<LogState> {
     let state = new_state(alloc)?;
-    LogState::open(alloc, state, 16, 3).ok()
+    let room = LogRoom {
+        window: 16,
+        long: LONG,
+    };
+    LogState::open(alloc, state, room, 3).ok()
 }
 
-fn third_program(author: u16, seq: u64) -> Record {
-    Record {
-        author,
-        seq,
-        op: Op::Run(Call::new(2, &[7, 0, 0, 255])),
+// A hand for such a log.
+fn opened_hand(alloc: Global) -> Option<Hand> {
+    Hand::open(alloc, 16, LONG).ok()
+}
+
+// Calls of the third program by these authors, each its first.
+fn third_program(alloc: Global, authors: &[u16]) -> Option<RecordList> {
+    let mut records = RecordList::open(alloc, 16, LONG).ok()?;
+    for author in authors {
+        records.push(*author, 0, &OpRef::run(2, &[7, 0, 0, 255]));
     }
+    Some(records)
 }
 
 #[test]
 fn appends_up_to_the_limit(rt: HostRuntime) {
     let mut log = opened_log(rt.alloc()).expect(&rt, "log");
-    let batch = [third_program(1, 0), third_program(0, 0)];
-    assert!(&rt; log.append(&Records::of(&[])) == Ok(Appended { first: 0, count: 0 }));
-    assert!(&rt; log.append(&Records::of(&batch)) == Ok(Appended { first: 0, count: 2 }));
-    assert!(&rt; log.append(&Records::of(&batch)) == Ok(Appended { first: 2, count: 1 }));
-    assert!(&rt; log.append(&Records::of(&batch)) == Err(Ended));
+    let batch = third_program(rt.alloc(), &[1, 0]).expect(&rt, "batch");
+    let none = third_program(rt.alloc(), &[]).expect(&rt, "none");
+    assert!(&rt; log.append(&none.lent()) == Ok(Appended { first: 0, count: 0 }));
+    assert!(&rt; log.append(&batch.lent()) == Ok(Appended { first: 0, count: 2 }));
+    assert!(&rt; log.append(&batch.lent()) == Ok(Appended { first: 2, count: 1 }));
+    assert!(&rt; log.append(&batch.lent()) == Err(Ended));
     assert_eq!(rt;
         (log.room(), log.left(), log.base(), log.tail()),
         (13, 0, 0, 3)
@@ -41,9 +55,9 @@ fn appends_up_to_the_limit(rt: HostRuntime) {
 #[test]
 fn copies_records(rt: HostRuntime) {
     let mut log = opened_log(rt.alloc()).expect(&rt, "log");
-    let mut hand = Hand::open(rt.alloc(), 16).expect(&rt, "hand");
-    let batch = [third_program(1, 0), third_program(0, 0)];
-    assert!(&rt; log.append(&Records::of(&batch)).is_ok());
+    let mut hand = opened_hand(rt.alloc()).expect(&rt, "hand");
+    let batch = third_program(rt.alloc(), &[1, 0]).expect(&rt, "batch");
+    assert!(&rt; log.append(&batch.lent()).is_ok());
     assert!(&rt; log.copy_from(1, &mut hand) == CopyAnswer::Copied);
     assert_eq!(rt; (hand.begin(), hand.len()), (1, 1));
     let copied = hand.records().op(0);
@@ -61,11 +75,11 @@ fn copies_records(rt: HostRuntime) {
 fn reclaims(rt: HostRuntime) {
     assert!(&rt; shapes_ok(&SHAPES).is_ok());
     let mut log = opened_log(rt.alloc()).expect(&rt, "log");
-    let mut hand = Hand::open(rt.alloc(), 16).expect(&rt, "hand");
+    let mut hand = opened_hand(rt.alloc()).expect(&rt, "hand");
     let maps = MapSet::open(rt.alloc(), &SHAPES).expect(&rt, "maps");
     let programs = Installed::open(rt.alloc(), &SHAPES, 1).expect(&rt, "programs");
-    let batch = [third_program(1, 0), third_program(0, 0)];
-    assert!(&rt; log.append(&Records::of(&batch)).is_ok());
+    let batch = third_program(rt.alloc(), &[1, 0]).expect(&rt, "batch");
+    assert!(&rt; log.append(&batch.lent()).is_ok());
     log.raise_done(2);
     log.raise_done(1);
     log.reclaim(1, &maps, &programs);
@@ -76,15 +90,33 @@ fn reclaims(rt: HostRuntime) {
     );
 }
 
+// Of two long arguments the first is dropped, and one more comes behind the other.
+#[test]
+fn keeps_long_arguments(rt: HostRuntime) {
+    let mut records = RecordList::open(rt.alloc(), 2, LONG).expect(&rt, "records");
+    for byte in [1, 2] {
+        records.push(0, 0, &OpRef::run(2, &[byte; LONG]));
+    }
+    records.drop_first(1);
+    records.push(0, 0, &OpRef::run(2, &[3; LONG]));
+    for (k, byte) in [2, 3].iter().enumerate() {
+        match records.lent().op(k).parts() {
+            OpParts::Run { argument, .. } => assert!(&rt; argument == [*byte; LONG].as_slice()),
+            OpParts::Install { .. } => assert!(&rt; false),
+        }
+    }
+}
+
 // What lies below the base is copied no more.
 #[test]
 fn copies_nothing_below_the_base(rt: HostRuntime) {
     assert!(&rt; shapes_ok(&SHAPES).is_ok());
     let mut log = opened_log(rt.alloc()).expect(&rt, "log");
-    let mut hand = Hand::open(rt.alloc(), 16).expect(&rt, "hand");
+    let mut hand = opened_hand(rt.alloc()).expect(&rt, "hand");
     let maps = MapSet::open(rt.alloc(), &SHAPES).expect(&rt, "maps");
     let programs = Installed::open(rt.alloc(), &SHAPES, 1).expect(&rt, "programs");
-    assert!(&rt; log.append(&Records::of(&[third_program(1, 0)])).is_ok());
+    let batch = third_program(rt.alloc(), &[1]).expect(&rt, "batch");
+    assert!(&rt; log.append(&batch.lent()).is_ok());
     log.raise_done(1);
     log.reclaim(1, &maps, &programs);
     assert!(&rt; log.copy_from(0, &mut hand) == CopyAnswer::Below(1));

@@ -44,7 +44,7 @@ fn read_begin(alloc: Global, node: u64, slot: u64) -> Option<Step> {
 fn hand_for(alloc: Global, log: &LogState) -> Option<Hand> {
     let held = log.tail() - log.base();
     let window = log.room() + held as usize;
-    Hand::open(alloc, window).ok()
+    Hand::open(alloc, window, 4).ok()
 }
 
 #[test]

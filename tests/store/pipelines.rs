@@ -19,6 +19,7 @@ fn member_of(session: Session) -> Member {
 fn pairs_at_once<R: Wait>(
     rt: &R,
     store: &Store,
+    room: &mut EachRoom,
     members: &mut [Member],
     rounds: usize,
 ) -> Option<[u64; 2]> {
@@ -26,7 +27,6 @@ fn pairs_at_once<R: Wait>(
         program: 0,
         argument: &ZERO,
     }; 2];
-    let mut room = EachRoom::new();
     let mut last = [0; 2];
     for _ in 0..rounds {
         let mut replies = [Reply::Ended; 2];
@@ -62,7 +62,11 @@ fn answers_have_ascending_indexes(rt: HostRuntime) {
     let first = member_of(last_of(&store, &mut sessions));
     sessions.destroy_empty();
     let mut members = [first, last];
-    assert_eq!(rt; pairs_at_once(&rt, &store, &mut members, 3), Some([4, 5]));
+    let mut room = EachRoom::open(rt.alloc()).expect(&rt, "room");
+    assert_eq!(rt;
+        pairs_at_once(&rt, &store, &mut room, &mut members, 3),
+        Some([4, 5])
+    );
 }
 
 // The history has its last record in the middle of the two.
@@ -78,7 +82,8 @@ fn ends_within_the_calls(rt: HostRuntime) {
         program: 0,
         argument: &ZERO,
     }; 2];
-    EachRoom::new().ask(&rt, store.shared(), &mut members, &calls, &mut replies);
+    let mut room = EachRoom::open(rt.alloc()).expect(&rt, "room");
+    room.ask(&rt, store.shared(), &mut members, &calls, &mut replies);
     let placed = Reply::Placed { index: 0, reply: 1 };
     assert_eq!(rt; replies, [placed, Reply::Ended]);
 }
@@ -92,10 +97,11 @@ fn ask_beside_a_session(rt: HostRuntime) {
     let first = member_of(last_of(&store, &mut sessions));
     sessions.destroy_empty();
     let mut members = [first, last];
+    let mut room = EachRoom::open(rt.alloc()).expect(&rt, "room");
     let (beside, reader) = (&mut other, &store);
     let (pairs, done) = thread::join(
         &rt,
-        || { pairs_at_once(&rt, reader, &mut members, 50) },
+        || { pairs_at_once(&rt, reader, &mut room, &mut members, 50) },
         || { updates(&rt, reader, beside, 50) },
     );
     let seen = other.read(&rt, &store, 1, &ZERO).map(|answer| answer.reply);

@@ -2,7 +2,7 @@
 the same bytes.
 
 With `--config-settings library=FILE` the wheel has that libnrbpf.so.2 too. Then it is for Linux on x86-64 alone, and
-nothing else has to be installed. `local=WORD` adds a word to its version, as in 2.4.0+unproved, and `built=TEXT` a file
+nothing else has to be installed. `local=WORD` adds a word to its version, as in 2.5.0+unproved, and `built=TEXT` a file
 BUILT to what is said of the wheel."""
 
 from __future__ import annotations

@@ -15,6 +15,16 @@ TOP = Path(__file__).resolve().parents[3]
 FIVE = bytes.fromhex("b700000005000000 9500000000000000")  # replies 5
 NAMES_MAP_0 = bytes.fromhex("1851000000000000 0000000000000000 b700000000000000 9500000000000000")  # in its slot 0
 NOTHING_IN_R0 = bytes.fromhex("9500000000000000")
+# The first program puts all bytes of its argument but the first four under these four. The second replies the last
+# eight bytes of its own.
+LONG_ARGUMENTS = nrbpf.Manifest(
+    "map hash 4 16380 4\nprogram put update 16384 put\nprogram last read 16384 last\n",
+    {
+        "put": "bf12000000000000bf1300000000000007030000040000001851000000000000"
+        "0000000000000000b70400000000000085000000020000009500000000000000",
+        "last": "7910f83f000000009500000000000000",
+    },
+)
 T = TypeVar("T")
 
 

@@ -5,7 +5,7 @@ import threading
 import unittest
 
 import nrbpf
-from tests.fixture import FIVE, NAMES_MAP_0, counter, example, text_of, tried, u32
+from tests.fixture import FIVE, LONG_ARGUMENTS, NAMES_MAP_0, counter, example, text_of, tried, u32
 
 
 def run(name, spare=0, state=None):
@@ -111,6 +111,20 @@ class Reads(unittest.TestCase):
             self.assertEqual(tried(session, lambda: session.try_read_each(questions)), (2, [2, 0, 2**64 - 1]))
             self.assertEqual(session.read_each([]), (2, []))
             self.assertEqual(session.read_each([(peek, u32(1))] * 16), (2, [2] * 16))
+
+
+class LongArguments(unittest.TestCase):
+    def test_two_nodes(self):
+        argument = bytes((k + (k >> 8)) & 255 for k in range(16_384))
+        tail = int.from_bytes(argument[16_376:], "little")
+        with nrbpf.open(LONG_ARGUMENTS, nodes=2, slots=2, limits=nrbpf.LARGE) as store:
+            with store.attach(0) as one, store.attach(1) as other, store.attach_lane(0, 1) as lane:
+                self.assertEqual(one.update(0, argument), (0, 0))
+                self.assertEqual(other.get(0, argument[:4]), (1, argument[4:]))
+                self.assertEqual(other.read(1, argument), (1, tail))
+                self.assertEqual(lane.update_each([(0, argument)]), [(1, 0)])
+                self.assertEqual(other.read_each([(1, argument), (1, bytes(16_384))]), (2, [tail, 0]))
+                self.assertEqual(other.program_info(0).facts.argument_len, 16_384)
 
 
 class Facts(unittest.TestCase):

@@ -6,7 +6,7 @@ import warnings
 
 import nrbpf
 from nrbpf import Status
-from tests.fixture import FIVE, NAMES_MAP_0, NOTHING_IN_R0, counter, example, u32
+from tests.fixture import FIVE, LONG_ARGUMENTS, NAMES_MAP_0, NOTHING_IN_R0, counter, example, u32
 
 BUMP, PEEK = "examples/counter/bump.hex", "examples/counter/peek.hex"
 ARRAY = "map array 8 16\n"
@@ -53,10 +53,12 @@ class Openings(Refusals):
         for name, number in ((name, number) for name, numbers in outside.items() for number in numbers):
             with self.subTest(name, number=number):
                 self.refuses(Status.OUT_OF_LIMITS, nrbpf.open, example("counter"), **{name: number})
-        for limits in ({"key": 65}, {"value": 16_385}, {"entries": (1 << 31) + 1}, {"bytes": (1 << 40) + 1}):
+        wider = {"key": 65, "value": 16_385, "entries": (1 << 31) + 1, "bytes": (1 << 40) + 1, "argument": 16_385}
+        for limits in ({name: number} for name, number in wider.items()):
             with self.subTest(limits=limits):
                 self.refuses(Status.OUT_OF_LIMITS, nrbpf.open, example("counter"), limits=nrbpf.LARGE._replace(**limits))
-        for sizes in ({"nodes": -1}, {"limit": 1 << 32}, {"limits": nrbpf.Limits(key=0)}):
+        numbers = [nrbpf.Limits(key=0), nrbpf.Limits(argument=0), nrbpf.Limits(argument=1 << 32)]
+        for sizes in ({"nodes": -1}, {"limit": 1 << 32}, *({"limits": limits} for limits in numbers)):
             with self.assertRaises(ValueError):
                 nrbpf.open(example("counter"), **sizes)
 
@@ -70,6 +72,17 @@ class Openings(Refusals):
             self.assertEqual(session.get(0, bytes(4)), (0, bytes(16_384)))
             self.assertEqual([value for _, value in session.scan(0)], [bytes(16_384)] * 2)
         self.refuses(Status.BAD_LINE, nrbpf.open, nrbpf.Manifest("map hash 8 8 17\n", {}), limits=nrbpf.Limits(entries=16), line=1)
+
+    def test_limits_of_arguments(self):
+        def of(length):
+            return nrbpf.Manifest(f"{ARRAY}program long update {length} five\n", {"five": FIVE.hex()})
+
+        self.refuses(Status.BAD_LINE, nrbpf.open, of(65), line=2)
+        self.refuses(Status.BAD_LINE, nrbpf.open, of(16_384), line=2)
+        self.refuses(Status.BAD_LINE, nrbpf.open, of(16_385), limits=nrbpf.LARGE, line=2)
+        self.refuses(Status.BAD_LINE, nrbpf.open, of(9), limits=nrbpf.Limits(argument=8), line=2)
+        for length, limits in ((64, nrbpf.STANDARD), (16_384, nrbpf.LARGE), (8, nrbpf.Limits(argument=8))):
+            nrbpf.open(of(length), limits=limits).close()
 
     def test_states(self):
         with nrbpf.State.load(example("counter"), f"p read 0 {FIVE.hex()}\n".encode(), spare=1) as state:
@@ -126,10 +139,26 @@ class Calls(Refusals):
                         self.refuses(Status.UNKNOWN_PROGRAM, call, number, u32(3))
             self.assertEqual(session.read(peek, u32(3)), (0, 0))
 
+    def test_long_arguments(self):
+        """One byte more than the largest limits allow."""
+        right = bytes(16_384)
+        with nrbpf.open(LONG_ARGUMENTS, slots=2, limits=nrbpf.LARGE) as store:
+            with store.attach() as session, store.attach_lane(slots=1) as lane:
+                for length in (64, 192, 16_383, 16_385, 100_000):
+                    wrong = bytes(length)
+                    for call in (session.update, session.try_update):
+                        self.refuses(Status.ARGUMENT_LENGTH, call, 0, wrong)
+                    for call in (session.read, session.try_read):
+                        self.refuses(Status.ARGUMENT_LENGTH, call, 1, wrong)
+                    self.refuses(Status.ARGUMENT_LENGTH, lane.update_each, [(0, wrong)])
+                    self.refuses(Status.ARGUMENT_LENGTH, session.read_each, [(1, right), (1, wrong)], slot=1)
+                self.assertEqual(session.read(1, right), (0, 0))
+
     def test_installs(self):
         with counter(spare=1) as (_, session, _, peek):
             for call in (session.install, session.try_install):
                 self.refuses(Status.TOO_LARGE, call, nrbpf.Mode.UPDATE, 4, bytes(193))
+                self.refuses(Status.TOO_LARGE, call, nrbpf.Mode.UPDATE, 4, bytes(194))
                 self.refuses(Status.TOO_LARGE, call, nrbpf.Mode.READ, 65, FIVE)
                 self.refuses(Status.NOT_DECODED, call, nrbpf.Mode.READ, 0, b"", inner="D2")
                 opcode_13 = FIVE[:8] + b"\x0d" + bytes(7)

@@ -45,7 +45,7 @@ impl State {
         State::load_within(manifest, Limits::STANDARD, spare, dump)
     }
 
-    /// The same of a manifest that is read by these limits of maps.
+    /// The same of a manifest that is read by these limits.
     ///
     /// # Errors
     ///

@@ -10,7 +10,8 @@ use std::sync::Arc;
 /// No end of a history.
 pub const ENDLESS: u32 = 0;
 
-/// How large the maps of a manifest may be, of [`Limits::STANDARD`] or [`Limits::LARGE`]. A host that loads others' manifests may make them narrower.
+/// How large the maps of a manifest and the arguments of its programs may be, of [`Limits::STANDARD`] or [`Limits::LARGE`]. A host that loads others'
+/// manifests may make them narrower.
 #[derive(Clone, Copy, Debug, PartialEq, Eq, Hash)]
 #[non_exhaustive]
 pub struct Limits {
@@ -22,14 +23,16 @@ pub struct Limits {
     pub entries: u64,
     /// The most bytes of all maps, 1 to 2^40.
     pub bytes: u64,
+    /// The most bytes of an argument, 1 to 16,384.
+    pub argument: u32,
 }
 
 impl Limits {
-    /// Values of 256 bytes, maps of 65,536 entries, and 16 MiB of all maps.
-    pub const STANDARD: Limits = Limits { key: 64, value: 256, entries: 65_536, bytes: 16_777_216 };
+    /// Values of 256 bytes, maps of 65,536 entries, 16 MiB of all maps, and arguments of 64 bytes.
+    pub const STANDARD: Limits = Limits { key: 64, value: 256, entries: 65_536, bytes: 16_777_216, argument: 64 };
 
-    /// Values of 16,384 bytes, maps of 2^31 entries, and 2^40 bytes of all maps.
-    pub const LARGE: Limits = Limits { key: 64, value: 16_384, entries: 2_147_483_648, bytes: 1_099_511_627_776 };
+    /// Values of 16,384 bytes, maps of 2^31 entries, 2^40 bytes of all maps, and arguments of 16,384 bytes.
+    pub const LARGE: Limits = Limits { key: 64, value: 16_384, entries: 2_147_483_648, bytes: 1_099_511_627_776, argument: 16_384 };
 }
 
 /// The sizes of a store, of [`Config::new`]. A later version may have more of them, so no literal makes one:
@@ -50,7 +53,7 @@ pub struct Config {
     pub limit: u32,
     /// 0 to 4,096: the programs that may be installed later.
     pub spare: u32,
-    /// How large the maps of the manifest may be.
+    /// How large the maps of the manifest and the arguments of its programs may be.
     pub limits: Limits,
 }
 
@@ -78,7 +81,7 @@ impl Config {
         Config { spare, ..self }
     }
 
-    /// The same with other limits of maps.
+    /// The same with other limits of maps and arguments.
     #[must_use]
     pub const fn limits(self, limits: Limits) -> Config {
         Config { limits, ..self }
@@ -86,8 +89,8 @@ impl Config {
 
     pub(crate) fn told(self) -> sys::nrbpf_config {
         let Config { nodes, slots, window, limit, spare, limits } = self;
-        let Limits { key, value, entries, bytes } = limits;
-        let limits = sys::nrbpf_limits { key, value, entries, bytes };
+        let Limits { key, value, entries, bytes, argument } = limits;
+        let limits = sys::nrbpf_limits { key, value, entries, bytes, argument };
         let mut told = sys::nrbpf_config::default();
         // SAFETY: it writes what it is lent.
         unsafe { sys::nrbpf_config_init(&mut told, sys::NRBPF_VERSION, nodes, slots) };

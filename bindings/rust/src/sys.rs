@@ -1,10 +1,10 @@
-//! The functions and structs of `nrbpf.h`, version 2.3, as they stand there.
+//! The functions and structs of `nrbpf.h`, version 2.5, as they stand there.
 
 #![allow(missing_docs, non_camel_case_types)]
 
 use std::ffi::{c_char, c_int, c_void};
 
-pub const NRBPF_VERSION: u32 = 2_004;
+pub const NRBPF_VERSION: u32 = 2_005;
 pub const NRBPF_OK: u32 = 0;
 pub const NRBPF_BUSY: u32 = 1;
 pub const NRBPF_POSTED: u32 = 2;
@@ -48,6 +48,7 @@ pub struct nrbpf_limits {
     pub value: u32,
     pub entries: u64,
     pub bytes: u64,
+    pub argument: u32,
 }
 
 #[repr(C)]

@@ -2,7 +2,7 @@
 
 mod fixture;
 
-use fixture::{answer, counter, example, hex_of, key, BUMP, FIVE, NAMES_MAP_0, NOTHING_IN_R0, PEEK};
+use fixture::{answer, counter, example, hex_of, key, BUMP, FIVE, LAST_HEX, NAMES_MAP_0, NOTHING_IN_R0, PEEK, PUT_HEX};
 use nrbpf::{Config, Error, Limits, Manifest, Mode, Question, QuestionRefused, Session, State, Store};
 use std::mem;
 
@@ -66,6 +66,8 @@ fn sizes() {
     let good = Config::new(1, 1);
     let mut wider = Limits::LARGE;
     wider.entries += 1;
+    let mut longer = Limits::LARGE;
+    longer.argument += 1;
     let wrong = [
         Config::new(0, 1),
         Config::new(9, 1),
@@ -76,6 +78,7 @@ fn sizes() {
         good.window(1_048_577),
         good.spare(4_097),
         good.limits(wider),
+        good.limits(longer),
     ];
     for config in wrong {
         assert_eq!(Store::open(config, &example("counter")).err(), Some(Error::OutOfLimits), "{config:?}");
@@ -99,6 +102,48 @@ fn limits() {
     let manifest = Manifest::new("map hash 8 8 17\n");
     assert!(Store::open(good, &manifest).is_ok());
     assert!(Store::open(good.limits(narrow), &manifest).is_err());
+}
+
+#[test]
+fn limits_of_arguments() {
+    let good = Config::new(1, 1);
+    let with = |length: u32, limits| {
+        let manifest = Manifest::new(format!("{ARRAY}program long update {length} five\n")).file("five", hex_of(&FIVE));
+        Store::open(good.limits(limits), &manifest).err()
+    };
+    let mut narrow = Limits::STANDARD;
+    narrow.argument = 8;
+    for (length, limits) in [(64, Limits::STANDARD), (16_384, Limits::LARGE), (8, narrow)] {
+        assert_eq!(with(length, limits), None);
+    }
+    for (length, limits) in [(65, Limits::STANDARD), (16_384, Limits::STANDARD), (16_385, Limits::LARGE), (9, narrow)] {
+        assert_eq!(with(length, limits), Some(Error::BadLine { line: 2 }));
+    }
+}
+
+/// A node reads what another has put, and one byte more is refused.
+#[test]
+fn long_arguments() -> Result<(), Error> {
+    let text = "map hash 4 16380 4\nprogram put update 16384 put\nprogram last read 16384 last\n";
+    let manifest = Manifest::new(text).file("put", PUT_HEX).file("last", LAST_HEX);
+    let store = Store::open(Config::new(2, 2).limits(Limits::LARGE), &manifest)?;
+    let (mut one, mut other, mut lane) = (store.attach(0)?, store.attach(1)?, store.attach_lane(0, 1)?);
+    let longer: Vec<u8> = (0..16_385_u32).map(|k| (k + (k >> 8)) as u8).collect();
+    let argument = &longer[..16_384];
+    let tail = u64::from_le_bytes([55, 56, 57, 58, 59, 60, 61, 62]);
+    assert_eq!(one.update(0, argument)?, answer(0, 0));
+    assert_eq!(other.get(0, &argument[..4])?, Some(argument[4..].to_vec()));
+    assert_eq!(other.read(1, argument)?, answer(1, tail));
+    let (mut answers, mut replies) = ([Ok(answer(9, 9))], [9]);
+    lane.update_each(&[Question::new(0, argument)], &mut answers)?;
+    assert_eq!(answers, [Ok(answer(1, 0))]);
+    assert_eq!((other.read_each(&[Question::new(1, argument)], &mut replies)?, replies), (2, [tail]));
+    assert_eq!(one.update(0, &longer), Err(Error::ArgumentLength));
+    assert_eq!(one.try_update(0, &longer).err(), Some(Error::ArgumentLength));
+    assert_eq!(one.read(1, &longer), Err(Error::ArgumentLength));
+    let refused = Err(QuestionRefused { question: Some(0), why: Error::ArgumentLength });
+    assert_eq!(lane.update_each(&[Question::new(0, &longer)], &mut answers), refused);
+    Ok(())
 }
 
 #[test]

@@ -1,6 +1,8 @@
--- The slot that is in a place. No public clause cites this module.
-use Rattle.std.specs.Prelude.{ℕ, ◌+◌, Bool, List, [], ◌∷◌, Option, Some, None, if◌then◌else◌}
+-- The slot that is in a place, with long arguments among bytes. No public clause cites this module.
+use Rattle.std.specs.Prelude.{ℕ, suc, ◌+◌, ◌*◌, Bool, List, [], ◌∷◌, Option, Some, None, if◌then◌else◌}
+use Rattle.maps.specs.declared.shapes.TheConstants.{MOST_ARG_LEN}
 use Rattle.oplog.specs.Operations.{Operation}
+use Rattle.oplog.specs.Laid.{op_in, IsFrom, IsWithin}
 use Rattle.combiner.specs.declared.slots.Reply.{Reply}
 use Rattle.combiner.specs.declared.slots.Stage.{Stage}
 use Rattle.combiner.specs.declared.slots.Stage.TheVariants as stages
@@ -17,8 +19,17 @@ stage_in Posted op reply = stages.Posted op
 stage_in Claimed op reply = stages.Claimed
 stage_in Answered op reply = stages.Answered reply
 
-abbrev pub slot_in : Place → Slot
-slot_in p = slot (stage_in p.stage p.op p.reply) p.count
+abbrev pub slot_in : List ℕ → Place → Slot
+slot_in beside p = slot (stage_in p.stage (op_in beside p.op) p.reply) p.count
+
+-- the k-th place has its long argument in the k-th room among the first n bytes
+abbrev pub IsPlaced : ℕ → ℕ → Place → Type 0
+IsPlaced n k p = IsFrom (k * MOST_ARG_LEN) p.op × IsWithin n p.op
+
+-- so has each of these, the first of which is the k-th
+abbrev pub ArePlaced : ℕ → ℕ → List Place → Type 0
+ArePlaced n k [] = Unit {0}
+ArePlaced n k (p ∷ ps) = IsPlaced n k p × ArePlaced n (suc k) ps
 
 -- the slot once this operation is posted there, where it is empty
 abbrev pub posted_slot : Operation → Slot → Option Slot

@@ -1,65 +1,76 @@
 // The requests that a combiner claimed.
 
-ghost use Rattle.std.specs.Prelude.{◌≡◌, ◌<◌, ◌≤◌, [], ◌∷◌, ◌++◌, length, slice_get, slice_set, Some, None};
+ghost use Rattle.std.specs.Prelude.{◌≡◌, ◌<◌, ◌≤◌, [], ◌∷◌, ◌++◌, length, slice_get, slice_set, Some, None, IfOk};
+ghost use Rattle.maps.specs.declared.shapes.TheConstants.{MOST_ARG_LEN};
+ghost use Rattle.oplog.specs.Operations.{FitsIn};
 ghost use Rattle.combiner.specs.declared.slots.Reply.{Reply as TheReply};
 ghost use Rattle.combiner.specs.Desks.{BatchView};
 
 use crate::slots::Reply;
-use oplog::{Op, Record, Records};
+use maps::MOST_ARG_LEN;
+use oplog::{LaidRef, RecordList, Records};
+use std::alloc::{AllocError, Global};
 use std::marker::Model;
 
 /// The requests that a combiner claimed at its desk, by ascending slots, and the answer of each once it has one. It is lent to
 /// [`Desk::claim`](crate::Desk::claim), which fills it, and to [`Desk::reply`](crate::Desk::reply).
 #[derive(Drop)]
 pub struct Batch {
-    // The requests, and behind them whatever stood there before.
-    records: [Record; 16],
+    records: RecordList,
     answers: [Option<Reply>; 16],
     count: usize,
 }
 
 impl Model for Batch {
     ghost use Rattle.std.specs.Prelude.{◌≡◌, ◌≤◌, length, take};
+    ghost use Rattle.maps.specs.declared.shapes.TheConstants.{MOST_ARG_LEN};
     ghost use Rattle.combiner.specs.Desks.{BatchView};
 
     ghost Value = { BatchView };
 
-    ghost view = { λ b. record { records = take b.count b.records; answers = take b.count b.answers } };
+    ghost view = { λ b. record { records = b.records.records; answers = take b.count b.answers } };
 
-    ghost invariant = { λ b. (b.count ≤ 16) × (length b.records ≡ 16) × (length b.answers ≡ 16) };
+    ghost invariant = { λ b. (b.count ≤ 16)
+        × (length b.records.records ≡ b.count)
+        × (length b.answers ≡ 16)
+        × (b.records.room ≡ 16)
+        × (b.records.long ≡ MOST_ARG_LEN) };
 }
 
 impl Batch {
-    /// A batch without a request.
-    pub fn new() -> Batch
-        ensures empty { result ≡ record { records = []; answers = [] } }
+    /// A batch without a request. All its room is taken: no later call takes memory.
+    ///
+    /// # Errors
+    ///
+    /// The system has no memory left.
+    pub fn open(alloc: Global) -> Result<Batch, AllocError>
+        ensures empty { IfOk result (λ b. b ≡ record { records = []; answers = [] }) }
     {
-        Batch {
-            records: [Record::default(); 16],
+        let records = RecordList::open(alloc, 16, MOST_ARG_LEN)?;
+        Ok(Batch {
+            records,
             answers: [None; 16],
             count: 0,
-        }
+        })
     }
 
     // Takes all its requests out.
     pub(crate) fn clear(&mut self)
         ensures empty { self.new ≡ record { records = []; answers = [] } }
     {
+        self.records.clear();
         self.count = 0;
     }
 
-    // One more request, by its record's fields. It has no answer yet. They are written where an earlier record lies, since
-    // a whole record has the room of a program.
-    pub(crate) fn push(&mut self, author: u16, op: &Op, seq: u64)
+    // One more request, by its record's fields. It has no answer yet.
+    pub(crate) fn push(&mut self, author: u16, op: LaidRef<'_>, seq: u64)
         requires room { length self.old.records < 16 }
-        ensures records { self.new.records ≡ self.old.records ++ record { author = author; op = op.now; seq = seq } ∷ [] }
+        requires fits { FitsIn MOST_ARG_LEN op }
+        ensures records { self.new.records ≡ self.old.records ++ record { author = author; op = op.entry; seq = seq } ∷ [] }
         ensures answers { self.new.answers ≡ self.old.answers ++ None ∷ [] }
     {
         let k = self.count;
-        let here = &mut self.records[k];
-        here.author = author;
-        here.seq = seq;
-        here.op.assign(op);
+        self.records.push_laid(author, seq, op);
         self.answers[k] = None;
         self.count = k + 1;
     }
@@ -70,7 +81,7 @@ impl Batch {
         ensures few { length self.now.records ≤ 16 }
         ensures answers { length self.now.answers ≡ length self.now.records }
     {
-        Records::of(&self.records[..self.count])
+        self.records.lent()
     }
 
     /// Sets the answer of the `k`-th request, from 0.

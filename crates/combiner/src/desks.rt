@@ -1,6 +1,6 @@
 // The desk of a node.
 
-ghost use Rattle.std.specs.Prelude.{◌≡◌, suc, ◌+◌, ◌<◌, ◌≤◌, ◌^◌, true, length, slice_get, Some, None, OnOk, OnErr, MatchResult};
+ghost use Rattle.std.specs.Prelude.{◌≡◌, suc, ◌+◌, ◌<◌, ◌≤◌, ◌^◌, true, length, slice_get, Some, None, IfOk, OnOk, OnErr, MatchResult};
 ghost use Rattle.oplog.specs.declared.configuration.TheConstants.{MAX_NODES, MAX_NODE_SLOTS};
 ghost use Rattle.combiner.specs.declared.slots.Slot.{Slot as TheSlot};
 ghost use Rattle.combiner.specs.declared.slots.DeskRefused.TheVariants.{SlotBusy};
@@ -12,10 +12,12 @@ ghost use Rattle.combiner.specs.Answering.{answered_by, uses};
 use crate::batches::Batch;
 use crate::places::Place;
 use crate::slots::{DeskRefused, Reply, Slot};
+use maps::MOST_ARG_LEN;
 use oplog::OpRef;
+use std::alloc::{AllocError, Global};
 use std::marker::Model;
 
-/// The desk of a node: a slot for each of its sessions. It takes no memory but its own bytes.
+/// The desk of a node: a slot for each of its sessions. All its room is taken when it is opened: no later call takes memory.
 #[derive(Drop)]
 pub struct Desk {
     node: u16,
@@ -24,40 +26,51 @@ pub struct Desk {
     claimed_count: u16,
     count: usize,
     places: [Place; 16],
+    // Long arguments: the k-th place has the k-th room here, from the first call on that needs it.
+    beside: Vec<u8>,
 }
 
 impl Model for Desk {
-    ghost use Rattle.std.specs.Prelude.{◌≡◌, ◌<◌, ◌≤◌, take, map};
+    ghost use Rattle.std.specs.Prelude.{◌≡◌, ◌<◌, ◌≤◌, ◌*◌, length, take, map, vec_capacity};
+    ghost use Rattle.maps.specs.declared.shapes.TheConstants.{MOST_ARG_LEN};
     ghost use Rattle.oplog.specs.declared.configuration.TheConstants.{MAX_NODES, MAX_NODE_SLOTS};
     ghost use Rattle.combiner.specs.Desks.{DeskView};
 
     ghost Value = { DeskView };
 
     ghost use Rattle.combiner.specs.Slots.{is_posted, is_claimed};
-    ghost use Rattle.combiner.specs.Places.{slot_in, how_many};
+    ghost use Rattle.combiner.specs.Places.{slot_in, how_many, ArePlaced};
 
-    ghost view = { λ d. record { node = d.node; slots = map slot_in (take d.count d.places) } };
+    ghost view = { λ d. record { node = d.node; slots = map (slot_in d.beside.items) (take d.count d.places) } };
 
     ghost invariant = { λ d. (d.node < MAX_NODES)
         × (d.count ≤ MAX_NODE_SLOTS)
-        × (d.posted_count ≡ how_many is_posted (map slot_in (take d.count d.places)))
-        × (d.claimed_count ≡ how_many is_claimed (map slot_in (take d.count d.places))) };
+        × (d.posted_count ≡ how_many is_posted (map (slot_in d.beside.items) (take d.count d.places)))
+        × (d.claimed_count ≡ how_many is_claimed (map (slot_in d.beside.items) (take d.count d.places)))
+        × ArePlaced (length d.beside.items) 0 (take d.count d.places)
+        × (d.count * MOST_ARG_LEN ≤ vec_capacity d.beside) };
 }
 
 impl Desk {
     /// The desk of a node, with so many slots, none of which has a request.
-    pub fn new(node: u16, slots: usize) -> Desk
+    ///
+    /// # Errors
+    ///
+    /// The system has no memory left.
+    pub fn open(alloc: Global, node: u16, slots: usize) -> Result<Desk, AllocError>
         requires node { node < MAX_NODES }
         requires slots { slots ≤ MAX_NODE_SLOTS }
-        ensures opened { result ≡ opened_desk node slots }
+        ensures opened { IfOk result (λ d. d ≡ opened_desk node slots) }
     {
-        Desk {
+        let beside = Vec::with_capacity(alloc, slots * MOST_ARG_LEN)?;
+        Ok(Desk {
             node,
             posted_count: 0,
             claimed_count: 0,
             count: slots,
             places: [Place::default(); 16],
-        }
+            beside,
+        })
     }
 
     /// Posts an operation in a slot.
@@ -71,17 +84,17 @@ impl Desk {
         ensures same { OnErr result (self.new ≡ self.old) }
     {
         let places = &mut self.places[..self.count];
-        places[slot].post(op)?;
+        places[slot].post(op, &mut self.beside, slot * MOST_ARG_LEN)?;
         self.posted_count += 1;
         Ok(())
     }
 
     /// What stands in a slot.
-    pub fn slot(&self, slot: usize) -> Slot
+    pub fn slot(&self, slot: usize) -> Slot<'_>
         requires slot { slot < length self.now.slots }
         ensures slot { slice_get self.now.slots slot ≡ Some result }
     {
-        self.places[..self.count][slot].slot()
+        self.places[..self.count][slot].slot(&self.beside)
     }
 
     /// Whether a combiner is at work: it has claimed a batch, and has not replied.
@@ -169,7 +182,7 @@ impl Desk {
     {
         let author = self.author(slot);
         let places = &mut self.places[..self.count];
-        let claimed = places[slot].claim(author, batch);
+        let claimed = places[slot].claim(author, &self.beside, batch);
         self.posted_count -= claimed;
         self.claimed_count += claimed;
     }

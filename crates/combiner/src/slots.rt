@@ -4,7 +4,7 @@ ghost use Rattle.std.specs.Prelude.{◌≡◌};
 ghost use Rattle.combiner.specs.declared.slots.Stage.TheVariants.{Empty};
 ghost use Rattle.combiner.specs.Slots.{slot, refusal_number};
 
-use oplog::Op;
+use oplog::OpRef;
 use thiserror::Error;
 
 /// What became of an update.
@@ -22,12 +22,12 @@ pub enum Reply {
 }
 
 /// Where the request of a slot is.
-#[derive(Clone, Copy)]
-pub enum Stage {
+#[derive(Drop)]
+pub enum Stage<'a> {
     /// The slot has no request.
     Empty,
     /// The request waits for a combiner.
-    Posted(Op),
+    Posted(OpRef<'a>),
     /// A combiner has it in its batch.
     Claimed,
     /// The request is answered, and the answer waits for the session that asked.
@@ -35,17 +35,17 @@ pub enum Stage {
 }
 
 /// A slot of a desk: one session's request at a time.
-#[derive(Clone, Copy)]
-pub struct Slot {
+#[derive(Drop)]
+pub struct Slot<'a> {
     /// Where its request is.
-    pub stage: Stage,
+    pub stage: Stage<'a>,
     /// How many answers with an index were collected here: the number of its next record among the session's.
     pub count: u64,
 }
 
-impl Default for Slot {
+impl Default for Slot<'_> {
     /// A slot without a request, at which no answer was collected.
-    fn default() -> Slot
+    fn default() -> Self
         ensures empty { result ≡ slot Empty 0 }
     {
         Slot {

@@ -238,9 +238,9 @@ program_fits shapes c good =
     let bytes = slot_bytes_length (program_slots c.program) in
     let slots = size_is c.program in
     let some = good.accepted.typable.0.size_good.some in
-    let short = good.short in
+    let short = good.short.slots in
     record {
-      argument = good.accepted.argument;
+      argument = good.short.argument;
       bytes = at_each (program_bytes c.program) (program_are_bytes c.program good.accepted.instructions);
       some = omega (arith, bytes, slots, some);
       few = omega (arith, bytes, slots, short);

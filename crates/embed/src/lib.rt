@@ -187,14 +187,14 @@ pub unsafe extern "C" fn nrbpf_raw_drop_state(at: *mut u8)
     drop_state(&mut *(at as *mut StateHandle));
 }
 
-/// Makes the call that the session's words ask for.
+/// Makes the call that the session's words ask for. `bytes` are the argument, or the program to be installed.
 #[unsafe(no_mangle)]
-pub unsafe extern "C" fn nrbpf_raw_call(at: *mut u8)
+pub unsafe extern "C" fn nrbpf_raw_call(at: *mut u8, bytes: &[u8])
     ghost value: { SessionHandle }
     requires* { sem 𝓛 (holds_session at value) }
-    ensures* { ∃ₛ (λ after. sem 𝓛 (holds_session at after) ∗ ⌜ Goes value after ⌝) }
+    ensures* { ∃ₛ (λ after. sem 𝓛 (holds_session at after) ∗ ⌜ Goes bytes.now value after ⌝) }
 {
-    call(&mut *(at as *mut SessionHandle));
+    call(&mut *(at as *mut SessionHandle), bytes);
 }
 
 /// Writes the handle of a lane without sessions. It has none where there is no memory.

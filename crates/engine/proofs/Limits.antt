@@ -7,5 +7,5 @@ use Rattle.engine.specs.Reading.{limits_of}
 
 -- none is wider than the widest
 pub are_limits : (z : MapSizes) → AreLimits (limits_of z)
-are_limits Standard = record { key = (omega arith, omega arith); value = omega arith; entries = omega arith; bytes = omega arith }
-are_limits Large = record { key = (omega arith, omega arith); value = omega arith; entries = omega arith; bytes = omega arith }
+are_limits Standard = record { key = (omega arith, omega arith); value = omega arith; entries = omega arith; bytes = omega arith; argument = omega arith }
+are_limits Large = record { key = (omega arith, omega arith); value = omega arith; entries = omega arith; bytes = omega arith; argument = omega arith }

@@ -4,6 +4,7 @@ use Rattle.std.specs.Str.{is_utf8}
 use Rattle.std.specs.List.{find}
 use Rattle.maps.specs.declared.shapes.MapLimits.{MapLimits}
 use Rattle.maps.specs.Shapes.{standard, widest}
+use Rattle.engine.specs.declared.reading.TheConstants.{LINE_ARG_LEN}
 use Rattle.loader.specs.Loading.{Outcome, loaded_within}
 use Rattle.loader.specs.NamedFiles.{named_in}
 use Rattle.loader.specs.ProgramFiles.{Files}
@@ -71,10 +72,10 @@ read g =
     if is_some (first_stranger g) then None
     else Some (record { sizes = g.sizes; manifest = g.manifest; files = files_in g; file = g.file; state = g.state; history = g.history })
 
--- the limits of the maps that a manifest names
+-- the limits of the maps and the arguments that a manifest names: a line has room for so many bytes of an argument
 abbrev pub limits_of : MapSizes → MapLimits
 limits_of Standard = standard
-limits_of Large = widest
+limits_of Large = record widest { argument = LINE_ARG_LEN }
 
 -- the catalogue that the manifest and its files say
 abbrev pub loaded_by : TextsRead → Outcome

@@ -12,6 +12,7 @@ ghost use Rattle.engine.specs.Unread.{AreRead, FailsAs, FoundAs, Gathered, IfUnr
 
 use crate::transfer::{ReadFault, Source};
 use loader::named_files;
+use insn::MAX_INSTALLED_SLOTS;
 use maps::MapLimits;
 use std::alloc::{AllocError, AllocFailed, Global};
 
@@ -33,24 +34,30 @@ pub trait Folder {
         ensures could { IfSome result (λ f. Self.File.can_fail f → can_fail self.now name.now) };
 }
 
-/// How large the maps may be that a manifest names.
+/// The most bytes of an argument that a line has room for: as many as a program has that a line installs.
+pub const LINE_ARG_LEN: usize = 8 * MAX_INSTALLED_SLOTS;
+
+/// How large the maps and the arguments may be that a manifest names.
 #[derive(Clone, Copy, PartialEq, Eq, Debug)]
 pub enum MapSizes {
     /// As large as [`MapLimits::standard`] says.
     Standard,
-    /// As large as [`MapLimits::widest`] says.
+    /// As large as [`MapLimits::widest`] says, but that arguments have at most [`LINE_ARG_LEN`] bytes.
     Large,
 }
 
 impl MapSizes {
-    /// The limits of each map and of all maps.
+    /// The limits of each map, of all maps, and of arguments.
     pub fn limits(self) -> MapLimits
         ensures limits { result ≡ limits_of self }
         ensures supported { AreLimits result }
     {
         match self {
             MapSizes::Standard => MapLimits::standard(),
-            MapSizes::Large => MapLimits::widest(),
+            MapSizes::Large => MapLimits {
+                argument: LINE_ARG_LEN as u32,
+                ..MapLimits::widest()
+            },
         }
     }
 }

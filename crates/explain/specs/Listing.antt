@@ -7,7 +7,7 @@ use Rattle.insn.specs.Layout.{slot_count, size}
 use Rattle.asm.specs.Text.{line_text}
 use Rattle.maps.specs.declared.shapes.Shape.{Shape}
 use Rattle.maps.specs.Shapes.{AreShapesSupported}
-use Rattle.maps.specs.declared.shapes.TheConstants.{MAX_ARG_LEN}
+use Rattle.maps.specs.declared.shapes.TheConstants.{MOST_ARG_LEN}
 use Rattle.verifier.specs.declared.refusal.Refused.{Refused}
 use Rattle.verifier.specs.declared.refusal.VerifyFault.{VerifyFault}
 use Rattle.verifier.specs.Numbers.{fault_number}
@@ -150,12 +150,12 @@ verdict_on s = verdict s.program.now (signature_of s)
 -- a store may have such maps, and such an argument
 pub record FitsStore (s : Subject) : Type 0 where
   pub shapes : AreShapesSupported s.shapes.now
-  pub argument : s.arg_len ≤ MAX_ARG_LEN
+  pub argument : s.arg_len ≤ MOST_ARG_LEN
 
 -- and the program has at most 4,096 slots
 pub record CanBeJudged (s : Subject) : Type 0 where
   pub shapes : AreShapesSupported s.shapes.now
-  pub argument : s.arg_len ≤ MAX_ARG_LEN
+  pub argument : s.arg_len ≤ MOST_ARG_LEN
   pub few : size s.program.now ≤ MAX_SLOTS
 
 -- what is told of a program

@@ -4,7 +4,7 @@ ghost use Rattle.std.specs.Prelude.{◌≡◌, ◌↔◌, ◌<◌, ◌≤◌, �
 ghost use Rattle.insn.specs.declared.instruction.TheConstants.{MAX_SLOTS};
 ghost use Rattle.insn.specs.Layout.{size, LeadsTo};
 ghost use Rattle.maps.specs.Shapes.{AreShapesSupported};
-ghost use Rattle.maps.specs.declared.shapes.TheConstants.{MAX_ARG_LEN};
+ghost use Rattle.maps.specs.declared.shapes.TheConstants.{MOST_ARG_LEN};
 ghost use Rattle.verifier.specs.Joined.{frame_in, leads};
 ghost use Rattle.explain.specs.Listing.{verdict_on, FitsStore};
 ghost use Rattle.explain.specs.Slots.{byte_in, cell_in, kind_in, line_above, slots_into};
@@ -19,7 +19,7 @@ use helpers::Helper;
 use insn::Operation::Mov;
 use insn::{Condition, Edge, Form, Insn, MAX_SLOTS, Source};
 pub use listing::{explain_program, explain_refusal};
-use maps::{MAX_ARG_LEN, MapLimits, Shape, ShapeFault, shapes_within};
+use maps::{MOST_ARG_LEN, MapLimits, Shape, ShapeFault, shapes_within};
 use regkind::{Cell, Frame, Kind};
 use std::alloc::{AllocError, Global};
 use verifier::{Explained, Mode, Signature, explain, frame_on_edge};
@@ -204,14 +204,14 @@ fn shapes_supported(shapes: &[Shape]) -> Result<(), ShapeFault>
 impl<'a> Study<'a> {
     // What is known of a program; nothing where no store has such maps or arguments.
     pub(crate) fn of(alloc: Global, subject: Subject<'a>) -> Result<Option<Study<'a>>, AllocError>
-        ensures some { AreShapesSupported subject.entry.shapes.now → subject.entry.arg_len ≤ MAX_ARG_LEN → IfOk result IsSome }
+        ensures some { AreShapesSupported subject.entry.shapes.now → subject.entry.arg_len ≤ MOST_ARG_LEN → IfOk result IsSome }
         ensures none { (FitsStore subject.entry → ⊥) → IfOk result (λ o. o ≡ None) }
         ensures same { IfOk result (λ o. IfSome o (λ s. s.subject ≡ subject.entry)) }
         ensures refused { IfOk result (λ o. IfSome o (λ s. s.known.refused ≡ verdict_on subject.entry)) }
         ensures known { IfOk result (λ o. IfSome o IsStudy) }
     {
         let (program, shapes, arg_len) = (subject.program, subject.shapes, subject.arg_len);
-        if shapes_supported(shapes).is_err() || arg_len > MAX_ARG_LEN {
+        if shapes_supported(shapes).is_err() || arg_len > MOST_ARG_LEN {
             return Ok(None);
         }
         let known = explain(alloc, program, shapes, arg_len, subject.mode)?;
@@ -293,7 +293,7 @@ impl<'a> Study<'a> {
         let insn = *self.begins.get(step.from)?;
         let before = self.frame_at(step.from)?;
         let (shapes, arg_len) = (self.subject.shapes, self.subject.arg_len);
-        if shapes_supported(shapes).is_err() || arg_len > MAX_ARG_LEN {
+        if shapes_supported(shapes).is_err() || arg_len > MOST_ARG_LEN {
             return None;
         }
         let signature = Signature::new(shapes, arg_len, self.subject.mode);

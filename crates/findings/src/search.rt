@@ -6,7 +6,7 @@ ghost use Rattle.std.specs.Option.{option_or};
 ghost use Rattle.insn.specs.declared.instruction.TheConstants.{MAX_SLOTS};
 ghost use Rattle.insn.specs.Layout.{size};
 ghost use Rattle.maps.specs.Shapes.{AreLimits, IsShapeWithin};
-ghost use Rattle.maps.specs.declared.shapes.TheConstants.{MAX_ARG_LEN};
+ghost use Rattle.maps.specs.declared.shapes.TheConstants.{MOST_ARG_LEN};
 ghost use Rattle.loader.specs.declared.refusals.LoadFault.TheVariants.{BadLine};
 ghost use Rattle.loader.specs.Grammar.{Map, Program, line_meaning};
 ghost use Rattle.loader.specs.LineShown.{program_of};
@@ -168,7 +168,7 @@ impl<'a> Search<'a> {
     ) -> Added
         requires within { IsWithin self.now.limits (above_of self.now) }
         requires map { has_map (above_of self.now) ≡ true }
-        requires argument { line.arg_len ≤ MAX_ARG_LEN }
+        requires argument { line.arg_len ≤ MOST_ARG_LEN }
         requires few { size program.now ≤ MAX_SLOTS }
         ensures { OnOk result (Finds found.old found.new (of_judged self.now line.entry program.now)) }
     {
@@ -199,7 +199,7 @@ impl<'a> Search<'a> {
     // Adds what is wrong with the program of the line or with its file, if a map is above.
     fn add_file(&self, found: &mut Vec<Finding<'a>>, line: ProgramLine<'a>) -> Added
         requires within { IsWithin self.now.limits (above_of self.now) }
-        requires argument { line.arg_len ≤ MAX_ARG_LEN }
+        requires argument { line.arg_len ≤ MOST_ARG_LEN }
         ensures { OnOk result (Finds found.old found.new (of_file self.now line.entry)) }
     {
         if !self.has_map() {
@@ -224,7 +224,7 @@ impl<'a> Search<'a> {
     // Adds all that is wrong with the line of a program, if it is asked for.
     fn add_asked(&self, found: &mut Vec<Finding<'a>>, line: ProgramLine<'a>) -> Added
         requires within { IsWithin self.now.limits (above_of self.now) }
-        requires argument { line.arg_len ≤ MAX_ARG_LEN }
+        requires argument { line.arg_len ≤ MOST_ARG_LEN }
         ensures { OnOk result (Finds found.old found.new (of_named self.now (program_of line.entry))) }
     {
         if !self.is_asked(line) {
@@ -243,7 +243,7 @@ impl<'a> Search<'a> {
     // Takes the line of a program. Its name is taken from then on.
     fn take_program(&mut self, found: &mut Vec<Finding<'a>>, program: ProgramLine<'a>) -> Added
         requires within { IsWithin self.old.limits (above_of self.old) }
-        requires argument { program.arg_len ≤ MAX_ARG_LEN }
+        requires argument { program.arg_len ≤ MOST_ARG_LEN }
         ensures { (line : List ℕ) → OnOk result (TakesNext line (Some (Program (program_of program.entry))) self.old self.new found.old.items found.new.items) }
     {
         self.add_asked(found, program)?;

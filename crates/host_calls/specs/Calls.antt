@@ -1,5 +1,5 @@
 -- What the words of a session's handle ask, and what is answered there.
-use Rattle.std.specs.Prelude.{◌≡◌, ℕ, List, None, Some, Option, MatchOption, take, if◌then◌else◌, ◌==◌, nat_le}
+use Rattle.std.specs.Prelude.{◌≡◌, ℕ, List, None, Some, Option, MatchOption, if◌then◌else◌, ◌==◌}
 use Rattle.oplog.specs.Operations.{Operation}
 use Rattle.insn.specs.Refusal.{fault_number as decode_number}
 use Rattle.verifier.specs.Numbers.{fault_number as verify_number}
@@ -16,7 +16,6 @@ use Rattle.host_calls.specs.declared.attached.CallResult.TheVariants.{Busy, Agai
 use Rattle.host_calls.specs.declared.handles.Asked.{Asked}
 use Rattle.host_calls.specs.declared.handles.Answered.{Answered}
 use Rattle.host_calls.specs.declared.handles.SessionHandle.{SessionHandle}
-use Rattle.host_calls.specs.declared.handles.TheConstants.{CALL_ROOM}
 use Rattle.host_calls.specs.Statuses.{again, busy, done, is_out, no_word, not_open, refusal, letter_D, letter_S, letter_V}
 use Rattle.host_calls.specs.CallResults.{TellsPost, TellsReading, TellsUpdate}
 use Rattle.host_calls.specs.Views.{AttachedView, IsSame}
@@ -55,8 +54,9 @@ asks_check store program argument = Checks (early_refusal store.catalogue Update
 abbrev pub asks_confined : StoreView → Asked → List ℕ → Asks
 asks_confined store a bytes = if a.mode == 0 then asks_within store a.program Update a.argument bytes else if a.mode == 1 then asks_within store a.program Read a.argument bytes else Nothing
 
-abbrev pub asks_of : StoreView → Asked → List ℕ → Asks
-asks_of store a bytes =
+-- by the words, with these bytes
+abbrev pub asks : StoreView → Asked → List ℕ → Asks
+asks store a bytes =
     if a.call == 0 then asks_update store a.program bytes
     else if a.call == 1 then asks_read store a.program bytes
     else if a.call == 2 then (if a.mode == 0 then asks_install store Update a.argument bytes else if a.mode == 1 then asks_install store Read a.argument bytes else Nothing)
@@ -64,10 +64,6 @@ asks_of store a bytes =
     else if a.call == 4 then asks_post store a.program bytes
     else if a.call == 5 then asks_check store a.program bytes
     else Nothing
-
--- by the words, whose bytes have room for so many
-abbrev pub asks : StoreView → Asked → Asks
-asks store a = if nat_le a.length CALL_ROOM then asks_of store a (take a.length a.bytes) else Nothing
 
 -- ---- what is told
 
@@ -83,9 +79,9 @@ TellsCall (Posts op refused) old new told = TellsPost op refused old new told
 TellsCall (Checks refused) old new told = (told ≡ check_result refused) × (new ≡ old)
 TellsCall Nothing old new told = (told ≡ NoWord) × (new ≡ old)
 
-pub record TellsAttached (a : Asked) (old new : AttachedView) (told : CallResult) : Type 0 where
+pub record TellsAttached (a : Asked) (bytes : List ℕ) (old new : AttachedView) (told : CallResult) : Type 0 where
   pub same : IsSame old new
-  pub tells : TellsCall (asks old.store a) old.session new.session told
+  pub tells : TellsCall (asks old.store a bytes) old.session new.session told
 
 -- ---- what is written
 
@@ -124,12 +120,12 @@ written before told = record {
 -- ---- a call
 
 -- on a closed handle it says so; else the session goes on as it tells, and the handle stays open
-abbrev pub TellsHandle : (before after : SessionHandle) → CallResult → Type 0
-TellsHandle before after told =
-    MatchOption before.own ((told ≡ NotOpen) × (after.own ≡ None)) (λ b. MatchOption after.own ⊥ (λ b'. TellsAttached before.asked b b' told))
+abbrev pub TellsHandle : (bytes : List ℕ) (before after : SessionHandle) → CallResult → Type 0
+TellsHandle bytes before after told =
+    MatchOption before.own ((told ≡ NotOpen) × (after.own ≡ None)) (λ b. MatchOption after.own ⊥ (λ b'. TellsAttached before.asked bytes b b' told))
 
-pub record Goes (before after : SessionHandle) : Type 0 where
+pub record Goes (bytes : List ℕ) (before after : SessionHandle) : Type 0 where
   pub asked : after.asked ≡ before.asked
   pub told : CallResult
   pub written : after.answered ≡ written before.answered told
-  pub tells : TellsHandle before after told
+  pub tells : TellsHandle bytes before after told

@@ -115,7 +115,7 @@ IsReason o on (Opening OutOfLimits) = AreTexts o × (AreSizes (sizes_asked o) �
 IsReason o on (Opening NoMemory) = Unit {0}
 IsReason o on (Opening OtherState) = AreSizes (sizes_asked o) × ((c : CatalogueView) × Says o c × IsOther (with_places c o.spare) on)
 
--- it says something of the limits of maps or the texts, and not of the sizes or the state
+-- it says something of the limits or the texts, and not of the sizes or the state
 abbrev pub IsOfTexts : NotOpened → Type 0
 IsOfTexts BadLimits = Unit {0}
 IsOfTexts NoText = Unit {0}

@@ -1,11 +1,11 @@
-// The words of a session's handle: which call they ask for, and what is answered there.
+// A call on a session: the words of its handle ask for it, and what it answers is written there. The bytes of the call are lent.
 
 ghost use Rattle.std.specs.Prelude.{◌≡◌};
 ghost use Rattle.host_calls.specs.Calls.{Goes, TellsAttached, TellsCall, asks_confined, inner_of, status_of, written};
 ghost use Rattle.host_calls.specs.Views.{IsSame};
 
 use crate::attached::{Attached, CallResult};
-use crate::handles::{Answered, Asked, CALL_ROOM, SessionHandle};
+use crate::handles::{Answered, Asked, SessionHandle};
 use crate::statuses::{AGAIN, BUSY, DONE, IS_OUT, NO_WORD, NOT_OPEN, refusal};
 use store::{Mode, StoreRefused};
 
@@ -75,14 +75,10 @@ fn tell_within(attached: &mut Attached, asked: &Asked, bytes: &[u8]) -> CallResu
     }
 }
 
-// Makes the call that the words ask for.
-fn tell(attached: &mut Attached, asked: &Asked) -> CallResult
-    ensures tells { TellsAttached asked.now attached.old attached.new result }
+// Makes the call that the words ask for, with these bytes.
+fn tell(attached: &mut Attached, asked: &Asked, bytes: &[u8]) -> CallResult
+    ensures tells { TellsAttached asked.now bytes.now attached.old attached.new result }
 {
-    if asked.length > CALL_ROOM as u64 {
-        return CallResult::NoWord;
-    }
-    let bytes = &asked.bytes[..asked.length as usize];
     match asked.call {
         UPDATE => attached.update(asked.program, bytes),
         READ => attached.read(asked.program, bytes),
@@ -112,9 +108,9 @@ fn write(answered: &mut Answered, told: CallResult)
     }
 }
 
-/// Makes the call that the words ask for, and answers there.
-pub fn call(handle: &mut SessionHandle)
-    ensures goes { Goes handle.old handle.new }
+/// Makes the call that the words ask for, and answers there. `bytes` are the argument, or the program to be installed.
+pub fn call(handle: &mut SessionHandle, bytes: &[u8])
+    ensures goes { Goes bytes.now handle.old handle.new }
 {
     let SessionHandle {
         own,
@@ -123,7 +119,7 @@ pub fn call(handle: &mut SessionHandle)
     } = handle;
     let told = match own {
         None => CallResult::NotOpen,
-        Some(attached) => tell(attached, asked),
+        Some(attached) => tell(attached, asked, bytes),
     };
     write(answered, told);
 }

@@ -11,9 +11,6 @@ use store::{MapLimits, StoreState};
 /// How many bytes the name of a program may have.
 pub const NAME_ROOM: usize = 32;
 
-/// How many bytes a call may have: those of an argument, or of a program to be installed.
-pub const CALL_ROOM: usize = 192;
-
 /// How many reads may be asked at once.
 pub const MOST_ASKED: usize = 16;
 
@@ -46,7 +43,7 @@ pub struct Opening<'a> {
     pub limit: u32,
     /// Programs that may be installed.
     pub spare: u32,
-    /// How large the maps of the manifest may be.
+    /// How large the maps of the manifest and the arguments of its programs may be.
     pub limits: MapLimits,
 }
 
@@ -102,10 +99,6 @@ pub struct Asked {
     pub mode: u64,
     /// An install: how many bytes the program's arguments have.
     pub argument: u64,
-    /// How many bytes there are.
-    pub length: u64,
-    /// The argument, or the program to be installed.
-    pub bytes: [u8; CALL_ROOM],
 }
 
 /// What is answered there.
@@ -337,8 +330,6 @@ impl SessionHandle {
             program: 0,
             mode: 0,
             argument: 0,
-            length: 0,
-            bytes: [0; CALL_ROOM],
         };
         let answered = Answered {
             status,

@@ -14,7 +14,7 @@ use store::StoreState;
 /// Why a text is not loaded as a state.
 #[derive(Clone, Copy)]
 pub enum NotLoaded {
-    // The limits of maps are wider than the widest, or too narrow for an array's index.
+    // The limits are wider than the widest, or too narrow for an array's index.
     BadLimits,
     // A text is not UTF-8.
     NoText,

@@ -27,7 +27,7 @@ use store::{
 /// Why a store is not opened.
 #[derive(Clone, Copy)]
 pub enum NotOpened {
-    // The limits of maps are wider than the widest, or too narrow for an array's index.
+    // The limits are wider than the widest, or too narrow for an array's index.
     BadLimits,
     // A text is not UTF-8.
     NoText,

@@ -12,7 +12,7 @@ use Rattle.maps.specs.declared.shapes.Shape.{Shape}
 use Rattle.maps.specs.Shapes.{AreShapesSupported}
 use Rattle.verifier.specs.declared.refusal.Mode.{Mode}
 use Rattle.verifier.specs.declared.refusal.Refused.{Refused}
-use Rattle.maps.specs.declared.shapes.TheConstants.{MAX_ARG_LEN}
+use Rattle.maps.specs.declared.shapes.TheConstants.{MOST_ARG_LEN}
 use Rattle.verifier.specs.Signature.{signature}
 use Rattle.verifier.specs.Typing.{IsTypable}
 use Rattle.verifier.specs.Verdict.{verdict}
@@ -130,7 +130,7 @@ entries_to fs shapes (l ∷ ls) [] h = absurd h
 entries_to fs shapes (l ∷ ls) (e ∷ es) h = ap₂ ◌∷◌ (entry_to fs shapes l e h.0) (entries_to fs shapes ls es h.1)
 
 -- what is an entry for good maps and an argument within its limit was accepted
-pub entry_accepted : (fs : Files) (shapes : List Shape) (line : ProgramLine) (e : Entry) → AreShapesSupported shapes → line.arg_len ≤ MAX_ARG_LEN → IsEntryFor fs shapes line e → IsAccepted e.checked
+pub entry_accepted : (fs : Files) (shapes : List Shape) (line : ProgramLine) (e : Entry) → AreShapesSupported shapes → line.arg_len ≤ MOST_ARG_LEN → IsEntryFor fs shapes line e → IsAccepted e.checked
 entry_accepted fs shapes line e good fits k =
     subst IsAccepted (sym k.checked_for)
     (record { typable = k.typable; instructions = k.spelled.each; shapes = good; argument = fits })

@@ -35,8 +35,8 @@ pub short_and_accepted : (p : List Form) (shapes : List Shape) (n : ℕ) (mode :
     → IsTypable p (signature shapes n mode) → c ≡ checked p shapes n mode → (c.shapes ≡ shapes) × IsAccepted c × IsShort c
 short_and_accepted p shapes n mode c each few ok argument typable same = (
   ap (λ (x : Checked). x.shapes) same,
-  subst IsAccepted (sym same) (record { typable = typable; instructions = each; shapes = ok; argument = argument }),
-  subst IsShort (sym same) few,
+  subst IsAccepted (sym same) (record { typable = typable; instructions = each; shapes = ok; argument = omega (arith, argument) }),
+  subst IsShort (sym same) (record { slots = few; argument = argument }),
 )
 
 -- what holds of each of some and of one more holds of each of all

@@ -9,7 +9,6 @@ use Rattle.maps.specs.declared.shapes.Shape.TheVariants.{Array, Hash}
 use Rattle.verifier.specs.declared.refusal.Mode.{Mode}
 use Rattle.verifier.specs.declared.refusal.Mode.TheVariants.{Update, Read}
 use Rattle.text.specs.Fields.{split_at_space}
-use Rattle.maps.specs.declared.shapes.TheConstants.{MAX_ARG_LEN}
 use Rattle.maps.specs.Shapes.{AreLimits}
 use Rattle.text.specs.Words.{IsFrom, number_within, is_name_byte, is_name}
 use Rattle.text.specs.declared.lines.TheConstants.{LINE_BYTES}
@@ -82,24 +81,25 @@ map_to l word rest x plain is =
 abbrev pub fields : ProgramLine → List ℕ
 fields p = p.name ++ 32 ∷ (mode_word p.mode ++ 32 ∷ (decimal p.arg_len ++ 32 ∷ p.file))
 
-fields_to : (p : ProgramLine) → is_name p.name ≡ true → p.arg_len ≤ MAX_ARG_LEN → is_path p.file ≡ true → program_meaning (fields p) ≡ Some (Program p)
+fields_to : (l : MapLimits) (p : ProgramLine) → AreLimits l → is_name p.name ≡ true → p.arg_len ≤ l.argument → is_path p.file ≡ true → program_meaning l (fields p) ≡ Some (Program p)
 unfolding program_meaning
-fields_to p name len path =
+fields_to l p ok name len path =
+    let most = ok.argument in
     rw (
       split_to p.name (mode_word p.mode ++ 32 ∷ (decimal p.arg_len ++ 32 ∷ p.file)) (no_space_in_name p.name name),
       split_to (mode_word p.mode) (decimal p.arg_len ++ 32 ∷ p.file) (no_space_in_mode p.mode),
-      split_to (decimal p.arg_len) p.file (no_space_in_number p.arg_len (omega (arith, len))),
+      split_to (decimal p.arg_len) p.file (no_space_in_number p.arg_len (omega (arith, len, most))),
       mode_to p.mode,
-      within 0 MAX_ARG_LEN p.arg_len (omega arith, len) (omega arith),
+      within 0 l.argument p.arg_len (omega arith, len) (omega (arith, most)),
       name,
       path,
     ) refl
 
-program_to : (l : MapLimits) (p : ProgramLine) → is_name p.name ≡ true → p.arg_len ≤ MAX_ARG_LEN → is_path p.file ≡ true → words_meaning l (codes "program " ++ fields p) ≡ Some (Program p)
+program_to : (l : MapLimits) (p : ProgramLine) → AreLimits l → is_name p.name ≡ true → p.arg_len ≤ l.argument → is_path p.file ≡ true → words_meaning l (codes "program " ++ fields p) ≡ Some (Program p)
 unfolding words_meaning words_of
-program_to l p name len path =
+program_to l p ok name len path =
     let first : split_at_space (codes "program" ++ 32 ∷ fields p) ≡ Some (codes "program", fields p) = split_to (codes "program") _ refl in
-    rw first (fields_to p name len path)
+    rw first (fields_to l p ok name len path)
 
 of_words : (l : MapLimits) (c : ℕ) (cs : List ℕ) (x : Meaning) → length (c ∷ cs) ≤ LINE_BYTES → eqb c 35 ≡ false → words_meaning l (c ∷ cs) ≡ Some x → line_meaning l (c ∷ cs) ≡ Some x
 unfolding line_meaning
@@ -121,4 +121,4 @@ respelled l line (Map (Array v e)) ok le h =
 respelled l line (Map (Hash k v e)) ok le h =
     subst (λ y. length y ≤ LINE_BYTES → line_meaning l y ≡ Some (Map (Hash k v e))) (sym h.0) (λ s. of_words l _ _ _ s refl (map_to l (codes "hash") _ _ refl (hash_to l k v e h.1 h.2 h.3 ok))) le
 respelled l line (Program p) ok le h =
-    subst (λ y. length y ≤ LINE_BYTES → line_meaning l y ≡ Some (Program p)) (sym h.0) (λ s. of_words l _ _ _ s refl (program_to l p h.1 h.2 h.3)) le
+    subst (λ y. length y ≤ LINE_BYTES → line_meaning l y ≡ Some (Program p)) (sym h.0) (λ s. of_words l _ _ _ s refl (program_to l p ok h.1 h.2 h.3)) le

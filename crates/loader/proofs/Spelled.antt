@@ -6,7 +6,6 @@ use Rattle.maps.specs.declared.shapes.Shape.TheVariants.{Array, Hash}
 use Rattle.verifier.specs.declared.refusal.Mode.{Mode}
 use Rattle.verifier.specs.declared.refusal.Mode.TheVariants.{Update, Read}
 use Rattle.text.specs.Fields.{split_at_space}
-use Rattle.maps.specs.declared.shapes.TheConstants.{MAX_ARG_LEN}
 use Rattle.text.specs.Words.{IsFrom, number_of, number_within, is_name}
 use Rattle.text.proofs.Export.{IsSilent, by_kind_from, numerals_are_decimals, steps, where_true, split_from}
 use Rattle.text.specs.declared.lines.TheConstants.{LINE_BYTES}
@@ -74,17 +73,17 @@ mode_from w m e = by_word (bytes_eq w (codes "update")) (bytes_eq w (codes "read
     by_word false true Read e f g = g refl
     by_word false false m e f g = absurd cc
 
-program_from : (l : MapLimits) (t : List ℕ) (x : Meaning) → program_meaning t ≡ Some x → Spells l x (codes "program " ++ t)
+program_from : (l : MapLimits) (t : List ℕ) (x : Meaning) → program_meaning l t ≡ Some x → Spells l x (codes "program " ++ t)
 unfolding program_meaning
 program_from l t x e =
     let name = steps (split_at_space t) _ x e in
     let mode = steps (split_at_space name.0.1) _ x name.2 in
     let len = steps (split_at_space mode.0.1) _ x mode.2 in
     let m = steps (mode_of mode.0.0) _ x len.2 in
-    let n = steps (number_within 0 MAX_ARG_LEN len.0.0) _ x m.2 in
+    let n = steps (number_within 0 l.argument len.0.0) _ x m.2 in
     let last = where_true (is_name name.0.0 && is_path len.0.1) (Program (record { name = name.0.0; mode = m.0; arg_len = n.0; file = len.0.1 })) x n.2 in
     let good = and_parts (is_name name.0.0) (is_path len.0.1) last.0 in
-    let number = within 0 MAX_ARG_LEN len.0.0 n.0 n.1 in
+    let number = within 0 l.argument len.0.0 n.0 n.1 in
     let third : mode.0.1 ≡ decimal n.0 ++ 32 ∷ len.0.1 = split_from mode.0.1 len.0 len.1 ∙ ap (λ w. w ++ 32 ∷ len.0.1) number.0 in
     let second : name.0.1 ≡ mode_word m.0 ++ 32 ∷ (decimal n.0 ++ 32 ∷ len.0.1) = split_from name.0.1 mode.0 mode.1 ∙ ap₂ (λ a b. a ++ 32 ∷ b) (mode_from mode.0.0 m.0 m.1) third in
     let whole : t ≡ name.0.0 ++ 32 ∷ (mode_word m.0 ++ 32 ∷ (decimal n.0 ++ 32 ∷ len.0.1)) = split_from t name.0 name.1 ∙ ap (λ b. name.0.0 ++ 32 ∷ b) second in

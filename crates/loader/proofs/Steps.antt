@@ -8,7 +8,7 @@ use Rattle.std.proofs.lemmas.List.{length_push, map-append, nil_from_length}
 use Rattle.loader.specs.declared.refusals.LoadFault.{LoadFault}
 use Rattle.loader.specs.declared.refusals.LoadFault.TheVariants as faults
 use Rattle.maps.specs.declared.shapes.Shape.{Shape}
-use Rattle.maps.specs.declared.shapes.TheConstants.{MAX_ARG_LEN}
+use Rattle.maps.specs.declared.shapes.TheConstants.{MOST_ARG_LEN}
 use Rattle.verifier.specs.Accepted.{IsAccepted}
 use Rattle.loader.specs.Grammar.{ProgramLine, Meaning, Comment, Map, Program, line_meaning}
 use Rattle.maps.specs.Shapes.{IsShapeWithin, AreShapesSupported, AreLimits}
@@ -52,8 +52,8 @@ map_within : (l : MapLimits) (s : Shape) (line : List ℕ) → AreLimits l → S
 map_within l (Array v e) line ok h = let key = ok.key in record { key = (omega arith, key.0); value = h.1; entries = h.2 }
 map_within l (Hash k v e) line ok h = record { key = h.1; value = h.2; entries = h.3 }
 
-program_within : (l : MapLimits) (p : ProgramLine) (line : List ℕ) → Spells l (Program p) line → p.arg_len ≤ MAX_ARG_LEN
-program_within l p line h = h.2
+program_within : (l : MapLimits) (p : ProgramLine) (line : List ℕ) → AreLimits l → Spells l (Program p) line → p.arg_len ≤ MOST_ARG_LEN
+program_within l p line ok h = let a = ok.argument in omega (arith, h.2, a)
 
 no_programs : {X : Type 0} (ps : List X) → ltb 0 (length ps) ≡ false → ps ≡ []
 no_programs ps e = nil_from_length ps (omega (arith, ltb-false 0 (length ps) e))
@@ -100,7 +100,7 @@ with_one_map l v s so_far within none few =
       no_opening = so_far.no_opening;
     }
 
-with_one_program : (l : MapLimits) (fs : Files) (v : CatalogueView) (p : ProgramLine) (w : CatalogueView) → IsPartial l v → p.arg_len ≤ MAX_ARG_LEN → (a : IsAfterProgram fs v p w) → IsPartial l (record v { programs = v.programs ++ a.entry ∷ [] })
+with_one_program : (l : MapLimits) (fs : Files) (v : CatalogueView) (p : ProgramLine) (w : CatalogueView) → IsPartial l v → p.arg_len ≤ MOST_ARG_LEN → (a : IsAfterProgram fs v p w) → IsPartial l (record v { programs = v.programs ++ a.entry ∷ [] })
 with_one_program l fs v p w so_far fits a =
     let is = entry_from fs v.shapes p a.entry a.read in
     let some : 0 < length v.shapes = omega (arith, eqb-false _ _ a.some_map) in
@@ -135,7 +135,7 @@ stays l fs v line w so_far e = by_meaning (line_meaning l line) refl e
         subst (IsPartial l) a.2 (with_one_map l v s so_far (map_within l s line so_far.limits (spelled l line (Map s) is).1) a.0 a.1)
     by_meaning (Some (Program p)) is e =
         let a = after_program fs v p w e in
-        subst (IsPartial l) a.same (with_one_program l fs v p w so_far (program_within l p line (spelled l line (Program p) is).1) a)
+        subst (IsPartial l) a.same (with_one_program l fs v p w so_far (program_within l p line so_far.limits (spelled l line (Program p) is).1) a)
 
 pub is_catalogue : (l : MapLimits) (v : CatalogueView) → IsPartial l v → 0 < length v.shapes → IsCatalogue v
 is_catalogue l v so_far some =

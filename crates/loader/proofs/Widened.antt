@@ -1,5 +1,5 @@
 -- What is good by some limits is good by wider ones.
-use Rattle.std.proofs.Common.{◌≡◌, ◌≤◌, ℕ, Bool, true, false, leb, List, [], ◌∷◌, length, map, Some, refl, sym, ap, arith, sum_by}
+use Rattle.std.proofs.Common.{◌≡◌, ◌≤◌, ℕ, Bool, true, leb, List, [], ◌∷◌, length, map, Some, refl, arith, sum_by}
 use Rattle.std.proofs.lemmas.Bool.{le-leb, leb-true, and_parts}
 use Rattle.maps.specs.declared.shapes.MapLimits.{MapLimits}
 use Rattle.maps.specs.declared.shapes.Shape.{Shape}
@@ -9,7 +9,7 @@ use Rattle.maps.specs.Shapes.{room_of, AreLimits}
 use Rattle.text.specs.Lines.{lines_of}
 use Rattle.loader.specs.Grammar.{Meaning, Comment, Map, Program, line_meaning}
 use Rattle.loader.specs.CatalogueView.{CatalogueView}
-use Rattle.loader.specs.Loading.{are_few, loaded_within}
+use Rattle.loader.specs.Loading.{are_few}
 use Rattle.loader.specs.ProgramFiles.{Files}
 use Rattle.loader.specs.Offers.{Offers}
 use Rattle.loader.specs.Spelling.{Spells, SpellsMap}
@@ -33,7 +33,7 @@ module _ (l w : MapLimits) (is : AreLimits l) (are : AreLimits w) (wider : NoNar
   spells : (m : Meaning) (line : List ℕ) → Spells l m line → Spells w m line
   spells Comment line h = h
   spells (Map shape) line h = spells_map shape line h
-  spells (Program p) line h = h
+  spells (Program p) line h = let a = wider.argument in (h.0, h.1, omega (arith, h.2, a), h.3)
 
   line_means : (line : List ℕ) (m : Meaning) → line_meaning l line ≡ Some m → line_meaning w line ≡ Some m
   line_means line m e = let s = spelled l line m e in respelled w line m are s.0 (spells m line s.1)

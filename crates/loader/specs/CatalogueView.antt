@@ -1,5 +1,5 @@
 -- A catalogue as its callers see it.
-use Rattle.std.specs.Prelude.{◌≡◌, ℕ, ◌≤◌, List, length, map, Option, Some, None, IfSome, option_map, bytes_eq}
+use Rattle.std.specs.Prelude.{◌≡◌, ℕ, ◌≤◌, max, List, [], ◌∷◌, length, map, Option, Some, None, IfSome, option_map, bytes_eq}
 use Rattle.std.specs.Borrow.{Bor}
 use Rattle.std.specs.List.{All, IsDistinct, position_from}
 use Rattle.maps.specs.declared.shapes.Shape.{Shape}
@@ -30,6 +30,14 @@ with_places c places = record c { places = places; opening = None }
 -- the sizes of the states that a store of a catalogue has
 abbrev pub sizes_for : CatalogueView → StateSizes
 sizes_for c = record { shapes = c.shapes; places = c.places }
+
+-- the most bytes that an argument of these programs has
+abbrev pub longest_of : List Entry → ℕ
+longest_of [] = 0
+longest_of (e ∷ es) = max e.checked.arg_len (longest_of es)
+
+abbrev pub longest_argument : CatalogueView → ℕ
+longest_argument c = longest_of c.programs
 
 -- ---- what a store opens on
 

@@ -10,7 +10,6 @@ use Rattle.text.specs.Fields.{split_at_space}
 use Rattle.text.specs.Words.{◌>>=◌, number_within, is_name}
 use Rattle.loader.specs.declared.grammar.FirstWord.{FirstWord}
 use Rattle.loader.specs.declared.grammar.FirstWord.TheVariants as words
-use Rattle.maps.specs.declared.shapes.TheConstants.{MAX_ARG_LEN}
 use Rattle.maps.specs.declared.shapes.MapLimits.{MapLimits}
 use Rattle.loader.specs.declared.paths.TheConstants.{PATH_BYTES}
 
@@ -72,13 +71,13 @@ mode_of text =
     else None
 
 -- NAME MODE ARGLEN FILE
-unfoldable pub program_meaning : List ℕ → Option Meaning
-program_meaning text = do
+unfoldable pub program_meaning : MapLimits → List ℕ → Option Meaning
+program_meaning l text = do
   name ← split_at_space text
   mode ← split_at_space name.1
   len ← split_at_space mode.1
   m ← mode_of mode.0
-  n ← number_within 0 MAX_ARG_LEN len.0
+  n ← number_within 0 l.argument len.0
   if is_name name.0 && is_path len.1 then Some (Program (record { name = name.0; mode = m; arg_len = n; file = len.1 })) else None
 
 -- what kind of line a first word begins
@@ -96,7 +95,7 @@ words_of line = do
 
 abbrev pub by_first_word : MapLimits → FirstWord → List ℕ → Option Meaning
 by_first_word l words.Map rest = map_meaning l rest
-by_first_word l words.Program rest = program_meaning rest
+by_first_word l words.Program rest = program_meaning l rest
 by_first_word l words.Other rest = None
 
 unfoldable pub words_meaning : MapLimits → List ℕ → Option Meaning

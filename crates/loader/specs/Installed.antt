@@ -8,6 +8,7 @@ use Rattle.insn.specs.Decoded.{decoded}
 use Rattle.insn.specs.Layout.{size}
 use Rattle.maps.specs.declared.shapes.Shape.{Shape}
 use Rattle.maps.specs.Shapes.{AreShapesSupported}
+use Rattle.maps.specs.declared.shapes.TheConstants.{MAX_ARG_LEN}
 use Rattle.verifier.specs.declared.refusal.Mode.{Mode}
 use Rattle.verifier.specs.declared.refusal.Refused.{Refused}
 use Rattle.verifier.specs.Signature.{signature}
@@ -31,9 +32,10 @@ no_programs shapes places = record { shapes = shapes; places = places; programs 
 abbrev pub with_installed : InstalledView → Checked → InstalledView
 with_installed v c = record v { programs = v.programs ++ c ∷ [] }
 
--- a program of few slots
-abbrev pub IsShort : Checked → Type 0
-IsShort c = size c.program ≤ MAX_INSTALLED_SLOTS
+-- a program of few slots, with an argument of few bytes
+pub record IsShort (c : Checked) : Type 0 where
+  pub slots : size c.program ≤ MAX_INSTALLED_SLOTS
+  pub argument : c.arg_len ≤ MAX_ARG_LEN
 
 -- a store may have these maps; each program was accepted, for these maps, and is short; there are no more than there may be
 pub record IsInstalled (v : InstalledView) : Type 0 where

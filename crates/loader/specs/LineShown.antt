@@ -3,7 +3,6 @@ use Rattle.std.specs.Prelude.{◌≤◌, length}
 use Rattle.text.specs.declared.words.TheConstants.{NAME_BYTES}
 use Rattle.maps.specs.declared.shapes.MapLimits.{MapLimits}
 use Rattle.maps.specs.Shapes.{IsShapeWithin}
-use Rattle.maps.specs.declared.shapes.TheConstants.{MAX_ARG_LEN}
 use Rattle.loader.specs.declared.grammar.ProgramLine.{ProgramLine as TheLine}
 use Rattle.loader.specs.declared.grammar.Line.{Line}
 use Rattle.loader.specs.declared.grammar.Line.TheVariants as lines
@@ -21,4 +20,4 @@ meaning_of (lines.Program p) = Program (program_of p)
 abbrev pub LineFits : MapLimits → Line → Type 0
 LineFits l lines.Comment = Unit {0}
 LineFits l (lines.Map shape) = IsShapeWithin l shape
-LineFits l (lines.Program p) = (p.arg_len ≤ MAX_ARG_LEN) × (length p.name.now ≤ NAME_BYTES)
+LineFits l (lines.Program p) = (p.arg_len ≤ l.argument) × (length p.name.now ≤ NAME_BYTES)

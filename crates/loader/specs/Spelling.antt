@@ -5,7 +5,6 @@ use Rattle.maps.specs.declared.shapes.Shape.TheVariants.{Array, Hash}
 use Rattle.verifier.specs.declared.refusal.Mode.{Mode}
 use Rattle.verifier.specs.declared.refusal.Mode.TheVariants.{Update, Read}
 use Rattle.text.specs.declared.lines.TheConstants.{LINE_BYTES}
-use Rattle.maps.specs.declared.shapes.TheConstants.{MAX_ARG_LEN}
 use Rattle.maps.specs.declared.shapes.MapLimits.{MapLimits}
 use Rattle.maps.specs.Shapes.{AreLimits}
 use Rattle.text.specs.Words.{IsFrom, is_name}
@@ -30,14 +29,14 @@ program_spelling p =
     codes "program " ++ (p.name ++ (codes " " ++ (mode_word p.mode ++ (codes " " ++ (decimal p.arg_len ++ (codes " " ++ p.file))))))
 
 -- how a program is spelled
-abbrev pub SpellsProgram : ProgramLine → List ℕ → Type 0
-SpellsProgram p line = (line ≡ program_spelling p) × (is_name p.name ≡ true) × (p.arg_len ≤ MAX_ARG_LEN) × (is_path p.file ≡ true)
+abbrev pub SpellsProgram : MapLimits → ProgramLine → List ℕ → Type 0
+SpellsProgram l p line = (line ≡ program_spelling p) × (is_name p.name ≡ true) × (p.arg_len ≤ l.argument) × (is_path p.file ≡ true)
 
 -- the line spells this
 abbrev pub Spells : MapLimits → Meaning → List ℕ → Type 0
 Spells l Comment line = (line ≡ []) ⊎ ((rest : List ℕ) × (line ≡ 35 ∷ rest))
 Spells l (Map shape) line = SpellsMap l shape line
-Spells l (Program p) line = SpellsProgram p line
+Spells l (Program p) line = SpellsProgram l p line
 
 -- a line means this exactly where it is spelled so, in at most 512 bytes
 abbrev pub EachLineIsItsSpelling : Type 0

@@ -12,6 +12,7 @@ pub record NoNarrower (l w : MapLimits) : Type 0 where
   pub value : l.value ≤ w.value
   pub entries : l.entries ≤ w.entries
   pub bytes : l.bytes ≤ w.bytes
+  pub argument : l.argument ≤ w.argument
 
 -- a manifest that is good by some limits says the same catalogue by wider ones
 abbrev pub WiderLimitsKeepWhatIsGood : Type 0

@@ -2,7 +2,8 @@
 
 ghost use Rattle.std.specs.Prelude.{◌≡◌, ◌↔◌, ◌≤◌, length, option_map, slice_get, IfSome, IsTrue, None};
 ghost use Rattle.maps.specs.Shapes.{AreShapesSupported};
-ghost use Rattle.loader.specs.CatalogueView.{IsCatalogue, MayOpenOn, number_named, opened_on, with_places};
+ghost use Rattle.maps.specs.declared.shapes.TheConstants.{MOST_ARG_LEN};
+ghost use Rattle.loader.specs.CatalogueView.{IsCatalogue, MayOpenOn, longest_argument, number_named, opened_on, with_places};
 ghost use Rattle.loader.specs.Numbering.{IsNumbering};
 
 use crate::installed::MOST_SPARE;
@@ -129,6 +130,29 @@ impl Catalogue {
         ensures few { result ≤ MAX_PROGRAMS }
     {
         self.programs.len()
+    }
+
+    /// The most bytes that an argument of its programs has; 0 where there is no program.
+    ///
+    /// # Examples
+    ///
+    /// ```
+    /// use loader::load_manifest;
+    ///
+    /// let files = [("seven.hex", "b7000000070000009500000000000000")]; // mov64 r0, 7; exit
+    /// let manifest = "map array 8 16\nprogram see read 12 seven.hex\nprogram set update 4 seven.hex\n";
+    /// let catalogue = load_manifest(rt.alloc(), manifest, &files)?;
+    /// assert_eq!(rt; catalogue.longest_argument(), 12);
+    /// ```
+    pub fn longest_argument(&self) -> usize
+        ensures longest { result ≡ longest_argument self.now }
+        ensures most { result ≤ MOST_ARG_LEN }
+    {
+        let mut longest = 0;
+        for named in &self.programs {
+            longest = longest.max(named.program().arg_len());
+        }
+        longest
     }
 
     /// How many programs may be installed behind these: a manifest has none.

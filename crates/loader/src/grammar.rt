@@ -6,7 +6,7 @@ ghost use Rattle.maps.specs.Shapes.{AreLimits};
 ghost use Rattle.loader.specs.LineShown.{meaning_of, LineFits};
 
 use crate::paths::is_path;
-use maps::{MAX_ARG_LEN, MapLimits, Shape};
+use maps::{MapLimits, Shape};
 use text::{LineKind, is_name, kind_of, number_within, split_at_space};
 use verifier::Mode;
 
@@ -30,7 +30,7 @@ pub struct ProgramLine<'a> {
     /// Whether it may change maps.
     pub mode: Mode,
     /// How many bytes its argument has.
-    pub arg_len: u8,
+    pub arg_len: u16,
     /// The file in which its bytes stand.
     pub file: &'a str,
 }
@@ -144,19 +144,20 @@ pub fn mode(text: &str) -> Option<Mode>
 
 #[tactic(auto, unfolding(crate::specs::Grammar::program_meaning))]
 fn program_line<'a>(limits: &MapLimits, text: &'a str) -> Option<Line<'a>>
-    ensures meaning { option_map meaning_of result ≡ program_meaning text.now }
+    requires limits { AreLimits limits.now }
+    ensures meaning { option_map meaning_of result ≡ program_meaning limits.now text.now }
     ensures fits { IfSome result (LineFits limits.now) }
 {
     let (name, rest) = split_at_space(text)?;
     let (how, rest) = split_at_space(rest)?;
     let (len, file) = split_at_space(rest)?;
     let mode = mode(how)?;
-    let arg_len = number_within(0, MAX_ARG_LEN as u64, len)?;
+    let arg_len = number_within(0, limits.argument as u64, len)?;
     if is_name(name) && is_path(file) {
         Some(Line::Program(ProgramLine {
             name,
             mode,
-            arg_len: arg_len as u8,
+            arg_len: arg_len as u16,
             file,
         }))
     } else {

@@ -4,7 +4,7 @@ ghost use Rattle.std.specs.Prelude.{◌≡◌, ◌≤◌, MatchResult, Ok, lengt
 ghost use Rattle.maps.specs.declared.shapes.MapLimits.{MapLimits as TheLimits};
 ghost use Rattle.text.specs.declared.words.TheConstants.{NAME_BYTES};
 ghost use Rattle.maps.specs.Shapes.{IsShapeWithin, AreLimits};
-ghost use Rattle.maps.specs.declared.shapes.TheConstants.{MAX_ARG_LEN};
+ghost use Rattle.maps.specs.declared.shapes.TheConstants.{MOST_ARG_LEN};
 ghost use Rattle.loader.specs.ProgramFiles.{files_of};
 ghost use Rattle.loader.specs.LineShown.{program_of};
 ghost use Rattle.loader.specs.Loading.{is_taken, with_map, with_entry, with_program, after_line, loaded, loaded_within};
@@ -80,7 +80,7 @@ fn add_program(
     line: ProgramLine,
 ) -> Result<(), LineError>
     requires so_far { (l : TheLimits) × IsPartial l (view_of so_far.old) }
-    requires argument { line.arg_len ≤ MAX_ARG_LEN }
+    requires argument { line.arg_len ≤ MOST_ARG_LEN }
     requires name { length line.name.now ≤ NAME_BYTES }
     ensures { Gives (λ _. view_of so_far.new) result (with_program (files_of files.now) (view_of so_far.old) (program_of line.entry)) }
 {

@@ -3,7 +3,7 @@
 ghost use Rattle.std.specs.Prelude.{◌≡◌, ◌≤◌, length, option_map};
 ghost use Rattle.text.specs.declared.words.TheConstants.{NAME_BYTES};
 ghost use Rattle.maps.specs.Shapes.{AreShapesSupported};
-ghost use Rattle.maps.specs.declared.shapes.TheConstants.{MAX_ARG_LEN};
+ghost use Rattle.maps.specs.declared.shapes.TheConstants.{MOST_ARG_LEN};
 ghost use Rattle.loader.specs.ProgramFiles.{files_of, file_named, bytes_of_hex, instructions_of, checked_program, or_bad_line, entry_for};
 ghost use Rattle.loader.specs.LineShown.{program_of};
 ghost use Rattle.loader.specs.Refusal.{Gives};
@@ -58,12 +58,12 @@ fn instructions(alloc: Global, bytes: &[u8]) -> Result<Vec<Insn>, LineError>
 fn checked_program(
     alloc: Global,
     shapes: &[Shape],
-    arg_len: u8,
+    arg_len: u16,
     mode: Mode,
     text: &str,
 ) -> Result<Accepted, LineError>
     requires shapes { AreShapesSupported shapes.now }
-    requires argument { arg_len ≤ MAX_ARG_LEN }
+    requires argument { arg_len ≤ MOST_ARG_LEN }
     ensures { Gives (λ a. a) result (checked_program shapes.now arg_len mode text.now) }
 {
     let bytes = bytes_of_hex(alloc, text)?;
@@ -94,7 +94,7 @@ pub(crate) fn named_program(
     line: ProgramLine,
 ) -> Result<NamedProgram, LineError>
     requires shapes { AreShapesSupported shapes.now }
-    requires argument { line.arg_len ≤ MAX_ARG_LEN }
+    requires argument { line.arg_len ≤ MOST_ARG_LEN }
     requires name { length line.name.now ≤ NAME_BYTES }
     ensures { Gives (λ p. p) result (entry_for (files_of files.now) shapes.now (program_of line.entry)) }
 {

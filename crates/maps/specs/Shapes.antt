@@ -8,7 +8,7 @@ use Rattle.maps.specs.declared.shapes.MapError.TheVariants.{NoMemory, Refused}
 use Rattle.maps.specs.declared.shapes.ShapeFault.{ShapeFault}
 use Rattle.maps.specs.declared.shapes.ShapeFault.TheVariants.{NoMapOrTooMany, SizeOutOfLimits, TooManyBytes}
 use Rattle.maps.specs.declared.shapes.MapLimits.{MapLimits}
-use Rattle.maps.specs.declared.shapes.TheConstants.{MAX_MAPS, INDEX_BYTES, MAX_KEY_BYTES, MAX_VALUE_BYTES, MAX_ENTRIES, MAX_TOTAL_BYTES, MOST_KEY_BYTES, MOST_VALUE_BYTES, MOST_ENTRIES, MOST_TOTAL_BYTES}
+use Rattle.maps.specs.declared.shapes.TheConstants.{MAX_MAPS, INDEX_BYTES, MAX_KEY_BYTES, MAX_VALUE_BYTES, MAX_ENTRIES, MAX_TOTAL_BYTES, MOST_KEY_BYTES, MOST_VALUE_BYTES, MOST_ENTRIES, MOST_TOTAL_BYTES, MAX_ARG_LEN, MOST_ARG_LEN}
 
 -- the bytes of a key: an array's is an index
 abbrev pub key_size : Shape → ℕ
@@ -46,13 +46,13 @@ pub record AreShapesWithin (l : MapLimits) (shapes : List Shape) : Type 0 where
   pub each : All (IsShapeWithin l) shapes
   pub room : sum_by room_of shapes ≤ l.bytes
 
--- the standard limits: keys of 64 bytes, values of 256 bytes, 65,536 entries, 16,777,216 bytes
+-- the standard limits: keys of 64 bytes, values of 256 bytes, 65,536 entries, 16,777,216 bytes, arguments of 64 bytes
 abbrev pub standard : MapLimits
-standard = record { key = MAX_KEY_BYTES; value = MAX_VALUE_BYTES; entries = MAX_ENTRIES; bytes = MAX_TOTAL_BYTES }
+standard = record { key = MAX_KEY_BYTES; value = MAX_VALUE_BYTES; entries = MAX_ENTRIES; bytes = MAX_TOTAL_BYTES; argument = MAX_ARG_LEN }
 
--- the widest limits: keys of 64 bytes, values of 16,384 bytes, 2,147,483,648 entries, 2^40 bytes
+-- the widest limits: keys of 64 bytes, values of 16,384 bytes, 2,147,483,648 entries, 2^40 bytes, arguments of 16,384 bytes
 abbrev pub widest : MapLimits
-widest = record { key = MOST_KEY_BYTES; value = MOST_VALUE_BYTES; entries = MOST_ENTRIES; bytes = MOST_TOTAL_BYTES }
+widest = record { key = MOST_KEY_BYTES; value = MOST_VALUE_BYTES; entries = MOST_ENTRIES; bytes = MOST_TOTAL_BYTES; argument = MOST_ARG_LEN }
 
 -- no wider than the widest, and with room for the key of an array
 pub record AreLimits (l : MapLimits) : Type 0 where
@@ -60,6 +60,7 @@ pub record AreLimits (l : MapLimits) : Type 0 where
   pub value : l.value ≤ MOST_VALUE_BYTES
   pub entries : l.entries ≤ MOST_ENTRIES
   pub bytes : l.bytes ≤ MOST_TOTAL_BYTES
+  pub argument : l.argument ≤ MOST_ARG_LEN
 
 -- keys of 1 to 64 bytes, values of 1 to 256 bytes, 1 to 65,536 entries
 abbrev pub IsShapeOk : Shape → Type 0

@@ -39,6 +39,9 @@ pub const MOST_TOTAL_BYTES: u64 = 1_099_511_627_776;
 /// The most bytes of the argument that a program of these maps gets.
 pub const MAX_ARG_LEN: usize = 64;
 
+/// The most bytes that the argument of a program may have by any limits.
+pub const MOST_ARG_LEN: usize = 16_384;
+
 /// The limits that the definitions cite, as numbers.
 pub fn limits()
     ensures maps_of_a_program { MAX_MAPS ≡ 16 }
@@ -56,9 +59,10 @@ pub fn widest_limits()
     ensures bytes_of_a_value { MOST_VALUE_BYTES ≡ 16384 }
     ensures entries_of_a_map { MOST_ENTRIES ≡ 2147483648 }
     ensures bytes_of_all_maps { MOST_TOTAL_BYTES ≡ 1099511627776 }
+    ensures bytes_of_an_argument { MOST_ARG_LEN ≡ 16384 }
 {}
 
-/// How large the maps of a program may be. It lies in memory as C has it.
+/// How large the maps and the argument of a program may be. It lies in memory as C has it.
 #[repr(C)]
 #[derive(Clone, Copy, PartialEq, Eq, Debug)]
 pub struct MapLimits {
@@ -70,10 +74,13 @@ pub struct MapLimits {
     pub entries: u32,
     /// The most bytes of all maps.
     pub bytes: u64,
+    /// The most bytes of an argument.
+    pub argument: u32,
 }
 
 impl MapLimits {
-    /// The limits where none are named: keys of 64 bytes, values of 256 bytes, 65,536 entries, 16,777,216 bytes in all maps.
+    /// The limits where none are named: keys of 64 bytes, values of 256 bytes, 65,536 entries, 16,777,216 bytes in all maps,
+    /// arguments of 64 bytes.
     pub fn standard() -> MapLimits
         ensures standard { result ≡ standard }
         ensures limits { AreLimits result }
@@ -83,10 +90,12 @@ impl MapLimits {
             value: MAX_VALUE_BYTES,
             entries: MAX_ENTRIES,
             bytes: MAX_TOTAL_BYTES as u64,
+            argument: MAX_ARG_LEN as u32,
         }
     }
 
-    /// The widest limits: keys of 64 bytes, values of 16,384 bytes, 2,147,483,648 entries, 2^40 bytes in all maps.
+    /// The widest limits: keys of 64 bytes, values of 16,384 bytes, 2,147,483,648 entries, 2^40 bytes in all maps, arguments
+    /// of 16,384 bytes.
     pub fn widest() -> MapLimits
         ensures widest { result ≡ widest }
         ensures limits { AreLimits result }
@@ -96,6 +105,7 @@ impl MapLimits {
             value: MOST_VALUE_BYTES,
             entries: MOST_ENTRIES,
             bytes: MOST_TOTAL_BYTES,
+            argument: MOST_ARG_LEN as u32,
         }
     }
 
@@ -107,6 +117,7 @@ impl MapLimits {
             && self.value <= MOST_VALUE_BYTES
             && self.entries <= MOST_ENTRIES
             && self.bytes <= MOST_TOTAL_BYTES
+            && self.argument <= MOST_ARG_LEN as u32
     }
 }
 

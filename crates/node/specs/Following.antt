@@ -30,6 +30,7 @@ is_above g n = nat_le g.base n.replica.tail
 pub record Fits (g : Log) (n : NodeReplica) : Type 0 where
   pub tail : n.replica.tail ≤ tail_of g
   pub window : n.hand.window ≡ g.window
+  pub long : n.hand.long ≡ g.long
 
 -- the hand has the next records, updates of the catalogue, whose sizes the replica has
 pub record IsNext (c : CatalogueView) (n : NodeReplica) : Type 0 where

@@ -4,6 +4,7 @@ ghost use Rattle.std.specs.Prelude.{◌≡◌, ◌≤◌, ◌<◌, true, length}
 ghost use Rattle.loader.specs.CatalogueView.{sizes_for};
 ghost use Rattle.loader.specs.StoreState.{sizes_of};
 ghost use Rattle.oplog.specs.declared.configuration.TheConstants.{ENDLESS};
+ghost use Rattle.oplog.specs.History.{AllFit};
 ghost use Rattle.oplog.specs.Logs.{tail_of, records_from, room_in};
 ghost use Rattle.replica.specs.Replaying.{KeepsOutcomes};
 ghost use Rattle.replica.specs.StoreMeaning.{AreUpdates};
@@ -35,6 +36,7 @@ pub fn may_append(log: &LogState, node: &NodeReplica, records: &Records<'_>) -> 
 pub fn append_only(log: &mut LogState, records: &Records<'_>, replies: &mut Replies)
     requires room { room_for records.now log.old ≤ room_in log.old }
     requires few { length records.now ≤ 16 }
+    requires fit { AllFit log.old.long records.now }
     ensures log { log.new ≡ grown records.now log.old }
     ensures replies { replies.new ≡ replies_for records.now log.old }
     ensures within { tail_of log.new ≤ ENDLESS }
@@ -61,6 +63,7 @@ pub fn append(
     requires may { may_append records.now log.old node.old ≡ true }
     requires fits { Fits log.old node.old }
     requires few { length records.now ≤ 16 }
+    requires fit { AllFit log.old.long records.now }
     ensures log { log.new ≡ grown records.now log.old }
     ensures node { node.new ≡ copied log.new node.old }
     ensures replies { replies.new ≡ replies_for records.now log.old }
@@ -172,6 +175,7 @@ pub fn exchange(log: &mut LogState, node: &mut NodeReplica)
     requires within { node.old.replica.tail ≤ tail_of log.old }
     requires sizes { sizes_of node.old.replica.state ≡ sizes_of log.old.base_state }
     requires window { node.old.hand.window ≡ log.old.window }
+    requires long { node.old.hand.long ≡ log.old.long }
     ensures log { log.new ≡ reclaimed node.old (told node.old log.old) }
     ensures node { node.new ≡ exchanged log.old node.old }
     ensures within { tail_of log.old ≤ ENDLESS }

@@ -1,2 +1,5 @@
 mod Ends
+pub mod Export
+mod Laying
+mod Pushing
 mod Rooms

@@ -1,5 +1,7 @@
 -- What stands in a room behind what is in use.
-use Rattle.std.proofs.Common.{◌≡◌, ℕ, ◌+◌, ◌-◌, ◌≤◌, List, ◌++◌, length, take, drop, replicate, ap, sym, ◌∙◌, arith}
+use Rattle.std.specs.Prelude.{slice_get, Some}
+use Rattle.std.proofs.lemmas.Option.{none-some, same_Some}
+use Rattle.std.proofs.Common.{◌≡◌, ℕ, zero, suc, [], ◌∷◌, ◌+◌, ◌-◌, ◌≤◌, List, ◌++◌, length, take, drop, replicate, ap, sym, ◌∙◌, arith}
 use Rattle.std.proofs.lemmas.List.{drop-drop, drop_at, drop-replicate, take_at, drop-take, length-take-le, length-drop}
 use Rattle.std.specs.List.{copy_within}
 use Rattle.oplog.specs.Calls.{padded}
@@ -19,3 +21,11 @@ pub moved_to_front : {X : Type 0} (xs : List X) (i j : ℕ) → i ≤ j → j �
 moved_to_front xs i j up within =
     let place : i + (j - i) ≡ j = omega (arith, up) in
     take_at (take (j - i) (drop i xs)) _ (j - i) (length-take-le (j - i) (drop i xs) (omega (arith, length-drop i xs, within))) ∙ sym (drop-take i (j - i) xs) ∙ ap (λ m. drop i (take m xs)) place
+
+-- one element more of a list
+pub take_more : {X : Type 0} (xs : List X) (k : ℕ) (x : X) → slice_get xs k ≡ Some x → take (k + 1) xs ≡ take k xs ++ x ∷ []
+take_more [] k x at = absurd (none-some x at)
+take_more (y ∷ xs) zero x at = ap (λ z. z ∷ []) (same_Some y x at)
+take_more (y ∷ xs) (suc k) x at =
+    let next : suc k + 1 ≡ suc (k + 1) = omega arith in
+    ap (λ n. take n (y ∷ xs)) next ∙ ap (λ zs. y ∷ zs) (take_more xs k x at)

@@ -67,5 +67,6 @@ log_of a = record {
   records = a.records.records;
   done = a.done;
   window = a.window;
+  long = a.records.long;
   limit = a.limit;
 }

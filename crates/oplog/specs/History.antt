@@ -1,7 +1,7 @@
 -- A history of operations: what each leaves of the state, and what it replies (Calciu et al., ASPLOS 2017: the log's order is the
 -- order of the operations, and each replica is the outcome of a beginning of it).
-use Rattle.std.specs.Prelude.{ℕ, Bool, List, [], ◌∷◌, take, Option, Some, None, option_map}
-use Rattle.oplog.specs.Operations.{Operation}
+use Rattle.std.specs.Prelude.{◌≡◌, ℕ, Bool, List, [], ◌∷◌, take, slice_get, Option, Some, None, option_map}
+use Rattle.oplog.specs.Operations.{Operation, FitsIn}
 use Rattle.oplog.specs.declared.records.Record.{Record}
 
 -- what an update does, once: how many steps it takes, what it replies, and the state that it leaves
@@ -29,6 +29,10 @@ pub record Meaning (C S : Type 0) : Type 1 where
 -- the operations that all replicas apply, in order
 abbrev pub History : Type 0
 History = List Record
+
+-- each operation fits where a long argument may have so many bytes
+abbrev pub AllFit : ℕ → History → Type 0
+AllFit long records = (k : ℕ) (r : Record) → slice_get records k ≡ Some r → FitsIn long r.op
 
 -- the state that an update leaves: without an effect it stays
 abbrev pub left_by : {S : Type 0} → Option (Effect S) → S → S

@@ -1,6 +1,6 @@
 -- What is lent of an operation, as an operation. No public clause but those of the parts cites this module.
 use Rattle.std.specs.Prelude.{◌≤◌, length}
-use Rattle.maps.specs.declared.shapes.TheConstants.{MAX_ARG_LEN}
+use Rattle.maps.specs.declared.shapes.TheConstants.{MAX_ARG_LEN, MOST_ARG_LEN}
 use Rattle.oplog.specs.Operations.{Operation}
 use Rattle.oplog.specs.declared.records.TheConstants.{MAX_INSTALLED_BYTES}
 use Rattle.oplog.specs.declared.records.Op.TheVariants.{Run as run, Install as install}
@@ -14,5 +14,5 @@ op_of (Install mode arg_len bytes) = install (record { mode = mode; arg_len = ar
 
 -- they have room in a record
 abbrev pub AreWithin : OpParts → Type 0
-AreWithin (Run program argument) = length argument.now ≤ MAX_ARG_LEN
+AreWithin (Run program argument) = length argument.now ≤ MOST_ARG_LEN
 AreWithin (Install mode arg_len bytes) = (arg_len ≤ MAX_ARG_LEN) × (length bytes.now ≤ MAX_INSTALLED_BYTES)

@@ -10,4 +10,5 @@ pub mod CopyAnswers
 -- How models tell the values of the log apart and read their fields.
 pub mod Codes
 pub mod Fields
-pub mod Kept
+pub mod Lists
+pub mod Laid

@@ -17,6 +17,8 @@ pub record Log : Type 0 where
   pub done : ℕ
   -- how many records it keeps at most
   pub window : ℕ
+  -- how many bytes a long argument may have
+  pub long : ℕ
   -- how many records the history may have
   pub limit : ℕ
 
@@ -57,16 +59,17 @@ pub record IsLog (g : Log) : Type 0 where
   pub limit : IsLimit g.limit
 
 -- a new log on this state: no record yet
-abbrev pub opened_log : StoreState → ℕ → ℕ → Log
-opened_log state window limit = record { base = 0; base_state = state; records = []; done = 0; window = window; limit = limit }
+abbrev pub opened_log : StoreState → ℕ → ℕ → ℕ → Log
+opened_log state window long limit = record { base = 0; base_state = state; records = []; done = 0; window = window; long = long; limit = limit }
 
 -- a buffer: records, and the index of the first in the history
 pub record HandView : Type 0 where
   pub begin : ℕ
   pub records : History
-  -- the window of the logs whose records it has room for
+  -- the window of the logs whose records it has room for, and how many bytes a long argument may have there
   pub window : ℕ
+  pub long : ℕ
 
 -- a new buffer: no record yet
-abbrev pub opened_hand : ℕ → HandView
-opened_hand window = record { begin = 0; records = []; window = window }
+abbrev pub opened_hand : ℕ → ℕ → HandView
+opened_hand window long = record { begin = 0; records = []; window = window; long = long }

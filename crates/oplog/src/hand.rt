@@ -1,12 +1,13 @@
 // The buffer that records are copied into from the log.
 
-ghost use Rattle.std.specs.Prelude.{◌≡◌, ◌↔◌, ◌<◌, ◌≤◌, ◌+◌, ◌^◌, ◌++◌, ◌∷◌, [], length, drop, IsTrue, IfOk};
+ghost use Rattle.std.specs.Prelude.{◌≡◌, ◌↔◌, ◌<◌, ◌≤◌, ◌+◌, ◌^◌, ◌++◌, [], length, drop, IsTrue, IfOk};
+ghost use Rattle.maps.specs.declared.shapes.TheConstants.{MOST_ARG_LEN};
+ghost use Rattle.oplog.specs.History.{AllFit};
 ghost use Rattle.oplog.specs.Limits.{IsWindow};
 ghost use Rattle.oplog.specs.Logs.{opened_hand};
 
-use crate::kept::Kept;
 use crate::lent::Records;
-use crate::records::Record;
+use crate::record_list::RecordList;
 use std::alloc::{AllocError, Global};
 use std::marker::Model;
 
@@ -15,7 +16,7 @@ use std::marker::Model;
 #[derive(Drop)]
 pub struct Hand {
     begin: u64,
-    records: Kept,
+    records: RecordList,
     window: usize,
 }
 
@@ -25,23 +26,24 @@ impl Model for Hand {
 
     ghost Value = { HandView };
 
-    ghost view = { λ h. record { begin = h.begin; records = h.records.records; window = h.window } };
+    ghost view = { λ h. record { begin = h.begin; records = h.records.records; window = h.window; long = h.records.long } };
 
     // There is room for a whole window.
     ghost invariant = { λ h. h.window ≤ h.records.room };
 }
 
 impl Hand {
-    /// An empty hand that begins at 0, for a log of this window.
+    /// An empty hand that begins at 0, for a log of this window whose long arguments have at most `long` bytes.
     ///
     /// # Errors
     ///
-    /// The system has no memory left.
-    pub fn open(alloc: Global, window: usize) -> Result<Hand, AllocError>
+    /// The system has no memory left, or the long arguments of a window would take 4 GiB.
+    pub fn open(alloc: Global, window: usize, long: usize) -> Result<Hand, AllocError>
         requires window { IsWindow window }
-        ensures opened { IfOk result (λ h. h ≡ opened_hand window) }
+        requires long { long ≤ MOST_ARG_LEN }
+        ensures opened { IfOk result (λ h. h ≡ opened_hand window long) }
     {
-        let records = Kept::open(alloc, window)?;
+        let records = RecordList::open(alloc, window, long)?;
         Ok(Hand {
             begin: 0,
             records,
@@ -78,22 +80,13 @@ impl Hand {
         self.begin = begin;
     }
 
-    /// Puts one more record at the end. There is room for it.
-    pub(crate) fn push(&mut self, next: &Record)
-        requires room { length self.old.records < self.old.window }
-        ensures pushed { self.new ≡ record self.old { records = self.old.records ++ next.now ∷ [] } }
-    {
-        self.records.push(next);
-    }
-
     /// Puts copies of these records at the end. There is room for them.
     pub fn extend(&mut self, records: &Records<'_>)
         requires room { length self.old.records + length records.now ≤ self.old.window }
+        requires fit { AllFit self.old.long records.now }
         ensures extended { self.new ≡ record self.old { records = self.old.records ++ records.now } }
     {
-        for record in records.as_slice() {
-            self.push(record);
-        }
+        self.records.extend(records);
     }
 
     /// Drops so many records from the front; the hand then begins behind them.
@@ -110,14 +103,15 @@ impl Hand {
     #[inline(always)]
     pub fn records(&self) -> Records<'_>
         ensures records { result ≡ self.now.records }
+        ensures fit { AllFit self.now.long self.now.records }
     {
         self.records.lent()
     }
 
     /// Takes the records of a log, the first of which has this index.
-    pub(crate) fn of(begin: u64, records: Kept, window: usize) -> Hand
+    pub(crate) fn of(begin: u64, records: RecordList, window: usize) -> Hand
         requires room { window ≤ records.room }
-        ensures hand { result ≡ record { begin = begin; records = records.records; window = window } }
+        ensures hand { result ≡ record { begin = begin; records = records.records; window = window; long = records.long } }
     {
         Hand {
             begin,
@@ -127,9 +121,11 @@ impl Hand {
     }
 
     /// Takes the records of a log, the first of which has this index, and leaves its own there. Nothing is copied.
-    pub(crate) fn exchange(&mut self, begin: u64, records: &mut Kept)
+    pub(crate) fn exchange(&mut self, begin: u64, records: &mut RecordList)
         requires room { self.old.window ≤ records.old.room }
-        ensures taken { self.new ≡ record self.old { begin = begin; records = records.old.records } }
+        ensures taken { self.new ≡ record self.old { begin = begin; records = records.old.records; long = records.old.long } }
+        ensures given { records.new.records ≡ self.old.records }
+        ensures long { records.new.long ≡ self.old.long }
         ensures room { self.old.window ≤ records.new.room }
     {
         self.records.exchange(records);

@@ -1,14 +1,17 @@
 // Operations and records as they are lent: who gets them doesn't know how they lie in memory.
 
-ghost use Rattle.std.specs.Prelude.{◌≡◌, ◌↔◌, ◌<◌, ◌≤◌, length, take, slice_get, Some, IsTrue};
+ghost use Rattle.std.specs.Prelude.{◌≡◌, ◌↔◌, ◌<◌, ◌≤◌, length, take, drop, slice_get, Some, IsTrue};
 ghost use Rattle.maps.specs.Maps.{AreBytes};
 ghost use Rattle.oplog.specs.declared.records.Op.TheVariants.{Run, Install};
 ghost use Rattle.oplog.specs.declared.records.Record.{Record as TheRecord};
-ghost use Rattle.oplog.specs.Lent.{AreWithin, op_of};
+ghost use Rattle.oplog.specs.Lent.{AreWithin as IsInRoom, op_of};
+ghost use Rattle.oplog.specs.Laid.{records_in, AreWithin};
 
+use crate::laid::LaidRef;
 use crate::parts::OpParts;
-use crate::records::{MAX_INSTALLED_BYTES, Op, Record};
-use maps::MAX_ARG_LEN;
+use crate::records::MAX_INSTALLED_BYTES;
+use crate::rows::Row;
+use maps::{MAX_ARG_LEN, MOST_ARG_LEN};
 use std::marker::Model;
 use verifier::Mode;
 
@@ -31,10 +34,10 @@ impl<'a> Model for OpRef<'a> {
 }
 
 impl<'a> OpRef<'a> {
-    /// The run of a program, by its number in the catalogue, on an argument of at most [`MAX_ARG_LEN`].
+    /// The run of a program, by its number in the catalogue, on an argument of at most [`MOST_ARG_LEN`].
     #[inline(always)]
     pub fn run(program: u16, argument: &'a [u8]) -> OpRef<'a>
-        requires fits { length argument.now ≤ MAX_ARG_LEN }
+        requires fits { length argument.now ≤ MOST_ARG_LEN }
         ensures call { result ≡ Run (record { program = program; argument = argument.now }) }
         ensures bytes { AreBytes argument.now }
     {
@@ -62,64 +65,105 @@ impl<'a> OpRef<'a> {
     #[inline(always)]
     pub fn parts(&self) -> OpParts<'a>
         ensures parts { op_of result ≡ self.now }
-        ensures fits { AreWithin result }
+        ensures fits { IsInRoom result }
     {
         self.parts
     }
 }
 
-impl Op {
-    /// The operation, lent.
-    #[inline(always)]
-    pub fn lent(&self) -> OpRef<'_>
-        ensures same { result ≡ self.now }
+/// A call that is lent: a program of the catalogue, by its number there, and its argument of at most [`MOST_ARG_LEN`] bytes.
+#[derive(Drop)]
+pub struct CallRef<'a> {
+    program: u16,
+    argument: &'a [u8],
+}
+
+impl<'a> Model for CallRef<'a> {
+    ghost use Rattle.std.specs.Prelude.{◌≤◌, length};
+    ghost use Rattle.maps.specs.declared.shapes.TheConstants.{MOST_ARG_LEN};
+    ghost use Rattle.oplog.specs.Calls.{Call};
+
+    ghost Value = { Call };
+
+    ghost view = { λ o. record { program = o.program; argument = o.argument.now } };
+
+    ghost invariant = { λ o. length o.argument.now ≤ MOST_ARG_LEN };
+}
+
+impl<'a> CallRef<'a> {
+    /// The call of a program on an argument of at most [`MOST_ARG_LEN`] bytes.
+    pub fn new(program: u16, argument: &'a [u8]) -> CallRef<'a>
+        requires fits { length argument.now ≤ MOST_ARG_LEN }
+        ensures call { result ≡ record { program = program; argument = argument.now } }
+        ensures bytes { AreBytes result.argument }
     {
-        match self {
-            Op::Run(call) => OpRef::run(call.program(), call.argument()),
-            Op::Install(new) => OpRef::install(new.mode(), new.arg_len(), new.bytes()),
-        }
+        CallRef { program, argument }
     }
 
-    /// Becomes the operation that is lent, in its place: a call over a call is written without the room of a program.
-    #[inline(always)]
-    pub fn assign_from(&mut self, from: &OpRef<'_>)
-        ensures same { self.new ≡ from.now }
+    /// The program's number in the catalogue.
+    pub fn program(&self) -> u16
+        ensures program { result ≡ self.now.program }
     {
-        match from.parts() {
-            OpParts::Run { program, argument } => self.set_call(program, argument),
-            OpParts::Install {
-                mode,
-                arg_len,
-                bytes,
-            } => self.set_install(mode, arg_len, bytes),
-        }
+        self.program
     }
+
+    /// The argument.
+    pub fn argument(&self) -> &'a [u8]
+        ensures argument { result.now ≡ self.now.argument }
+        ensures fits { length result.now ≤ MOST_ARG_LEN }
+    {
+        self.argument
+    }
+
+    /// The run of this call.
+    pub fn op(&self) -> OpRef<'a>
+        ensures run { result ≡ Run self.now }
+    {
+        OpRef::run(self.program, self.argument)
+    }
+}
+
+/// A record that is lent.
+#[derive(Drop)]
+pub struct RecordRef<'a> {
+    /// The session whose record it is.
+    pub author: u16,
+    /// The number of the author's earlier records.
+    pub seq: u64,
+    /// The operation itself.
+    pub op: LaidRef<'a>,
 }
 
 /// Records of a history that are lent.
 #[derive(Drop)]
 pub struct Records<'a> {
-    records: &'a [Record],
+    rows: &'a [Row],
+    beside: &'a [u8],
 }
 
 impl<'a> Model for Records<'a> {
+    ghost use Rattle.std.specs.Prelude.{length};
     ghost use Rattle.oplog.specs.History.{History};
     ghost use Rattle.oplog.specs.Codes.{history_code};
+    ghost use Rattle.oplog.specs.Laid.{records_in, AreWithin};
 
     ghost Value = { History };
 
     ghost coded = { history_code };
 
-    ghost view = { λ r. r.records.now };
+    ghost view = { λ r. records_in r.beside.now r.rows.now };
+
+    ghost invariant = { λ r. AreWithin (length r.beside.now) r.rows.now };
 }
 
 impl<'a> Records<'a> {
-    /// These records, lent.
+    // The records of these rows, with long arguments among these bytes.
     #[inline(always)]
-    pub fn of(records: &'a [Record]) -> Records<'a>
-        ensures records { result ≡ records.now }
+    pub(crate) fn of(rows: &'a [Row], beside: &'a [u8]) -> Records<'a>
+        requires within { AreWithin (length beside.now) rows.now }
+        ensures records { result ≡ records_in beside.now rows.now }
     {
-        Records { records }
+        Records { rows, beside }
     }
 
     /// How many they are.
@@ -127,14 +171,29 @@ impl<'a> Records<'a> {
     pub fn len(&self) -> usize
         ensures len { result ≡ length self.now }
     {
-        self.records.len()
+        self.rows.len()
     }
 
     /// Whether there is none.
     pub fn is_empty(&self) -> bool
         ensures empty { IsTrue result ↔ (length self.now ≡ 0) }
     {
-        self.records.len() == 0
+        self.rows.len() == 0
+    }
+
+    /// The record at an index, from 0 on.
+    #[inline(always)]
+    pub fn at(&self, k: usize) -> RecordRef<'a>
+        requires index { k < length self.now }
+        ensures there { slice_get self.now k ≡ Some (record { author = result.author; op = result.op; seq = result.seq }) }
+    {
+        let rows = self.rows;
+        let row = &rows[k];
+        RecordRef {
+            author: row.author,
+            seq: row.seq,
+            op: LaidRef::of(&row.op, self.beside),
+        }
     }
 
     /// The operation of the record at an index, from 0 on.
@@ -143,9 +202,7 @@ impl<'a> Records<'a> {
         requires index { k < length self.now }
         ensures op { (r : TheRecord) × (slice_get self.now k ≡ Some r) × (r.op ≡ result) }
     {
-        let records = self.records;
-        let record = &records[k];
-        record.op.lent()
+        self.at(k).op.lent()
     }
 
     /// The first of them, so many.
@@ -154,14 +211,15 @@ impl<'a> Records<'a> {
         requires within { count ≤ length self.now }
         ensures first { result ≡ take count self.now }
     {
-        Records::of(&self.records[..count])
+        Records::of(&self.rows[..count], self.beside)
     }
 
-    // The records where they lie.
+    /// All but the first, so many.
     #[inline(always)]
-    pub(crate) fn as_slice(&self) -> &'a [Record]
-        ensures records { result.now ≡ self.now }
+    pub fn after(&self, count: usize) -> Records<'a>
+        requires within { count ≤ length self.now }
+        ensures after { result ≡ drop count self.now }
     {
-        self.records
+        Records::of(&self.rows[count..], self.beside)
     }
 }

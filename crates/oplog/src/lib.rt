@@ -5,11 +5,14 @@
 mod answers;
 mod configuration;
 mod hand;
-mod kept;
+mod laid;
 mod lent;
 mod log_state;
+mod padding;
 mod parts;
+mod record_list;
 mod records;
+mod rows;
 
 pub use answers::{Appended, CopyAnswer, Ended};
 pub use configuration::{
@@ -17,7 +20,9 @@ pub use configuration::{
     MOST_WINDOW, OpenError, Sizes, limits,
 };
 pub use hand::Hand;
-pub use lent::{OpRef, Records};
-pub use log_state::LogState;
+pub use laid::{LaidOp, LaidRef, LongCall};
+pub use lent::{CallRef, OpRef, RecordRef, Records};
+pub use log_state::{LogRoom, LogState};
 pub use parts::OpParts;
+pub use record_list::RecordList;
 pub use records::{Call, MAX_INSTALLED_BYTES, NewProgram, Op, Record};

@@ -4,7 +4,9 @@ ghost use Rattle.std.specs.Prelude.{◌≡◌, ◌↔◌, ◌<◌, ◌≤◌, �
 ghost use Rattle.maps.specs.Maps.{HasShapes, shapes_of};
 ghost use Rattle.maps.specs.MapSets.{maps_of};
 ghost use Rattle.loader.specs.StoreState.{installed_in, state_of};
+ghost use Rattle.maps.specs.declared.shapes.TheConstants.{MOST_ARG_LEN};
 ghost use Rattle.oplog.specs.declared.configuration.TheConstants.{ENDLESS, MAX_SESSIONS};
+ghost use Rattle.oplog.specs.History.{AllFit};
 ghost use Rattle.oplog.specs.Limits.{IsWindow, IsLimit};
 ghost use Rattle.oplog.specs.Logs.{IsLog, tail_of, room_in, left_of, records_from, opened_log, up_to_last};
 ghost use Rattle.oplog.specs.CopyAnswers.{IfCopied, IfBelow};
@@ -12,14 +14,22 @@ ghost use Rattle.oplog.specs.CopyAnswers.{IfCopied, IfBelow};
 use crate::answers::{Appended, CopyAnswer, Ended};
 use crate::configuration::MAX_SESSIONS;
 use crate::hand::Hand;
-use crate::kept::Kept;
 use crate::lent::Records;
-use crate::records::Record;
+use crate::record_list::RecordList;
 use loader::{Installed, StoreState};
 use maps::MapSet;
 use std::alloc::{AllocError, Global};
 use std::marker::Model;
 use std::mem::swap;
+
+/// How much a log keeps, and a hand for its records.
+#[derive(Clone, Copy)]
+pub struct LogRoom {
+    /// Records at once.
+    pub window: usize,
+    /// Bytes of a long argument: one of more than [`MAX_ARG_LEN`](maps::MAX_ARG_LEN).
+    pub long: usize,
+}
 
 /// The one history of operations that all replicas are fed from, from its base on, with the maps and the installed programs there, and how
 /// far it is completed. All its room, a window of records, the maps and the programs, is taken when it is opened: no later call takes memory.
@@ -30,7 +40,7 @@ pub struct LogState {
     done: u64,
     window: usize,
     limit: usize,
-    records: Kept,
+    records: RecordList,
     base_maps: MapSet,
     base_programs: Installed,
     // Up to which place of the history the records of each author go, as far as it was told.
@@ -59,22 +69,24 @@ impl Model for LogState {
 }
 
 impl LogState {
-    /// A log without a record, over this state. It keeps at most `window` records at once, and its history may have `limit`.
+    /// A log without a record, over this state. It keeps at most a window of records at once, and its history may have `limit`.
     ///
     /// # Errors
     ///
-    /// The system has no memory left.
+    /// The system has no memory left, or the long arguments of a window would take 4 GiB.
     pub fn open(
         alloc: Global,
         state: StoreState,
-        window: usize,
+        room: LogRoom,
         limit: usize,
     ) -> Result<LogState, AllocError>
-        requires window { IsWindow window }
+        requires window { IsWindow room.window }
+        requires long { room.long ≤ MOST_ARG_LEN }
         requires limit { IsLimit limit }
-        ensures opened { IfOk result (λ g. g ≡ opened_log state window limit) }
+        ensures opened { IfOk result (λ g. g ≡ opened_log state room.window room.long limit) }
     {
-        let records = Kept::open(alloc, window)?;
+        let LogRoom { window, long } = room;
+        let records = RecordList::open(alloc, window, long)?;
         let (base_maps, base_programs) = state.into_parts();
         Ok(LogState {
             base: 0,
@@ -173,6 +185,7 @@ impl LogState {
     /// L1 where it has as many as it may have.
     pub fn append(&mut self, batch: &Records<'_>) -> Result<Appended, Ended>
         requires room { min (length batch.now) (left_of self.old) ≤ room_in self.old }
+        requires fit { AllFit self.old.long batch.now }
         ensures first { IfOk result (λ a. a.first ≡ tail_of self.old) }
         ensures count { IfOk result (λ a. a.count ≡ min (length batch.now) (left_of self.old)) }
         ensures records { IfOk result (λ a. self.new ≡ record self.old { records = self.old.records ++ take a.count batch.now }) }
@@ -186,19 +199,20 @@ impl LogState {
         let first = self.tail();
         let count = batch.len().min(left);
         let mut end = first;
-        for record in &batch.as_slice()[..count] {
-            self.records.push(record);
+        for k in 0..count {
+            let next = batch.at(k);
+            self.records.push_laid(next.author, next.seq, next.op);
             end += 1;
-            note(&mut self.ends, record.author, end);
+            note(&mut self.ends, next.author, end);
         }
         Ok(Appended { first, count })
     }
 
-    /// Copies all records from an index on into a hand, which was opened for a log of this window. Nothing is copied from below
-    /// the base.
+    /// Copies all records from an index on into a hand, which was opened for a log of this room. Nothing is copied from below the base.
     pub fn copy_from(&self, index: u64, hand: &mut Hand) -> CopyAnswer
         requires index { index ≤ tail_of self.now }
         requires window { hand.old.window ≡ self.now.window }
+        requires long { hand.old.long ≡ self.now.long }
         ensures kept { IfCopied result (self.now.base ≤ index) }
         ensures copied { IfCopied result (hand.new ≡ record hand.old { begin = index; records = records_from self.now index }) }
         ensures within { tail_of self.now ≤ ENDLESS }
@@ -208,10 +222,7 @@ impl LogState {
             return CopyAnswer::Below(self.base);
         }
         hand.clear(index);
-        let start = (index - self.base) as usize;
-        for record in &self.records.as_slice()[start..] {
-            hand.push(record);
-        }
+        hand.extend(&self.records_from(index));
         CopyAnswer::Copied
     }
 
@@ -220,8 +231,9 @@ impl LogState {
         requires base { self.now.base ≤ index }
         requires tail { index ≤ tail_of self.now }
         ensures records { result ≡ records_from self.now index }
+        ensures fit { AllFit self.now.long result }
     {
-        Records::of(&self.records.as_slice()[(index - self.base) as usize..])
+        self.records.lent().after((index - self.base) as usize)
     }
 
     /// The completed tail becomes the greater of itself and `n`, which is a length of the history so far.
@@ -251,7 +263,7 @@ impl LogState {
     }
 
     /// Makes `at` the base, as [`LogState::reclaim`] does, and copies neither the maps nor the programs: they and the base's change places,
-    /// so that the caller has what was the base. The hand, which was opened for a log of this window, gets all the records that the log had:
+    /// so that the caller has what was the base. The hand, which was opened for a log of this room, gets all the records that the log had:
     /// the first of them, up to `at`, lead from that base to the new one. Takes time in proportion to the records that stay.
     pub fn exchange(
         &mut self,
@@ -266,6 +278,7 @@ impl LogState {
         requires programs { programs.old.shapes ≡ shapes_of (maps_of maps.old) }
         requires places { programs.old.places ≡ self.old.base_state.places }
         requires window { hand.old.window ≡ self.old.window }
+        requires long { hand.old.long ≡ self.old.long }
         ensures base { self.new ≡ record self.old { base = at; base_state = state_of (maps_of maps.old) programs.old; records = records_from self.old at } }
         ensures state { state_of (maps_of maps.new) programs.new ≡ self.old.base_state }
         ensures shapes { HasShapes (shapes_of (maps_of maps.new)) (maps_of maps.new) }
@@ -276,7 +289,7 @@ impl LogState {
         swap(&mut self.base_programs, programs);
         let dropped = (at - self.base) as usize;
         hand.exchange(self.base, &mut self.records);
-        copy_records(&mut self.records, &hand.records().as_slice()[dropped..]);
+        self.records.copy_from(&hand.records().after(dropped));
         self.base = at;
     }
 }
@@ -288,16 +301,5 @@ fn note(ends: &mut [u64; MAX_SESSIONS], author: u16, end: u64)
     let author = author as usize;
     if author < MAX_SESSIONS {
         ends[author] = end;
-    }
-}
-
-// Becomes a copy of these records. There is room for them.
-fn copy_records(records: &mut Kept, from: &[Record])
-    requires room { length from.now ≤ records.old.room }
-    ensures copied { records.new ≡ record records.old { records = from.now } }
-{
-    records.clear();
-    for record in from {
-        records.push(record);
     }
 }

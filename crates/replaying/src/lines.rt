@@ -16,7 +16,7 @@ ghost use Rattle.scripts.specs.Transcript.{Answered, Installed, transcript_line_
 use engine::Verdict;
 use loader::{Catalogue, StoreState};
 use machine::Outcome;
-use oplog::{Call, MAX_LIMIT, Op};
+use oplog::{CallRef, MAX_LIMIT, OpRef};
 use running::{SingleNode, checked_call};
 use scripts::{
     KeyedCall, ProgramKey, ProgramText, ToldReply, TranscriptLine, read_transcript_line,
@@ -91,7 +91,7 @@ fn number_told(catalogue: &Catalogue, key: ProgramKey<'_>) -> Option<u64>
 }
 
 // The call that a line says, where a session could ask for it.
-fn find(catalogue: &Catalogue, mode: Mode, call: &KeyedCall) -> Option<Call>
+fn find<'a>(catalogue: &Catalogue, mode: Mode, call: &'a KeyedCall<'_>) -> Option<CallRef<'a>>
     ensures found { option_map Run result ≡ operation_of catalogue.now mode (keyed_of call.now) }
     ensures asks { IfSome result (λ c. is_operation mode catalogue.now (Run c) ≡ true) }
 {
@@ -139,14 +139,14 @@ impl Replaying {
 
     // Applies an update, and keeps what it should tell.
     #[tactic(auto, using(crate::proofs::Replays::due_applied, crate::proofs::Replays::due_full))]
-    fn apply(&mut self, catalogue: &Catalogue, op: Op) -> Option<Outcome>
+    fn apply(&mut self, catalogue: &Catalogue, op: &OpRef<'_>) -> Option<Outcome>
         requires steady { IsSteady catalogue.now self.old.node }
-        requires update { is_operation Update catalogue.now op ≡ true }
+        requires update { is_operation Update catalogue.now op.now ≡ true }
         ensures steady { IsSteady catalogue.now self.new.node }
-        ensures updated { IfSome result (λ o. IsUpdated catalogue.now op self.old.node self.new.node o) }
+        ensures updated { IfSome result (λ o. IsUpdated catalogue.now op.now self.old.node self.new.node o) }
         ensures ended { IfNone result (HasEnded self.old.node self.new.node) }
         ensures counts { (self.new.reads ≡ self.old.reads) × (self.new.ended ≡ self.old.ended) }
-        ensures due { TellsWhatIsDue catalogue.now Update op self.old self.new.due }
+        ensures due { TellsWhatIsDue catalogue.now Update op.now self.old self.new.due }
     {
         let mode = Mode::Update;
         let place = self.node.tail();
@@ -165,12 +165,12 @@ impl Replaying {
     }
 
     // Whether an update has this index and this reply.
-    fn update(&mut self, catalogue: &Catalogue, op: Op, index: u64, reply: u64) -> bool
+    fn update(&mut self, catalogue: &Catalogue, op: &OpRef<'_>, index: u64, reply: u64) -> bool
         requires steady { IsSteady catalogue.now self.old.node }
-        requires update { is_operation Update catalogue.now op ≡ true }
+        requires update { is_operation Update catalogue.now op.now ≡ true }
         ensures steady { IsSteady catalogue.now self.new.node }
-        ensures compared { Compares catalogue.now Update op index reply self.old result self.new }
-        ensures due { TellsWhatIsDue catalogue.now Update op self.old self.new.due }
+        ensures compared { Compares catalogue.now Update op.now index reply self.old result self.new }
+        ensures due { TellsWhatIsDue catalogue.now Update op.now self.old self.new.due }
     {
         let place = self.node.tail();
         let outcome = self.apply(catalogue, op);
@@ -185,7 +185,7 @@ impl Replaying {
 
     // Whether a read has this point and this reply.
     #[tactic(auto, using(crate::proofs::Replays::due_queried, crate::proofs::Replays::queried, crate::proofs::Replays::read_elsewhere))]
-    fn read(&mut self, catalogue: &Catalogue, call: &Call, point: u64, reply: u64) -> bool
+    fn read(&mut self, catalogue: &Catalogue, call: &CallRef<'_>, point: u64, reply: u64) -> bool
         requires steady { IsSteady catalogue.now self.old.node }
         ensures steady { IsSteady catalogue.now self.new.node }
         ensures compared { Compares catalogue.now Read (Run call.now) point reply self.old result self.new }
@@ -224,7 +224,7 @@ impl Replaying {
         match mode {
             Mode::Update => verdict_of(self.update(
                 catalogue,
-                Op::Run(call),
+                &call.op(),
                 told.index,
                 told.reply,
             )),
@@ -247,7 +247,8 @@ impl Replaying {
         let Ok(program) = self.node.check(catalogue, text) else {
             return LineVerdict::Bad;
         };
-        verdict_of(self.update(catalogue, Op::Install(program), told.index, told.reply))
+        let install = OpRef::install(program.mode(), program.arg_len(), program.bytes());
+        verdict_of(self.update(catalogue, &install, told.index, told.reply))
     }
 
     // What an update after the end of the history is found to be.

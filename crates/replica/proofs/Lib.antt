@@ -4,4 +4,5 @@ pub mod Afters
 pub mod Histories
 pub mod Tested
 pub mod Asked
+pub mod Fitting
 pub mod Export

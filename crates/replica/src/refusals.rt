@@ -1,7 +1,7 @@
 // The calls on a store that are refused, and why.
 
 ghost use Rattle.std.specs.Prelude.{◌≡◌, ◌<◌, ◌≤◌, [], length, Some, IfOk};
-ghost use Rattle.maps.specs.declared.shapes.TheConstants.{MAX_ARG_LEN};
+ghost use Rattle.maps.specs.declared.shapes.TheConstants.{MAX_ARG_LEN, MOST_ARG_LEN};
 ghost use Rattle.oplog.specs.declared.records.TheConstants.{MAX_INSTALLED_BYTES};
 ghost use Rattle.replica.specs.StoreMeaning.{program_at};
 ghost use Rattle.replica.specs.Refusals.{store_fault_number, call_refusal, offered_refusal, early_refusal, install_refusal, IsRoomFor, IsRefusedAs};
@@ -68,7 +68,7 @@ pub fn find_program<'a>(
     argument: &[u8],
 ) -> Result<&'a Accepted, StoreRefused>
     ensures found { IfOk result (λ p. program_at catalogue.now program ≡ Some p.now) }
-    ensures length { IfOk result (λ p. (length argument.now ≡ p.now.arg_len) × (length argument.now ≤ MAX_ARG_LEN)) }
+    ensures length { IfOk result (λ p. (length argument.now ≡ p.now.arg_len) × (length argument.now ≤ MOST_ARG_LEN)) }
     ensures shapes { IfOk result (λ p. p.now.shapes ≡ catalogue.now.shapes) }
     ensures refusal { IsRefusedAs (call_refusal catalogue.now program argument.now) result }
 {
@@ -94,7 +94,7 @@ pub fn find_program_of<'a>(
 ) -> Result<&'a Accepted, StoreRefused>
     ensures found { IfOk result (λ p. program_at catalogue.now program ≡ Some p.now) }
     ensures mode { IfOk result (λ p. p.now.mode ≡ mode) }
-    ensures length { IfOk result (λ p. (length argument.now ≡ p.now.arg_len) × (length argument.now ≤ MAX_ARG_LEN)) }
+    ensures length { IfOk result (λ p. (length argument.now ≡ p.now.arg_len) × (length argument.now ≤ MOST_ARG_LEN)) }
     ensures shapes { IfOk result (λ p. p.now.shapes ≡ catalogue.now.shapes) }
     ensures refusal { IsRefusedAs (offered_refusal catalogue.now mode program argument.now) result }
 {
@@ -110,15 +110,15 @@ pub fn find_program_of<'a>(
 ///
 /// # Errors
 ///
-/// S1 where there is neither a program nor a place of this number; S2 where the argument hasn't the program's length, or is longer than
-/// [`MAX_ARG_LEN`]; S3 where the program has the other mode.
+/// S1 where there is neither a program nor a place of this number; S2 where the argument hasn't the program's length, or where that of a
+/// place is longer than [`MAX_ARG_LEN`]; S3 where the program has the other mode.
 pub fn check_call(
     catalogue: &Catalogue,
     mode: Mode,
     program: u16,
     argument: &[u8],
 ) -> Result<(), StoreRefused>
-    ensures fits { IfOk result (λ _. length argument.now ≤ MAX_ARG_LEN) }
+    ensures fits { IfOk result (λ _. length argument.now ≤ MOST_ARG_LEN) }
     ensures refusal { IsRefusedAs (early_refusal catalogue.now mode program argument.now) result }
 {
     let number = program as usize;

@@ -133,13 +133,14 @@ impl Replica {
     }
 
     /// Changes places with a log's base, which lies below the tail: the maps and the programs become the base's, and the replica has what
-    /// was the base. All that it has applied is completed. The hand, which was opened for a log of this window, gets all the records that
+    /// was the base. All that it has applied is completed. The hand, which was opened for a log of this room, gets all the records that
     /// the log had, and the log keeps those from the tail on. No map is copied.
     pub fn exchange(&mut self, log: &mut LogState, hand: &mut Hand)
         requires above { log.old.base < self.old.tail }
         requires completed { self.old.tail ≤ log.old.done }
         requires sizes { sizes_of self.old.state ≡ sizes_of log.old.base_state }
         requires window { hand.old.window ≡ log.old.window }
+        requires long { hand.old.long ≡ log.old.long }
         ensures log { log.new ≡ record log.old { base = self.old.tail; base_state = self.old.state; records = records_from log.old self.old.tail } }
         ensures replica { self.new ≡ record { tail = log.old.base; state = log.old.base_state } }
         ensures hand { hand.new ≡ record hand.old { begin = log.old.base; records = log.old.records } }

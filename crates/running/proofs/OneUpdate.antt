@@ -12,6 +12,7 @@ use Rattle.loader.specs.CatalogueView.{CatalogueView, sizes_for}
 use Rattle.oplog.specs.declared.configuration.TheConstants.{ENDLESS}
 use Rattle.oplog.specs.Operations.{Operation}
 use Rattle.oplog.specs.declared.records.Record.{Record}
+use Rattle.oplog.specs.Lists.{RecordListView}
 use Rattle.oplog.specs.Logs.{Log, tail_of, left_of}
 use Rattle.oplog.specs.History.{Effect, History, left_by, after}
 use Rattle.replica.specs.StoreMeaning.{is_operation, store_meaning, AreUpdates}
@@ -69,7 +70,7 @@ module _ (c : CatalogueView) (g h : Log) (n m : NodeReplica) (r : Record) (log :
         let there = keeps.replayed 0 0 r has_index (ap (λ (x : History). slice_get x 0) holds_one) (omega (arith, tail, at)) in
         (there.0, same_Some got (Some there.0) (sym found ∙ there.1), subst (λ (x : ReplicaView). IsAnswered c r.op x.state there.0) same_replica there.2)
 
-    pub updated : (old : SingleNode) (last : Log) (p : NodeReplica) (room : InstalledView) (next : Record) (op : Operation) → n ≡ old.own → tail_of g ≡ tail_of old.log → g.limit ≡ old.log.limit → r.op ≡ op → p ≡ replayed c m → last ≡ told p h
+    pub updated : (old : SingleNode) (last : Log) (p : NodeReplica) (room : InstalledView) (next : RecordListView) (op : Operation) → n ≡ old.own → tail_of g ≡ tail_of old.log → g.limit ≡ old.log.limit → r.op ≡ op → p ≡ replayed c m → last ≡ told p h
         → IfSome got (λ o. IsUpdated c op old (record { log = last; own = p; replies = kept; room = room; next = next }) o)
     updated old last p room next op replica tail limit same run raised =
         let a = answered in
@@ -92,33 +93,3 @@ module _ (c : CatalogueView) (g h : Log) (n m : NodeReplica) (r : Record) (log :
 
     pub not_ended : (P : Type 0) → IfNone got P
     not_ended P = subst (λ (x : Option Outcome). IfNone x P) (sym answered.1) tt
-
--- ---- the record that is appended next says nothing of the node
-
-pub steady_with : (c : CatalogueView) (n : SingleNode) (r : Record) → IsSteady c n → IsSteady c (record n { next = r })
-steady_with c n r s = record {
-  completed = s.completed;
-  base_sizes = s.base_sizes;
-  base = s.base;
-  window = s.window;
-  tail = s.tail;
-  sizes = s.sizes;
-  room = s.room;
-}
-
-pub updated_with : (c : CatalogueView) (op : Operation) (old : SingleNode) (r : Record) (new : SingleNode) (o : Option Outcome) → IfSome o (λ x. IsUpdated c op (record old { next = r }) new x)
-    → IfSome o (λ x. IsUpdated c op old new x)
-updated_with c op old r new None u = tt
-updated_with c op old r new (Some o) u = record {
-  room = u.room;
-  limit = u.limit;
-  tail = u.tail;
-  done = u.done;
-  takes = u.takes;
-  outcome = u.outcome;
-  state = u.state;
-}
-
-pub ended_with : {A : Type 0} (old : SingleNode) (r : Record) (new : SingleNode) (o : Option A) → IfNone o (HasEnded (record old { next = r }) new) → IfNone o (HasEnded old new)
-ended_with old r new (Some o) e = tt
-ended_with old r new None e = record { full = e.full; limit = e.limit; tail = e.tail; replica = e.replica }

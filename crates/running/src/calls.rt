@@ -1,7 +1,7 @@
 // What a line of a script does.
 
 ghost use Rattle.std.specs.Prelude.{◌≡◌, ◌≤◌, true, false, length, Ok, option_map, IfOk};
-ghost use Rattle.maps.specs.declared.shapes.TheConstants.{MAX_ARG_LEN};
+ghost use Rattle.maps.specs.declared.shapes.TheConstants.{MOST_ARG_LEN};
 ghost use Rattle.oplog.specs.declared.records.Op.TheVariants.{Run};
 ghost use Rattle.replica.specs.StoreMeaning.{call_of as program_call, is_operation};
 ghost use Rattle.replica.specs.Refusals.{early_refusal, IsRefusedAs};
@@ -13,7 +13,7 @@ ghost use Rattle.scripts.specs.ScriptShown.{at_number_of, program_of, meaning_of
 use crate::run_texts::{put_install, put_read, put_refused, put_update};
 use crate::single_node::SingleNode;
 use loader::Catalogue;
-use oplog::{Call, Op};
+use oplog::{CallRef, OpRef};
 use replica::{StoreRefused, check_call, find_program};
 use scripts::{NumberedCall, ProgramText, ScriptLine, lent_argument, word_line};
 use std::alloc::AllocError;
@@ -33,7 +33,7 @@ impl SingleNode {
     ) -> Result<(), AllocError>
         requires steady { IsSteady catalogue.now self.old }
         requires call { is_operation mode catalogue.now (Run (program_call program argument.now)) ≡ true }
-        requires fits { length argument.now ≤ MAX_ARG_LEN }
+        requires fits { length argument.now ≤ MOST_ARG_LEN }
         ensures steady { IsSteady catalogue.now self.new }
         ensures taken { TakesOperation catalogue.now (Run (program_call program argument.now)) mode self.old self.new out.old.items out.new.items result }
     {
@@ -43,7 +43,7 @@ impl SingleNode {
                 let outcome = self.query(catalogue, program, argument);
                 put_read(out, index, outcome)
             }
-            Mode::Update => match self.submit_call(catalogue, program, argument) {
+            Mode::Update => match self.submit(catalogue, &OpRef::run(program, argument)) {
                 Some(outcome) => put_update(out, index, outcome),
                 None => put_refused(out, StoreRefused::Ended),
             },
@@ -93,12 +93,12 @@ fn run_call(
 /// # Errors
 ///
 /// S1 where there is neither a program nor a place of this number, else S2 and S3 as [`replica::check_call`].
-pub fn checked_call(
+pub fn checked_call<'a>(
     catalogue: &Catalogue,
     mode: Mode,
     program: u64,
-    argument: &[u8],
-) -> Result<Call, StoreRefused>
+    argument: &'a [u8],
+) -> Result<CallRef<'a>, StoreRefused>
     ensures refusal { IsRefusedAs (early_refusal catalogue.now mode program argument.now) result }
     ensures call { IfOk result (λ call. (call ≡ program_call program argument.now) × (is_operation mode catalogue.now (Run call) ≡ true)) }
 {
@@ -106,7 +106,7 @@ pub fn checked_call(
         return Err(StoreRefused::UnknownProgram);
     }
     check_call(catalogue, mode, program as u16, argument)?;
-    Ok(Call::new(program as u16, argument))
+    Ok(CallRef::new(program as u16, argument))
 }
 
 // Makes the call that a line asks for by a number, and writes what it answers.
@@ -140,10 +140,13 @@ fn run_install(
 {
     let index = node.tail();
     match node.check(catalogue, text) {
-        Ok(program) => match node.submit(catalogue, Op::Install(program)) {
-            Some(outcome) => put_install(out, index, outcome),
-            None => put_refused(out, StoreRefused::Ended),
-        },
+        Ok(program) => {
+            let install = OpRef::install(program.mode(), program.arg_len(), program.bytes());
+            match node.submit(catalogue, &install) {
+                Some(outcome) => put_install(out, index, outcome),
+                None => put_refused(out, StoreRefused::Ended),
+            }
+        }
         Err(refused) => put_refused(out, refused),
     }
 }

@@ -1,14 +1,13 @@
 // One replica and one log, on one thread.
 
 ghost use Rattle.std.specs.Prelude.{◌≡◌, ◌<◌, ◌≤◌, [], true, length, Some, IfOk, IfSome, IfNone};
-ghost use Rattle.maps.specs.declared.shapes.TheConstants.{MAX_ARG_LEN};
 ghost use Rattle.maps.specs.MapSets.{maps_of};
 ghost use Rattle.verifier.specs.declared.refusal.Mode.TheVariants.{Update, Read};
 ghost use Rattle.loader.specs.CatalogueView.{OpensOn};
 ghost use Rattle.loader.specs.StoreState.{installed_in};
 ghost use Rattle.oplog.specs.Limits.{IsLimit};
 ghost use Rattle.oplog.specs.Logs.{tail_of, room_in};
-ghost use Rattle.oplog.specs.declared.records.Op.TheVariants.{Run, Install};
+ghost use Rattle.oplog.specs.declared.records.Op.TheVariants.{Install};
 ghost use Rattle.replica.specs.StoreMeaning.{call_of, run_of, ran_to, is_operation};
 ghost use Rattle.replica.specs.Refusals.{install_refusal, IsRefusedAs};
 ghost use Rattle.scripts.specs.ScriptShown.{program_of};
@@ -18,11 +17,10 @@ use loader::{Catalogue, Installed, StoreState};
 use machine::Outcome;
 use maps::MapSet;
 use node::{NodeReplica, append, finish, reclaim, replay};
-use oplog::{Hand, LogState, MAX_WINDOW, NewProgram, Op, Record, Records};
+use oplog::{Hand, LogRoom, LogState, MAX_WINDOW, NewProgram, OpRef, RecordList};
 use replica::{Replica, Replies, StoreRefused, check_install};
 use scripts::ProgramText;
 use std::alloc::{AllocError, Global};
-use std::slice::from_ref;
 
 /// How many programs a run may install.
 pub const RUN_PLACES: usize = 4;
@@ -35,7 +33,7 @@ pub struct SingleNode {
     replies: Replies,
     room: Installed,
     // The record that is appended next, which is written where the last one stood.
-    next: Record,
+    next: RecordList,
 }
 
 impl SingleNode {
@@ -52,13 +50,18 @@ impl SingleNode {
         ensures empty { IfOk result (λ n. Follows limit catalogue.now [] n) }
     {
         let base = StoreState::opening(alloc, catalogue, opening)?;
-        let log = LogState::open(alloc, base, MAX_WINDOW, limit)?;
-        let hand = Hand::open(alloc, MAX_WINDOW)?;
+        let long = catalogue.longest_argument();
+        let room = LogRoom {
+            window: MAX_WINDOW,
+            long,
+        };
+        let log = LogState::open(alloc, base, room, limit)?;
+        let hand = Hand::open(alloc, MAX_WINDOW, long)?;
         let replica = Replica::open(StoreState::opening(alloc, catalogue, opening)?);
         let own = NodeReplica { replica, hand };
         let replies = Replies::new(0, 0);
         let room = Installed::open(alloc, catalogue.shapes(), 1)?;
-        let next = Record::default();
+        let next = RecordList::open(alloc, 1, long)?;
         Ok(SingleNode {
             log,
             own,
@@ -147,58 +150,26 @@ impl SingleNode {
         Ok(NewProgram::new(text.mode, text.arg_len as usize, bytes))
     }
 
-    // Appends the next record, with the number of the updates so far, and brings the replica up to date; `None` where the history has all
-    // its records.
-    #[inline(always)]
-    fn submit_next(&mut self, catalogue: &Catalogue) -> Option<Outcome>
+    /// Appends one record and brings the replica up to date; `None` where the history has all its records.
+    pub fn submit(&mut self, catalogue: &Catalogue, op: &OpRef<'_>) -> Option<Outcome>
         requires steady { IsSteady catalogue.now self.old }
-        requires update { is_operation Update catalogue.now self.old.next.op ≡ true }
+        requires update { is_operation Update catalogue.now op.now ≡ true }
         ensures steady { IsSteady catalogue.now self.new }
-        ensures updated { IfSome result (λ o. IsUpdated catalogue.now self.old.next.op self.old self.new o) }
+        ensures updated { IfSome result (λ o. IsUpdated catalogue.now op.now self.old self.new o) }
         ensures ended { IfNone result (HasEnded self.old self.new) }
     {
         self.make_room(catalogue);
-        self.next.author = 0;
         let seq = self.log.tail();
-        self.next.seq = seq;
         if self.log.left() == 0 {
             return None;
         }
-        let records = Records::of(from_ref(&self.next));
+        self.next.clear();
+        self.next.push(0, seq, op);
+        let records = self.next.lent();
         append(&mut self.log, &mut self.own, &records, &mut self.replies);
         replay(&mut self.own, catalogue, &mut self.replies);
         finish(&mut self.log, &self.own);
         self.replies.get(0)
-    }
-
-    /// Appends one record and brings the replica up to date; `None` where the history has all its records.
-    pub fn submit(&mut self, catalogue: &Catalogue, op: Op) -> Option<Outcome>
-        requires steady { IsSteady catalogue.now self.old }
-        requires update { is_operation Update catalogue.now op ≡ true }
-        ensures steady { IsSteady catalogue.now self.new }
-        ensures updated { IfSome result (λ o. IsUpdated catalogue.now op self.old self.new o) }
-        ensures ended { IfNone result (HasEnded self.old self.new) }
-    {
-        self.next.op = op;
-        self.submit_next(catalogue)
-    }
-
-    /// `submit`, but for a call: its argument is written where the record of the call before was.
-    pub fn submit_call(
-        &mut self,
-        catalogue: &Catalogue,
-        program: u16,
-        argument: &[u8],
-    ) -> Option<Outcome>
-        requires steady { IsSteady catalogue.now self.old }
-        requires update { is_operation Update catalogue.now (Run (call_of program argument.now)) ≡ true }
-        requires fits { length argument.now ≤ MAX_ARG_LEN }
-        ensures steady { IsSteady catalogue.now self.new }
-        ensures updated { IfSome result (λ o. IsUpdated catalogue.now (Run (call_of program argument.now)) self.old self.new o) }
-        ensures ended { IfNone result (HasEnded self.old self.new) }
-    {
-        self.next.op.set_call(program, argument);
-        self.submit_next(catalogue)
     }
 
     /// What the program of a number answers as a read after all updates so far.

@@ -1,5 +1,5 @@
 -- The answers of a batch, and the steps that hand answers out.
-use Rattle.std.proofs.Common.{◌≡◌, ℕ, zero, suc, ◌+◌, ◌<◌, ◌≤◌, ◌^◌, List, [], ◌∷◌, ◌++◌, length, take, true, Option, Some, None, refl, sym, ap, ◌∙◌, ⊎_elim, arith, subst}
+use Rattle.std.proofs.Common.{◌≡◌, ℕ, zero, suc, ◌+◌, ◌≤◌, List, [], ◌∷◌, ◌++◌, length, take, true, Option, Some, None, refl, sym, ap, ◌∙◌, ⊎_elim, arith, subst}
 use Rattle.std.specs.Prelude.{slice_get, slice_set, cond, option_map}
 use Rattle.std.specs.Option.{option_and_then}
 use Rattle.std.proofs.lemmas.Bool.{cases_lt}
@@ -27,7 +27,6 @@ use Rattle.schedule.specs.Stands.{BatchStands, WrittenStands, Stands}
 use Rattle.schedule.specs.Taking.{WorldState, store_of, step_answer, answers_to, TakesPart, Takes, IsOfStore, IsStanding}
 use Rattle.schedule.proofs.Lists.{get_some, set_back}
 use Rattle.schedule.proofs.Options.{map_gives}
-use Rattle.schedule.proofs.Owned.{history_short}
 use Rattle.schedule.proofs.Appends.{take_snoc}
 use Rattle.schedule.proofs.Runs.{step_keeps}
 
@@ -43,9 +42,6 @@ module _ {m : Opening} {g : Log} {node : NodeView} (x : IsOfStore m g node) (b :
 
   pub have_run : HaveRun b.replies b.batch
   have_run k lt inside = let r = get_some b.batch.records k inside in let a = wr.ahead in let known = wr.known k r.0 lt r.1 (omega arith) in (outcome_of known.0, known.2)
-
-  pub positions_short : b.replies.first + length b.replies.outcomes < 2 ^ 64
-  positions_short = let a = wr.ahead in let t = x.stands.replica.tail in let l = history_short x in omega arith
 
 -- each request of it is answered
 pub all_answered : (b : Written) → HaveRun b.replies b.batch → IsAnswered (answered_batch b.replies b.batch)

@@ -50,6 +50,7 @@ replica_grow m h rs replica hand x = record {
   begins = x.begins;
   next = λ j f g. get_more h rs (replica.tail + j) f (x.next j f g);
   window = x.window;
+  long = x.long;
 }
 
 batch_grow : (m : Opening) (h rs : History) (replica : ReplicaView) (hand : HandView) (b : NodeBatch) → replica.tail ≤ length h → BatchStands m h replica hand b → BatchStands m (h ++ rs) replica hand b
@@ -95,6 +96,7 @@ module _ (m : Opening) (w : WorldView) (h : History) (positions : Positions) (t 
     limit = x.log.limit;
     within = (let l = len in let f = fits in omega arith);
     window = x.log.window;
+    long = x.log.long;
   }
 
   node_then : NodeStands m w.log.done all_of (end.positions_then) t n appended
@@ -114,6 +116,7 @@ module _ (m : Opening) (w : WorldView) (h : History) (positions : Positions) (t 
           next = λ j f g. let i : w.log.base + ((node.replica.tail - w.log.base) + j) ≡ node.replica.tail + j = omega arith in
               subst (λ k. slice_get all_of k ≡ Some f) i (log_then.kept ((node.replica.tail - w.log.base) + j) f (sym (get_drop (grown b.records w.log).records (node.replica.tail - w.log.base) j) ∙ g));
           window = o.replica.window;
+          long = o.replica.long;
         };
         desk = record {
           number = o.desk.number;

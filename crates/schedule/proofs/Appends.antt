@@ -95,15 +95,15 @@ pub record Grown (m : Opening) (w : WorldView) (h : History) (positions : Positi
   pub seats : AllSeats m w.log.done (h ++ take j b.records) positions_then t (batches n (length h) b j) w.nodes
 
 -- a claimed slot has no read, and its request is in the batch
-claimed_waits : (m : Opening) (done : ℕ) (h : History) (positions : Positions) (t : Trace) (x : ℕ) (batch : NodeBatch) (count : ℕ) (read : Option BegunRead) → StageStands m done h positions t x batch count Claimed read
+pub claimed_waits : (m : Opening) (done : ℕ) (h : History) (positions : Positions) (t : Trace) (x : ℕ) (batch : NodeBatch) (count : ℕ) (read : Option BegunRead) → StageStands m done h positions t x batch count Claimed read
     → (read ≡ None) × ((c k : ℕ) × (r : Record) × (slice_get (batch_in batch).records k ≡ Some r) × (r.author ≡ x) × (r.seq ≡ count) × OpenAt m h positions t x count Update r.op (index_in batch k) c)
 claimed_waits m done h positions t x batch count None p = (refl, p)
 claimed_waits m done h positions t x batch count (Some read) p = absurd p
 
-met : {A : Type 0} {a b c : A} → a ≡ b → c ≡ b → a ≡ c
+pub met : {A : Type 0} {a b c : A} → a ≡ b → c ≡ b → a ≡ c
 met e f = e ∙ sym f
 
-same_at : (rs : List Record) {i j : ℕ} {p r : Record} → slice_get rs i ≡ Some p → i ≡ j → slice_get rs j ≡ Some r → p ≡ r
+pub same_at : (rs : List Record) {i j : ℕ} {p r : Record} → slice_get rs i ≡ Some p → i ≡ j → slice_get rs j ≡ Some r → p ≡ r
 same_at rs {i} {j} {p} {r} g same f = same_Some p r (sym g ∙ ap (λ k. slice_get rs k) same ∙ f)
 
 also_none : (o : Option (Option BegunRead)) (a c : Option BegunRead) → o ≡ Some a → o ≡ Some c → a ≡ None → c ≡ None

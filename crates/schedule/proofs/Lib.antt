@@ -10,6 +10,7 @@ pub mod Replays
 pub mod Desks
 pub mod Appends
 pub mod Append
+pub mod Fitting
 pub mod Runs
 pub mod Owned
 pub mod Answers

@@ -44,6 +44,7 @@ keeps_finish m w h positions t n node p at_n taken x =
       log = record {
         ends = x.log.ends;
         kept = x.log.kept;
+        long = x.log.long;
         reclaimed = (let b = x.log.reclaimed in omega arith);
         state = x.log.state;
         done = (let l = o.replica.tail in omega arith);
@@ -81,6 +82,7 @@ keeps_reclaim m w h positions t n node p at_n taken x =
         limit = x.log.limit;
         within = x.log.within;
         window = x.log.window;
+        long = x.log.long;
       };
       count = set_length w.nodes n node ∙ x.count;
       callers = x.callers;
@@ -124,7 +126,7 @@ keeps_rebase m w h positions t n node p at_n taken x =
       stamps = x.stamps;
       nodes = nodes_put (λ k y. NodeStands m w.log.done h positions t k y) w.nodes n ((put_seen node (next m.catalogue Rebases (seen_of w.log node))).node) (λ k old ne g. x.nodes k old g)
           (record {
-            replica = record { tail = inside; state = x.log.state; begins = refl; next = λ j f g. absurd (none-some f g); window = o.replica.window };
+            replica = record { tail = inside; state = x.log.state; begins = refl; next = λ j f g. absurd (none-some f g); window = o.replica.window; long = o.replica.long };
             desk = record { number = o.desk.number; slots = o.desk.slots; reads = o.desk.reads; own = o.desk.own; answers = o.desk.answers };
             batch = moved m h node.replica node.hand (record { tail = w.log.base; state = w.log.base_state }) node.batch (omega arith) empty inside o.batch;
             seats = o.seats;

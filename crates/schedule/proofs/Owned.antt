@@ -17,7 +17,7 @@ use Rattle.combiner.specs.declared.slots.Stage.{Stage}
 use Rattle.combiner.specs.declared.slots.Stage.TheVariants.{Empty, Posted, Claimed, Answered}
 use Rattle.combiner.specs.declared.slots.Slot.{Slot}
 use Rattle.combiner.specs.Slots.{is_claimed}
-use Rattle.combiner.specs.Desks.{DeskView, first_author, claimed_from, has_combiner, has_request, claim_refusal, claimed, batch_of, IsBatchOf}
+use Rattle.combiner.specs.Desks.{first_author, claimed_from, has_combiner, has_request, claim_refusal, claimed, batch_of, IsBatchOf}
 use Rattle.replica.proofs.Export.{have_effects}
 use Rattle.node.specs.declared.following.NodeReplica.{NodeReplica}
 use Rattle.node.specs.Following.{IsNext, has_next, with_next}
@@ -107,14 +107,13 @@ refused true b e one two f g = absurd (false≢true (sym f))
 
 -- where nothing can be claimed, the step may not be taken
 pub claim_refused : {m : Opening} {h : Log} {node : NodeView} → IsOfStore m h node → node.batch ≡ Absent → (e : DeskRefused) → claim_refusal node.desk ≡ Some e
-    → (g : Log) (desk : DeskView) → desk ≡ node.desk → TakesPart (claim g node) g node g (record node { desk = desk }) answers.NotNow
-claim_refused {m} {h} {node} x idle e refusal g desk same =
+    → (g : Log) (new : NodeView) → new ≡ node → TakesPart (claim g node) g node g new answers.NotNow
+claim_refused {m} {h} {node} x idle e refusal g new same =
     let free : claimed_from (first_author node.desk) node.desk.slots ≡ [] = sym (subst (λ b. IsBatchOf node.desk (batch_in b)) idle x.stands.desk.own) in
     let nobody = no_combiner (first_author node.desk) node.desk.slots free in
     let nothing : has_request node.desk ≡ false = refused (has_combiner node.desk) (has_request node.desk) e _ _ nobody refusal in
     let no : (no_batch node.batch && has_request node.desk) ≡ false = ap (λ b. no_batch b && has_request node.desk) idle ∙ nothing in
-    subst (λ b. TakesPart (cond b (Some (silent g (record node { desk = claimed node.desk; batch = Held (batch_of node.desk) }))) None) g node g (record node { desk = desk }) answers.NotNow) (sym no)
-    (refl, refl, ap (λ d. (let v : NodeView = record node { desk = d } in v)) same)
+    subst (λ b. TakesPart (cond b (Some (silent g (record node { desk = claimed node.desk; batch = Held (batch_of node.desk) }))) None) g node g new answers.NotNow) (sym no) (refl, refl, same)
 
 -- ---- replaying
 

@@ -201,7 +201,7 @@ keeps_replay m w h positions t n node p at_n taken x =
       stamps = x.stamps;
       nodes = nodes_put (λ k y. NodeStands m w.log.done h positions t k y) w.nodes n new (λ k old ne g. x.nodes k old g)
           (record {
-            replica = record { tail = end.1; state = end.0; begins = refl; next = λ j f g. absurd (none-some f g); window = o.replica.window };
+            replica = record { tail = end.1; state = end.0; begins = refl; next = λ j f g. absurd (none-some f g); window = o.replica.window; long = o.replica.long };
             desk = same_desk m w n node o.desk;
             batch = batch_all m h own node.batch new.replica new.hand x.catalogue x.explains.updates runs.0 o.replica.state refl refl runs.1;
             seats = λ s y read there begun. stage_batch m w.log.done h positions t (session m.config n s) node.batch new.batch y.count y.stage read

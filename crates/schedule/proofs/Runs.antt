@@ -14,12 +14,12 @@ use Rattle.schedule.specs.declared.steps.Step.{Step}
 use Rattle.schedule.specs.declared.steps.Step.TheVariants.{Post, Install, Claim, Append, Replay, Finish, Reply, Collect, ReadBegin, ReadAnswer, Reclaim, Rebase}
 use Rattle.schedule.specs.Trace.{ReadBack, Call, Back, Trace, Positions}
 use Rattle.schedule.specs.declared.parts.Opening.{Opening}
-use Rattle.schedule.specs.Worlds.{NodeView, WorldView, opened_node, opened_nodes, opened}
+use Rattle.schedule.specs.Worlds.{NodeView, WorldView, opened_node, opened_nodes, new_log, opened}
 use Rattle.schedule.specs.Steps.{Part, Took, put_part, part_of, node_of, took, world_after, trace_after, world_of, trace_of}
 use Rattle.schedule.specs.Stands.{NodeStands, StageStands, Stands}
-use Rattle.loader.specs.CatalogueView.{IsCatalogue, opening_state}
+use Rattle.loader.specs.CatalogueView.{IsCatalogue}
 use Rattle.oplog.specs.Limits.{AreSizes}
-use Rattle.oplog.specs.Logs.{Log, opened_log}
+use Rattle.oplog.specs.Logs.{Log}
 use Rattle.schedule.specs.Taking.{store_of, IsStanding}
 use Rattle.schedule.specs.Headline.{EverySchedule, StepKeeps, StepsKeep, OpeningStands, StandingIsExplained}
 use Rattle.schedule.proofs.Options.{then_gives, map_gives}
@@ -91,7 +91,7 @@ none_claimed a (suc n) = none_claimed (suc a) n
 
 node_opened : (m : Opening) (n : ℕ) → NodeStands m 0 [] [] [] n (opened_node m n)
 node_opened m n = record {
-  replica = record { tail = omega arith; state = refl; begins = refl; next = λ j r g. absurd (none-some r g); window = refl };
+  replica = record { tail = omega arith; state = refl; begins = refl; next = λ j r g. absurd (none-some r g); window = refl; long = refl };
   desk = record {
     number = refl;
     slots = replicate_length m.config.slots (slot Empty 0);
@@ -130,6 +130,7 @@ opening_stands m whole = record {
     limit = refl;
     within = omega arith;
     window = refl;
+    long = refl;
   };
   count = nodes_count m 0 m.config.nodes;
   callers = λ c x mode op g. absurd (none-some (Call x mode op) g);
@@ -176,12 +177,12 @@ nodes_next m first (suc count) =
     ap (opened_nodes m first) i ∙ ap (λ ns. opened_node m first ∷ ns) (nodes_next m (suc first) count ∙ ap (λ k. opened_nodes m (suc first) count ++ opened_node m k ∷ []) j)
 
 -- a log and nodes that are new stand for the empty history
-pub new_stands : (m : Opening) (g : Log) (nodes : List NodeView) → IsCatalogue m.catalogue → g ≡ opened_log (opening_state m.catalogue) m.config.window m.config.limit → nodes ≡ opened_nodes m 0 m.config.nodes
+pub new_stands : (m : Opening) (g : Log) (nodes : List NodeView) → IsCatalogue m.catalogue → g ≡ new_log m → nodes ≡ opened_nodes m 0 m.config.nodes
     → Stands m (record { log = g; nodes = nodes }) [] [] []
 new_stands m g nodes whole is are =
     subst (λ k. Stands m (record { log = k; nodes = nodes }) [] [] []) (sym is)
-    (subst (λ ns. Stands m (record { log = opened_log (opening_state m.catalogue) m.config.window m.config.limit; nodes = ns }) [] [] []) (sym are) (opening_stands m whole))
+    (subst (λ ns. Stands m (record { log = new_log m; nodes = ns }) [] [] []) (sym are) (opening_stands m whole))
 
-pub new_is_standing : (m : Opening) (g : Log) (nodes : List NodeView) → AreSizes m.config → IsCatalogue m.catalogue → g ≡ opened_log (opening_state m.catalogue) m.config.window m.config.limit → nodes ≡ opened_nodes m 0 m.config.nodes
+pub new_is_standing : (m : Opening) (g : Log) (nodes : List NodeView) → AreSizes m.config → IsCatalogue m.catalogue → g ≡ new_log m → nodes ≡ opened_nodes m 0 m.config.nodes
     → IsStanding (store_of m g nodes)
 new_is_standing m g nodes config whole is are = record { config = config; history = []; positions = []; trace = []; stands = new_stands m g nodes whole is are }

@@ -1,6 +1,6 @@
 -- How nodes and stores are told apart, which a model asks for. No public clause cites this module.
 use Rattle.std.specs.Prelude.{List, Option, refl}
-use Rattle.std.specs.Coded.{Coded, code_by, coded×, coded_list, coded_option}
+use Rattle.std.specs.Coded.{Coded, code_by, coded×, coded_list}
 use Rattle.oplog.specs.Codes.{log_code}
 use Rattle.oplog.specs.Logs.{Log, HandView}
 use Rattle.oplog.specs.contracts.hand.Hand as hand_row
@@ -10,7 +10,7 @@ use Rattle.replica.specs.Views.{ReplicaView, replica_code}
 use Rattle.schedule.specs.declared.parts.BegunRead.{BegunRead}
 use Rattle.node.specs.declared.parts.NodeBatch.{NodeBatch}
 use Rattle.node.specs.contracts.parts.NodeBatch as batch_row
-use Rattle.schedule.specs.contracts.parts.BegunRead as read_row
+use Rattle.schedule.specs.contracts.rooms.ReadRoom as read_row
 use Rattle.schedule.specs.declared.parts.Opening.{Opening}
 use Rattle.schedule.specs.contracts.parts.Opening as opening_row
 use Rattle.schedule.specs.Worlds.{NodeView, WorldView}
@@ -20,7 +20,7 @@ use Rattle.schedule.specs.Taking.{WorldState}
 abbrev pub node_code : Coded NodeView
 node_code =
     code_by (ReplicaView × (HandView × (DeskView × (NodeBatch × List (Option BegunRead)))))
-    (coded× replica_code (coded× hand_row.the_row.coded (coded× desk_row.the_row.coded (coded× batch_row.the_row.coded (coded_list (coded_option read_row.the_row.coded))))))
+    (coded× replica_code (coded× hand_row.the_row.coded (coded× desk_row.the_row.coded (coded× batch_row.the_row.coded (coded_list read_row.the_row.coded)))))
     (λ n. (n.replica, (n.hand, (n.desk, (n.batch, n.reads)))))
     (λ p. record { replica = p.0; hand = p.1.0; desk = p.1.1.0; batch = p.1.1.1.0; reads = p.1.1.1.1 })
     (λ _. refl)

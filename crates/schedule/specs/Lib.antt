@@ -12,3 +12,5 @@ pub mod Blocking
 -- What calls that take a step do.
 pub mod Taking
 pub mod Codes
+-- How nodes lie in memory. No public clause cites this module.
+pub mod Rooms

@@ -63,8 +63,11 @@ no_batch Absent = true
 no_batch batch = false
 
 -- the read that was begun at a slot
+abbrev pub begun_at : ℕ → List (Option BegunRead) → Option BegunRead
+begun_at s reads = option_and_then (λ read. read) (slice_get reads s)
+
 abbrev pub read_at : NodeView → ℕ → Option BegunRead
-read_at node s = option_and_then (λ read. read) (slice_get node.reads s)
+read_at node s = begun_at s node.reads
 
 -- the node with this read, or none, at the slot
 abbrev pub with_read : NodeView → ℕ → Option BegunRead → NodeView

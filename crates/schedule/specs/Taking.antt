@@ -60,9 +60,9 @@ MayCall m mode op = is_operation mode m.catalogue op ≡ true
 abbrev pub GivesCall : {E : Type 0} → Mode → CatalogueView → ProgramCall → Result ProgramCall E → Type 0
 GivesCall mode c asked given = MatchResult given (λ call. (call ≡ asked) × (is_operation mode c (Run call) ≡ true)) (λ e. is_operation mode c (Run asked) ≡ false)
 
--- the program, if it may be installed
-abbrev pub GivesProgram : {E : Type 0} → CatalogueView → NewProgram → Result NewProgram E → Type 0
-GivesProgram c asked given = MatchResult given (λ new. (new ≡ asked) × (is_operation Update c (Install new) ≡ true)) (λ e. is_operation Update c (Install asked) ≡ false)
+-- the installing of the program, if it may be installed
+abbrev pub GivesProgram : {E : Type 0} → CatalogueView → NewProgram → Result Operation E → Type 0
+GivesProgram c asked given = MatchResult given (λ op. (op ≡ Install asked) × (is_operation Update c op ≡ true)) (λ e. is_operation Update c (Install asked) ≡ false)
 
 -- where the step may not be taken, NotNow and no change; else what it makes of the store
 abbrev pub Takes : Option Took → WorldState → WorldState → StepAnswer → Type 0

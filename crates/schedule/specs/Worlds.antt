@@ -1,6 +1,6 @@
 -- A store as one value: its log and its nodes.
 use Rattle.std.specs.Prelude.{ℕ, zero, suc, List, [], ◌∷◌, replicate, Option, None}
-use Rattle.loader.specs.CatalogueView.{CatalogueView, opened_on, opening_state, with_places}
+use Rattle.loader.specs.CatalogueView.{CatalogueView, longest_argument, opened_on, opening_state, with_places}
 use Rattle.loader.specs.StoreState.{StoreState}
 use Rattle.oplog.specs.declared.configuration.Sizes.{Sizes}
 use Rattle.oplog.specs.Logs.{Log, HandView, opened_log, opened_hand}
@@ -44,7 +44,7 @@ opening_on config c s = record { config = config; catalogue = opened_on (with_pl
 abbrev pub opened_node : Opening → ℕ → NodeView
 opened_node m n = record {
   replica = record { tail = 0; state = store_meaning.opening m.catalogue };
-  hand = opened_hand m.config.window;
+  hand = opened_hand m.config.window (longest_argument m.catalogue);
   desk = opened_desk n m.config.slots;
   batch = Absent;
   reads = replicate m.config.slots None;
@@ -55,6 +55,10 @@ abbrev pub opened_nodes : Opening → ℕ → ℕ → List NodeView
 opened_nodes m n zero = []
 opened_nodes m n (suc count) = opened_node m n ∷ opened_nodes m (suc n) count
 
+-- a new log, in which the longest argument of the programs has room
+abbrev pub new_log : Opening → Log
+new_log m = opened_log (opening_state m.catalogue) m.config.window (longest_argument m.catalogue) m.config.limit
+
 -- a new store: its log is empty, and its nodes are new
 abbrev pub opened : Opening → WorldView
-opened m = record { log = opened_log (opening_state m.catalogue) m.config.window m.config.limit; nodes = opened_nodes m 0 m.config.nodes }
+opened m = record { log = new_log m; nodes = opened_nodes m 0 m.config.nodes }

@@ -8,10 +8,11 @@ ghost use Rattle.schedule.specs.Blocking.{IsTakenUnless, call_block, claim_block
 
 use crate::nodes::{Node, call_of, program_of};
 use crate::parts::Opening;
+use crate::rooms::{BatchRoom, BatchStage};
 use crate::steps::Step;
 use combiner::Stage;
 use loader::Installed;
-use node::{NodeBatch, NodeReplica};
+use node::NodeReplica;
 use oplog::LogState;
 use replica::StoreRefused;
 use verifier::Mode;
@@ -111,19 +112,19 @@ pub enum Blocked {
 }
 
 // Why the batch may not be appended.
-pub(crate) fn append_block(batch: &NodeBatch, log: &LogState, node: &NodeReplica) -> Option<Blocked>
+pub(crate) fn append_block(batch: &BatchRoom, log: &LogState, node: &NodeReplica) -> Option<Blocked>
     ensures { result ≡ append_block batch.now log.now node.now }
 {
-    let batch = match batch {
-        NodeBatch::Absent => return Some(Blocked::NoBatch),
-        NodeBatch::InLog(_) => return Some(Blocked::BatchInLog),
-        NodeBatch::Held(batch) => batch,
-    };
+    match &batch.stage {
+        BatchStage::Absent => return Some(Blocked::NoBatch),
+        BatchStage::InLog(_) => return Some(Blocked::BatchInLog),
+        BatchStage::Held => {}
+    }
     let (tail, base) = (node.replica.tail(), log.base());
     if base > tail {
         return Some(Blocked::BelowBase { tail, base });
     }
-    let records = batch.records().len().min(log.left());
+    let records = batch.requests.records().len().min(log.left());
     let room = log.room();
     if records <= room {
         None
@@ -163,13 +164,13 @@ pub(crate) fn finish_block(done: u64, node: &NodeReplica) -> Option<Blocked>
 }
 
 // Why the batch may not be answered.
-pub(crate) fn reply_block(batch: &NodeBatch, done: u64, node: &NodeReplica) -> Option<Blocked>
+pub(crate) fn reply_block(batch: &BatchRoom, done: u64, node: &NodeReplica) -> Option<Blocked>
     ensures { result ≡ reply_block batch.now done node.now }
 {
-    match batch {
-        NodeBatch::Absent => return Some(Blocked::NoBatch),
-        NodeBatch::Held(_) => return Some(Blocked::BatchNotInLog),
-        NodeBatch::InLog(_) => {}
+    match &batch.stage {
+        BatchStage::Absent => return Some(Blocked::NoBatch),
+        BatchStage::Held => return Some(Blocked::BatchNotInLog),
+        BatchStage::InLog(_) => {}
     }
     let tail = node.replica.tail();
     if !node.hand.is_empty() {
@@ -224,7 +225,7 @@ impl Node {
         if !matches!(self.desk.slot(slot as usize).stage, Stage::Empty) {
             return Some(Blocked::HasRequest);
         }
-        match (self.reads[slot as usize], refusal) {
+        match (self.reads[slot as usize].read(), refusal) {
             (Some(_), _) => Some(Blocked::HasRead),
             (None, Some(refusal)) => Some(Blocked::Refused(refusal)),
             (None, None) => None,
@@ -235,7 +236,7 @@ impl Node {
     fn claim_block(&self) -> Option<Blocked>
         ensures { result ≡ claim_block self.now }
     {
-        if !matches!(self.batch, NodeBatch::Absent) {
+        if !matches!(self.batch.stage, BatchStage::Absent) {
             Some(Blocked::HasBatch)
         } else if self.desk.has_request() {
             None
@@ -267,7 +268,7 @@ impl Node {
         if slot >= slots {
             return Some(Blocked::NoSlot { slots });
         }
-        let Some(read) = self.reads[slot as usize] else {
+        let Some(read) = self.reads[slot as usize].read() else {
             return Some(Blocked::NoRead);
         };
         let (tail, noted) = (self.own.replica.tail(), read.seen);

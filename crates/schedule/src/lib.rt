@@ -7,6 +7,7 @@ mod blocking;
 mod laws;
 mod nodes;
 mod parts;
+mod rooms;
 mod steps;
 mod worlds;
 

@@ -12,22 +12,22 @@ ghost use Rattle.replica.specs.Refusals.{IsRoomFor, IsRefusedAs, early_refusal, 
 ghost use Rattle.verifier.specs.declared.refusal.Mode.TheVariants.{Update, Read};
 ghost use Rattle.schedule.specs.declared.parts.Opening.{Opening as TheOpening};
 ghost use Rattle.node.specs.Following.{Fits, has_next, with_next};
-ghost use Rattle.node.specs.Steps.{Appends, Replays, Finishes, Reclaims, Rebases, Replies as TheReplies, may_append_batch};
-ghost use Rattle.schedule.specs.Worlds.{opened_node, own_of};
-ghost use Rattle.schedule.specs.Steps.{is_idle, part_of, inner, post, claim, collect, read_at, read_begin, read_answer};
+ghost use Rattle.node.specs.Steps.{Appends, Replays, Finishes, Reclaims, Rebases, Replies as TheReplies};
+ghost use Rattle.schedule.specs.Worlds.{opened_node};
+ghost use Rattle.schedule.specs.Steps.{is_idle, part_of, inner, post, claim, collect, begun_at, read_begin, read_answer};
 ghost use Rattle.schedule.specs.Taking.{IsOfStore, TakesPart, TakesOwnPart, TakesWith, MayCall, GivesCall, GivesProgram};
 
 use crate::parts::{BegunRead, Opening};
+use crate::rooms::{BatchRoom, BatchStage, ReadRoom};
 use crate::steps::{Step, StepAnswer};
-use combiner::{Batch, Desk, Stage};
+use combiner::{Desk, Stage};
 use loader::{Catalogue, Installed, StoreState};
-use node::{NodeBatch, NodeReplica, Written};
-use oplog::{Call, Hand, LogState, NewProgram, Op};
+use node::NodeReplica;
+use oplog::{CallRef, Hand, LogState, OpRef};
 use readpath::{ReadAnswer, answer};
 use replica::{Replica, Replies, StoreRefused, check_call, check_install};
 use std::alloc::{AllocError, Global};
 use std::marker::Model;
-use std::mem;
 use verifier::Mode;
 
 /// A node: its replica, the records copied for it, its desk, its batch, and the reads that were begun at its slots.
@@ -35,8 +35,8 @@ use verifier::Mode;
 pub(crate) struct Node {
     pub(crate) own: NodeReplica,
     pub(crate) desk: Desk,
-    pub(crate) batch: NodeBatch,
-    pub(crate) reads: Vec<Option<BegunRead>>,
+    pub(crate) batch: BatchRoom,
+    pub(crate) reads: Vec<ReadRoom>,
 }
 
 impl Model for Node {
@@ -51,12 +51,12 @@ impl Model for Node {
 }
 
 // The call of a program of the catalogue, of this mode, on an argument of its length; or of a place behind these.
-pub(crate) fn call_of(
+pub(crate) fn call_of<'a>(
     catalogue: &Catalogue,
     mode: Mode,
     program: u64,
-    argument: &[u8],
-) -> Result<Call, StoreRefused>
+    argument: &'a [u8],
+) -> Result<CallRef<'a>, StoreRefused>
     ensures call { GivesCall mode catalogue.now (record { program = program; argument = argument.now }) result }
     ensures refusal { IsRefusedAs (early_refusal catalogue.now mode program argument.now) result }
 {
@@ -64,34 +64,34 @@ pub(crate) fn call_of(
         return Err(StoreRefused::UnknownProgram);
     }
     check_call(catalogue, mode, program as u16, argument)?;
-    Ok(Call::new(program as u16, argument))
+    Ok(CallRef::new(program as u16, argument))
 }
 
-// The program that is to be installed, if it may be: the room holds it then.
-pub(crate) fn program_of(
+// The installing of a program, if it may be installed: the room holds it then.
+pub(crate) fn program_of<'a>(
     catalogue: &Catalogue,
     room: &mut Installed,
     mode: Mode,
     arg_len: u64,
-    bytes: &[u8],
-) -> Result<NewProgram, StoreRefused>
+    bytes: &'a [u8],
+) -> Result<OpRef<'a>, StoreRefused>
     requires room { IsRoomFor catalogue.now.shapes room.old }
     ensures room { IsRoomFor catalogue.now.shapes room.new }
     ensures program { GivesProgram catalogue.now (record { mode = mode; arg_len = arg_len; bytes = bytes.now }) result }
     ensures refusal { IsRefusedAs (install_refusal catalogue.now.shapes (record { mode = mode; arg_len = arg_len; bytes = bytes.now })) result }
 {
     check_install(room, mode, arg_len, bytes)?;
-    Ok(NewProgram::new(mode, arg_len as usize, bytes))
+    Ok(OpRef::install(mode, arg_len as usize, bytes))
 }
 
 // Room for so many reads, none of which is begun.
 #[tactic(auto, using(crate::proofs::Lists::replicate_next))]
-fn no_reads(alloc: Global, count: usize) -> Result<Vec<Option<BegunRead>>, AllocError>
+fn no_reads(alloc: Global, count: usize) -> Result<Vec<ReadRoom>, AllocError>
     ensures none { IfOk result (λ reads. reads.items ≡ replicate count None) }
 {
     let mut reads = Vec::with_capacity(alloc, count)?;
     for _slot in 0..count {
-        reads.push_reserved(None);
+        reads.push_reserved(ReadRoom::open(alloc)?);
     }
     Ok(reads)
 }
@@ -115,12 +115,18 @@ impl Node {
     {
         let slots = opening.config.slots as usize;
         let replica = Replica::open(StoreState::opening(alloc, &opening.catalogue, state)?);
-        let hand = Hand::open(alloc, opening.config.window as usize)?;
+        let (window, long) = (
+            opening.config.window as usize,
+            opening.catalogue.longest_argument(),
+        );
+        let hand = Hand::open(alloc, window, long)?;
+        let desk = Desk::open(alloc, number, slots)?;
+        let batch = BatchRoom::open(alloc)?;
         let reads = no_reads(alloc, slots)?;
         Ok(Node {
             own: NodeReplica { replica, hand },
-            desk: Desk::new(number, slots),
-            batch: NodeBatch::Absent,
+            desk,
+            batch,
             reads,
         })
     }
@@ -138,19 +144,19 @@ impl Node {
         ensures idle { result ≡ is_idle self.now slot }
     {
         slot < self.reads.len() as u64
-            && self.reads[slot as usize].is_none()
+            && self.reads[slot as usize].read().is_none()
             && matches!(self.desk.slot(slot as usize).stage, Stage::Empty)
     }
 
     // An update is called at a slot.
-    fn post(&mut self, slot: u64, op: Op) -> StepAnswer
+    fn post(&mut self, slot: u64, op: &OpRef<'_>) -> StepAnswer
         requires sized { length self.old.reads ≡ length self.old.desk.slots }
-        ensures posted { (m : TheOpening) (g : Log) → MayCall m Update op → TakesOwnPart (post m slot op) g self.old self.new result }
+        ensures posted { (m : TheOpening) (g : Log) → MayCall m Update op.now → TakesOwnPart (post m slot op.now) g self.old self.new result }
     {
         if !self.is_idle(slot) {
             return StepAnswer::NotNow;
         }
-        match self.desk.post(slot as usize, &op.lent()) {
+        match self.desk.post(slot as usize, op) {
             Ok(()) => StepAnswer::Done,
             Err(_) => StepAnswer::NotNow,
         }
@@ -161,13 +167,12 @@ impl Node {
         requires own { (m : TheOpening) × (g : Log) × IsOfStore m g self.old }
         ensures claimed { (g : Log) → TakesOwnPart claim g self.old self.new result }
     {
-        if !matches!(self.batch, NodeBatch::Absent) {
+        if !matches!(self.batch.stage, BatchStage::Absent) {
             return StepAnswer::NotNow;
         }
-        let mut batch = Batch::new();
-        match self.desk.claim(&mut batch) {
+        match self.desk.claim(&mut self.batch.requests) {
             Ok(()) => {
-                self.batch = NodeBatch::Held(batch);
+                self.batch.stage = BatchStage::Held;
                 StepAnswer::Done
             }
             Err(_) => StepAnswer::NotNow,
@@ -179,28 +184,17 @@ impl Node {
         requires own { (m : TheOpening) × IsOfStore m log.old self.old }
         ensures appended { (m : TheOpening) → TakesPart (inner m Appends log.old self.old) log.old self.old log.new self.new result }
     {
-        if !self.may_append(log) {
+        let BatchStage::Held = self.batch.stage else {
+            return StepAnswer::NotNow;
+        };
+        let records = self.batch.requests.records();
+        if !node::may_append(log, &self.own, &records) {
             return StepAnswer::NotNow;
         }
-        match mem::replace(&mut self.batch, NodeBatch::Absent) {
-            NodeBatch::Held(batch) => {
-                let mut replies = Replies::new(0, 0);
-                node::append(log, &mut self.own, &batch.records(), &mut replies);
-                self.batch = NodeBatch::InLog(Written { batch, replies });
-                StepAnswer::Done
-            }
-            _ => unreachable!(),
-        }
-    }
-
-    // Whether a batch is claimed, and may be appended.
-    fn may_append(&self, log: &LogState) -> bool
-        ensures may { result ≡ may_append_batch self.now.batch log.now (own_of self.now) }
-    {
-        match &self.batch {
-            NodeBatch::Held(batch) => node::may_append(log, &self.own, &batch.records()),
-            _ => false,
-        }
+        let mut replies = Replies::new(0, 0);
+        node::append(log, &mut self.own, &records, &mut replies);
+        self.batch.stage = BatchStage::InLog(replies);
+        StepAnswer::Done
     }
 
     // The replica applies the copied records, or where there are none those of the log that it lacks.
@@ -213,10 +207,8 @@ impl Node {
             return StepAnswer::NotNow;
         }
         copy_next(log, &mut self.own);
-        match &mut self.batch {
-            NodeBatch::InLog(written) => {
-                node::replay(&mut self.own, catalogue, &mut written.replies)
-            }
+        match &mut self.batch.stage {
+            BatchStage::InLog(replies) => node::replay(&mut self.own, catalogue, replies),
             _ => {
                 let mut replies = Replies::new(0, 0);
                 node::replay(&mut self.own, catalogue, &mut replies);
@@ -252,43 +244,15 @@ impl Node {
     }
 
     // A read is called at a slot, when so many operations are completed.
-    fn read_begin(&mut self, slot: u64, call: Call, seen: u64) -> StepAnswer
+    fn read_begin(&mut self, slot: u64, call: &CallRef<'_>, seen: u64) -> StepAnswer
         requires sized { length self.old.reads ≡ length self.old.desk.slots }
-        ensures begun { (m : TheOpening) → MayCall m Read (Run call) → TakesWith seen (read_begin m slot call) self.old self.new result }
+        ensures begun { (m : TheOpening) → MayCall m Read (Run call.now) → TakesWith seen (read_begin m slot call.now) self.old self.new result }
     {
         if !self.is_idle(slot) {
             return StepAnswer::NotNow;
         }
-        let read = BegunRead { call, seen };
-        self.reads[slot as usize] = Some(read);
+        self.reads[slot as usize].begin(call, seen);
         StepAnswer::Done
-    }
-
-    // The read that was begun at a slot.
-    fn begun(&self, slot: u64) -> Option<BegunRead>
-        ensures begun { result ≡ read_at self.now slot }
-        ensures there { result ≢ None → slot < length self.now.reads }
-    {
-        if slot < self.reads.len() as u64 {
-            self.reads[slot as usize]
-        } else {
-            None
-        }
-    }
-
-    // What the replica answers to a read.
-    fn answer_to(&mut self, catalogue: &Catalogue, call: &Call) -> ReadAnswer
-        requires sizes { sizes_of self.old.replica.state ≡ sizes_for catalogue.now }
-        ensures point { result.point ≡ self.old.replica.tail }
-        ensures reply { option_map (λ e. e.reply) (store_meaning.read catalogue.now (Run call.now) self.old.replica.state) ≡ Some result.reply }
-        ensures same { self.new ≡ self.old }
-    {
-        answer(
-            catalogue,
-            &mut self.own.replica,
-            call.program(),
-            call.argument(),
-        )
     }
 
     // The read that was begun at a slot is answered, when so many operations are completed.
@@ -296,14 +260,14 @@ impl Node {
         requires own { (m : TheOpening) × (g : Log) × (m.catalogue ≡ catalogue.now) × IsOfStore m g self.old }
         ensures answered { (m : TheOpening) → m.catalogue ≡ catalogue.now → TakesWith done (read_answer m slot) self.old self.new result }
     {
-        let Some(read) = self.begun(slot) else {
+        let Some(read) = begun_at(&self.reads, slot) else {
             return StepAnswer::NotNow;
         };
         if !node::may_answer(read.seen, done, &self.own) {
             return StepAnswer::NotNow;
         }
-        let given = self.answer_to(catalogue, &read.call);
-        self.reads[slot as usize] = None;
+        let given = answer_to(catalogue, &mut self.own.replica, &read.call);
+        self.reads[slot as usize].end();
         StepAnswer::ReadBack(given)
     }
 
@@ -336,17 +300,16 @@ impl Node {
         requires own { (m : TheOpening) × IsOfStore m log.now self.old }
         ensures replied { (m : TheOpening) → TakesPart (inner m TheReplies log.now self.old) log.now self.old log.now self.new result }
     {
-        if !node::may_reply(log.done(), &self.own) || !matches!(self.batch, NodeBatch::InLog(_)) {
+        let BatchStage::InLog(replies) = &self.batch.stage else {
+            return StepAnswer::NotNow;
+        };
+        if !node::may_reply(log.done(), &self.own) {
             return StepAnswer::NotNow;
         }
-        match mem::replace(&mut self.batch, NodeBatch::Absent) {
-            NodeBatch::InLog(mut written) => {
-                node::answer_batch(&mut written.batch, &written.replies);
-                self.desk.reply(&written.batch);
-                StepAnswer::Done
-            }
-            _ => unreachable!(),
-        }
+        node::answer_batch(&mut self.batch.requests, replies);
+        self.desk.reply(&self.batch.requests);
+        self.batch.stage = BatchStage::Absent;
+        StepAnswer::Done
     }
 
     /// Takes the step, which is one of this node, if it may be taken. The room is one for a program that is to be installed.
@@ -369,7 +332,7 @@ impl Node {
                 argument,
                 ..
             } => match call_of(&opening.catalogue, Mode::Update, *program, argument) {
-                Ok(call) => self.post(*slot, Op::Run(call)),
+                Ok(call) => self.post(*slot, &call.op()),
                 Err(_) => StepAnswer::NotNow,
             },
             Step::Install {
@@ -379,7 +342,7 @@ impl Node {
                 bytes,
                 ..
             } => match program_of(&opening.catalogue, room, *mode, *arg_len, bytes) {
-                Ok(program) => self.post(*slot, Op::Install(program)),
+                Ok(install) => self.post(*slot, &install),
                 Err(_) => StepAnswer::NotNow,
             },
             Step::Claim { .. } => self.claim(),
@@ -394,7 +357,7 @@ impl Node {
                 argument,
                 ..
             } => match call_of(&opening.catalogue, Mode::Read, *program, argument) {
-                Ok(call) => self.read_begin(*slot, call, log.done()),
+                Ok(call) => self.read_begin(*slot, &call, log.done()),
                 Err(_) => StepAnswer::NotNow,
             },
             Step::ReadAnswer { slot, .. } => self.read_answer(
@@ -418,4 +381,26 @@ fn copy_next(log: &LogState, own: &mut NodeReplica)
     if own.hand.is_empty() {
         node::copy(log, own);
     }
+}
+
+// The read that was begun at a slot, if one was.
+fn begun_at<'a>(reads: &'a [ReadRoom], slot: u64) -> Option<BegunRead<'a>>
+    ensures begun { result ≡ begun_at slot reads.now }
+    ensures there { result ≢ None → slot < length reads.now }
+{
+    if slot < reads.len() as u64 {
+        reads[slot as usize].read()
+    } else {
+        None
+    }
+}
+
+// What the replica answers to a read.
+fn answer_to(catalogue: &Catalogue, replica: &mut Replica, call: &CallRef<'_>) -> ReadAnswer
+    requires sizes { sizes_of replica.old.state ≡ sizes_for catalogue.now }
+    ensures point { result.point ≡ replica.old.tail }
+    ensures reply { option_map (λ e. e.reply) (store_meaning.read catalogue.now (Run call.now) replica.old.state) ≡ Some result.reply }
+    ensures same { replica.new ≡ replica.old }
+{
+    answer(catalogue, replica, call.program(), call.argument())
 }

@@ -1,7 +1,7 @@
 // What a store is opened with, and a begun read.
 
 use loader::Catalogue;
-use oplog::{Call, Sizes};
+use oplog::{CallRef, Sizes};
 
 /// What a store is opened with.
 #[derive(Drop)]
@@ -13,10 +13,10 @@ pub struct Opening {
 }
 
 /// A read that was called, and has no answer yet.
-#[derive(Clone, Copy)]
-pub struct BegunRead {
+#[derive(Drop)]
+pub struct BegunRead<'a> {
     /// What the read asks.
-    pub call: Call,
+    pub call: CallRef<'a>,
     /// How many operations were completed when it was called.
     pub seen: u64,
 }

@@ -16,7 +16,7 @@ use crate::nodes::Node;
 use crate::parts::Opening;
 use crate::steps::{Step, StepAnswer};
 use loader::{Catalogue, Installed, StoreState};
-use oplog::{Config, LogState, OpenError, Sizes};
+use oplog::{Config, LogRoom, LogState, OpenError, Sizes};
 use replica::Replica;
 use std::alloc::{AllocError, Global};
 use std::marker::Model;
@@ -177,11 +177,15 @@ impl World {
         ensures stands { IfOk result (λ w. Stands w.opening w.world [] [] []) }
     {
         let base = StoreState::opening(alloc, &opening.catalogue, state)?;
-        let (window, limit) = (
-            opening.config.window as usize,
+        let log = LogState::open(
+            alloc,
+            base,
+            LogRoom {
+                window: opening.config.window as usize,
+                long: opening.catalogue.longest_argument(),
+            },
             opening.config.limit as usize,
-        );
-        let log = LogState::open(alloc, base, window, limit)?;
+        )?;
         let room = Installed::open(alloc, opening.catalogue.shapes(), 1)?;
         let nodes = open_nodes(alloc, &opening, state)?;
         Ok(World {

@@ -3,7 +3,7 @@ use Rattle.std.proofs.Common.{◌≡◌, ℕ, zero, suc, ◌+◌, ◌-◌, ◌*�
 use Rattle.std.proofs.lemmas.Bool.{cases_lt}
 use Rattle.ownlock.specs.Seats.{At}
 use Rattle.ownlock.specs.Knowledge.{AllAgree}
-use Rattle.loader.specs.CatalogueView.{CatalogueView, IsCatalogue, opening_state}
+use Rattle.loader.specs.CatalogueView.{CatalogueView, IsCatalogue}
 use Rattle.oplog.specs.declared.configuration.Sizes.{Sizes}
 use Rattle.replica.specs.StoreMeaning.{store_meaning}
 use Rattle.accounts.specs.Values.{TheDesk}
@@ -43,8 +43,8 @@ grown old values new n v P is g p = subst (λ z. Grown old (n + 1) P z) (sym is)
 
 -- ---- all values
 
-pub shelved : (config : Sizes) (c : CatalogueView) (none first second third : List (Option Value)) (log : Value) → none ≡ [] → first ≡ none ++ Some log ∷ [] → IsOpenedLog (opening_state c) config.window config.limit log
-    → length second ≡ length first + config.nodes → AreKept first second → AreFilled (length first) config.nodes (λ i v. IsOpenedReplica (opening_state c) config.window v) second
+pub shelved : (config : Sizes) (c : CatalogueView) (none first second third : List (Option Value)) (log : Value) → none ≡ [] → first ≡ none ++ Some log ∷ [] → IsOpenedLog c config.window config.limit log
+    → length second ≡ length first + config.nodes → AreKept first second → AreFilled (length first) config.nodes (λ i v. IsOpenedReplica c config.window v) second
     → length third ≡ length second + config.nodes → AreKept second third → AreFilled (length second) config.nodes (λ i v. IsOpenedDesk config.slots i v) third → AreShelved config c third
 shelved config c none first second third log empty is opened long kept replicas longer kept2 desks = record {
   count = omega (arith, one, long, longer);

@@ -67,7 +67,7 @@ AreLeft values = (g : Box Log) × (ns : List (Box NodeReplica)) × (values ≡ S
 -- and how they are seen
 abbrev pub log_in : List (Option Value) → Log
 log_in (Some (LogPlace g) ∷ vs) = g.value
-log_in _ = opened_log (opening_state no_catalogue) 0 0
+log_in _ = opened_log (opening_state no_catalogue) 0 0 0
 
 abbrev pub replicas_in : List (Option Value) → List ReplicaView
 replicas_in [] = []

@@ -8,6 +8,7 @@ mod describing;
 mod laws;
 mod measuring;
 mod opening;
+mod own_room;
 mod pipeline;
 mod polled;
 mod polled_pipeline;

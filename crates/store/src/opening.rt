@@ -3,7 +3,7 @@
 ghost use Rattle.std.specs.Prelude.{◌≡◌, ◌+◌, ◌*◌, ◌<◌, ◌≤◌, [], length, replicate, vec_capacity, IfOk};
 ghost use Rattle.std.specs.List.{All};
 ghost use Rattle.maps.specs.Shapes.{AreShapesSupported};
-ghost use Rattle.loader.specs.CatalogueView.{IsCatalogue, OpensOn, opening_state};
+ghost use Rattle.loader.specs.CatalogueView.{IsCatalogue, OpensOn};
 ghost use Rattle.replica.specs.Refusals.{IsRoomFor};
 ghost use Rattle.oplog.specs.Limits.{AreSizes};
 ghost use Rattle.oplog.specs.declared.configuration.TheConstants.{MAX_NODES, MAX_NODE_SLOTS};
@@ -14,9 +14,10 @@ ghost use Rattle.store_steps.specs.Shelving.{IsOpenedReplica, opening_notes, ope
 ghost use Rattle.store.specs.Sessions.{fresh_sessions};
 ghost use Rattle.store.specs.Places.{AreFilled, HaveReplicas, IsOpenedDesk, AreKept, AreShelved};
 
+use crate::own_room::OwnRoom;
 use crate::session::Session;
 use combiner::Desk;
-use loader::{Catalogue, Installed, StoreState};
+use loader::{Catalogue, StoreState};
 use maps::Shape;
 use oplog::Sizes;
 use ownlock::{Seat, Shelf};
@@ -29,7 +30,8 @@ fn shelved_desk(alloc: Global, node: u16, slots: usize) -> Result<Value, AllocEr
     requires slots { slots ≤ MAX_NODE_SLOTS }
     ensures desk { IfOk result (λ v. IsOpenedDesk slots node v) }
 {
-    Ok(Value::Desk(Box::new(alloc, Desk::new(node, slots))?))
+    let desk = Desk::open(alloc, node, slots)?;
+    Ok(Value::Desk(Box::new(alloc, desk)?))
 }
 
 // A new replica for each node, behind the values that there are, on what the catalogue opens on.
@@ -44,7 +46,7 @@ fn push_replicas(
     requires config { AreSizes config.now }
     ensures count { IfOk result (λ _. length values.new.items ≡ length values.old.items + config.now.nodes) }
     ensures kept { IfOk result (λ _. AreKept values.old.items values.new.items) }
-    ensures replicas { IfOk result (λ _. HaveReplicas (length values.old.items) config.now.nodes (opening_state catalogue.now) config.now.window values.new.items) }
+    ensures replicas { IfOk result (λ _. HaveReplicas (length values.old.items) config.now.nodes catalogue.now config.now.window values.new.items) }
 {
     let window = config.window as usize;
     for _node in 0..config.nodes {
@@ -115,18 +117,18 @@ fn caller_of(slots: usize, number: usize) -> Caller
     }
 }
 
-// Room for a program of these maps for each of so many sessions.
+// The own room of each of so many sessions of a store with these maps.
 pub(crate) fn session_rooms(
     alloc: Global,
     shapes: &[Shape],
     count: usize,
-) -> Result<Vec<Installed>, AllocError>
+) -> Result<Vec<OwnRoom>, AllocError>
     requires shapes { AreShapesSupported shapes.now }
     ensures rooms { IfOk result (λ v. All (IsRoomFor shapes.now) v.items × (length v.items ≡ count)) }
 {
     let mut rooms = Vec::with_capacity(alloc, count)?;
     for _session in 0..count {
-        rooms.push_reserved(Installed::open(alloc, shapes, 1)?);
+        rooms.push_reserved(OwnRoom::open(alloc, shapes)?);
     }
     Ok(rooms)
 }
@@ -136,7 +138,7 @@ pub(crate) fn push_sessions(
     shelf: &Shelf<Value>,
     mut seat: Seat<Value>,
     setup: &Setup,
-    mut rooms: Vec<Installed>,
+    mut rooms: Vec<OwnRoom>,
     sessions: &mut Vec<Session>,
 )
     requires own { seat.shelf ≡ shelf.now.id }

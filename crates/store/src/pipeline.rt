@@ -14,15 +14,15 @@ ghost use Rattle.store.specs.Sessions.{IsOf, said};
 ghost use Rattle.store.specs.declared.pipeline.JoinRefused.TheVariants.{NotAscending};
 
 use crate::answers::Answer;
+use crate::own_room::OwnRoom;
 use crate::session::{Session, answer_of};
 use crate::store::Store;
 use combiner::Reply;
-use loader::Installed;
 use replica::StoreRefused;
 use std::alloc::Global;
 use std::marker::Model;
 use std::sync::Wait;
-use store_steps::{EachRoom, Member, Question, QuestionRefused, Shared, check_each};
+use store_steps::{Batches, EachRoom, Member, Question, QuestionRefused, Shared, check_each};
 use verifier::Mode;
 
 /// Why sessions make no pipeline.
@@ -97,9 +97,9 @@ pub struct NotJoined {
 /// assert_eq!(rt; answers, [Ok(Answer { index: 0, reply: 5 }), Ok(Answer { index: 1, reply: 5 })]);
 /// ```
 pub struct Pipeline {
-    // The seat and the slot of each session, and its room for a program.
+    // The seat and the slot of each session, and its own room.
     pub(crate) members: Vec<Member>,
-    pub(crate) rooms: Vec<Installed>,
+    pub(crate) rooms: Vec<OwnRoom>,
     // The list that they came in, which is empty. They leave in it.
     pub(crate) emptied: Vec<Session>,
     pub(crate) asking: Asking,
@@ -183,7 +183,8 @@ fn joined(
     store: &Store,
     mut sessions: Vec<Session>,
     mut members: Vec<Member>,
-    mut rooms: Vec<Installed>,
+    mut rooms: Vec<OwnRoom>,
+    asking: Asking,
 ) -> Pipeline
     requires own { AreOf store.now sessions.items }
     requires ascending { AreAscending store.now.config sessions.items }
@@ -202,9 +203,7 @@ fn joined(
         members,
         rooms,
         emptied: sessions,
-        asking: Asking {
-            room: EachRoom::new(),
-        },
+        asking,
     }
 }
 
@@ -257,7 +256,10 @@ impl Pipeline {
         let Ok(rooms) = Vec::with_capacity(alloc, MOST) else {
             return Err(NotJoined { sessions, refused });
         };
-        Ok(joined(store, sessions, members, rooms))
+        let Ok(room) = EachRoom::open(alloc) else {
+            return Err(NotJoined { sessions, refused });
+        };
+        Ok(joined(store, sessions, members, rooms, Asking { room }))
     }
 
     /// Its sessions, by ascending slots, as `Store::close` wants them. No memory is taken.
@@ -292,6 +294,31 @@ impl Pipeline {
             sessions.push_reserved(Session::new(seat, caller, rooms.remove(0)));
         }
         sessions
+    }
+
+    /// The batches that its sessions have combined since they were joined: each list, with the updates of others of their node that it took
+    /// along. No clause speaks of it.
+    ///
+    /// # Examples
+    ///
+    /// ```
+    /// use store::{Batches, Config, Pipeline, Question, Store, StoreRefused, load_manifest};
+    ///
+    /// let files = [("five.hex", "b7000000050000009500000000000000")]; // a program that replies 5
+    /// let catalogue = load_manifest(rt.alloc(), "map array 8 16\nprogram five update 0 five.hex\n", &files)?;
+    /// let config = Config { nodes: 1, slots: 2, window: 16, limit: 100, spare: 0 };
+    /// let (store, sessions) = Store::open(rt.alloc(), config, catalogue)?;
+    /// let mut pipeline = match Pipeline::of(rt.alloc(), &store, sessions) { Ok(pipeline) => pipeline, Err(_) => unreachable!() };
+    ///
+    /// let call = Question { program: 0, argument: &[] };
+    /// let mut answers = [Err(StoreRefused::Ended); 2];
+    /// let _asked = pipeline.invoke_each(&rt, &store, &[call; 2], &mut answers);
+    /// let batches = pipeline.batches();
+    /// let _closed = match store.close(pipeline.into_sessions()) { Ok(closed) => closed, Err(_) => unreachable!() };
+    /// assert_eq!(rt; batches, Batches { count: 1, requests: 2, largest: 2 });
+    /// ```
+    pub fn batches(&self) -> Batches {
+        self.asking.room.combining.batches()
     }
 
     /// How many sessions it has: so many updates may be asked for at once.

@@ -23,6 +23,7 @@ ghost use Rattle.store.specs.Looks.{GoesToSee, HasPage, HasReply, HasValue, Have
 ghost use Rattle.store.specs.Polled.{HasPostedFor, TellsCompleted, TellsPost};
 
 use crate::answers::Answer;
+use crate::own_room::OwnRoom;
 use crate::session::{Session, answer_of};
 use crate::store::Store;
 use combiner::Batch;
@@ -117,11 +118,12 @@ impl Polled {
     pub fn new(session: Session) -> Polled
         ensures same { result ≡ session }
     {
-        let (seat, caller, room) = session.into_room();
+        let (seat, caller, own) = session.into_room();
+        let (batch, room) = own.into_parts();
         Polled {
             seat,
             caller,
-            batch: Batch::new(),
+            batch,
             replies: Replies::new(0, 0),
             room,
             stage: Stage::Idle,
@@ -157,13 +159,13 @@ impl Polled {
             seat,
             caller,
             room,
-            batch: _batch,
+            batch,
             replies: _replies,
             stage: _stage,
             at_once: _at_once,
             shared: _shared,
         } = self;
-        Session::new(seat, caller, room)
+        Session::new(seat, caller, OwnRoom::of(batch, room))
     }
 
     /// Whether it has posted an update that is not answered.

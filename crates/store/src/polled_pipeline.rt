@@ -14,11 +14,11 @@ ghost use Rattle.store.specs.PolledPipelines.{AreWaiting, BeginsFirst, Collected
 ghost use Rattle.store.specs.Sessions.{IsOf};
 
 use crate::answers::Answer;
+use crate::own_room::OwnRoom;
 use crate::pipeline::{Asking, MOST, Pipeline, say_each};
 use crate::session::Session;
 use crate::store::Store;
 use combiner::Reply;
-use loader::Installed;
 use replica::StoreRefused;
 use std::alloc::{AllocError, Global};
 use std::marker::Model;
@@ -63,7 +63,7 @@ use verifier::Mode;
 pub struct PolledPipeline {
     // As the pipeline had them.
     members: Vec<Member>,
-    rooms: Vec<Installed>,
+    rooms: Vec<OwnRoom>,
     list: Listed,
 }
 
@@ -242,7 +242,7 @@ impl PolledPipeline {
         Ok(PolledPipeline {
             members,
             rooms,
-            list: Listed::of(EachRoom::new()),
+            list: Listed::of(EachRoom::open(alloc)?),
         })
     }
 

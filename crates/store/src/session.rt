@@ -18,6 +18,7 @@ ghost use Rattle.store_steps.specs.Views.{IsIdle, op_of, session_view};
 ghost use Rattle.store.specs.Sessions.{IsOf, SessionGoesOn, TellsUpdate, HasRoom, MayUpdate, known_of, install_of, install_refused};
 
 use crate::answers::Answer;
+use crate::own_room::OwnRoom;
 use crate::store::Store;
 use combiner::Reply;
 use loader::{Installed, StoreState};
@@ -88,17 +89,18 @@ pub(crate) fn answer_of(reply: Reply) -> Result<Answer, StoreRefused>
 }
 
 impl Session {
-    // The session of that slot, with its seat, and room for a program of its store.
-    pub(crate) fn new(seat: Seat<Value>, caller: Caller, room: Installed) -> Session
+    // The session of that slot, with its seat, and its own room. It has combined nothing yet.
+    pub(crate) fn new(seat: Seat<Value>, caller: Caller, room: OwnRoom) -> Session
         requires idle { IsIdle seat caller }
         requires room { HasRoom room seat }
         ensures session { result ≡ session_view seat }
     {
+        let (batch, installed) = room.into_parts();
         Session {
             seat,
             caller,
-            combining: Room::new(),
-            room,
+            combining: Room::with(batch),
+            room: installed,
         }
     }
 
@@ -110,8 +112,8 @@ impl Session {
         self.caller
     }
 
-    // Gives the session's seat, its slot, and its room for a program.
-    pub(crate) fn into_room(self) -> (Seat<Value>, Caller, Installed)
+    // Gives the session's seat, its slot, and its own room.
+    pub(crate) fn into_room(self) -> (Seat<Value>, Caller, OwnRoom)
         ensures shelf { result.0.shelf ≡ self.shelf }
         ensures known { result.0.sessions ≡ known_of self ∷ [] }
         ensures idle { IsIdle result.0 result.1 }
@@ -120,10 +122,10 @@ impl Session {
         let Session {
             seat,
             caller,
-            combining: _combining,
+            combining,
             room,
         } = self;
-        (seat, caller, room)
+        (seat, caller, OwnRoom::of(combining.into_batch(), room))
     }
 
     /// Gives the session's seat and slot, to make its steps one by one. A seat that is let go leaves the store without this session, so that it

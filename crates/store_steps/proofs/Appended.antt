@@ -74,7 +74,7 @@ module _ (k t m : K) (n0 : NodeReplica) (g : Box LogView) (h : LogView) (h2 : Bo
 
   keeps : KeepsSizes IsSized (Log g) (Log h2)
   keeps config c s =
-      (ap (λ (z : LogView). z.window) x.0 ∙ (p.keeps.0 ∙ s.0), ap (λ (z : LogView). z.limit) x.0 ∙ (p.keeps.1 ∙ s.1), ap (λ (z : LogView). sizes_of z.base_state) x.0 ∙ (p.keeps.2 ∙ s.2))
+      (ap (λ (z : LogView). z.window) x.0 ∙ (p.keeps.0 ∙ s.0), ap (λ (z : LogView). z.limit) x.0 ∙ (p.keeps.1 ∙ s.1), ap (λ (z : LogView). sizes_of z.base_state) x.0 ∙ (p.keeps.2 ∙ s.2), ap (λ (z : LogView). z.long) x.0 ∙ (p.keeps.3 ∙ s.3))
 
   -- ---- what is appended
 

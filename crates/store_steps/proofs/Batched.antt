@@ -36,6 +36,11 @@ at_unplaced [] j t e = absurd (at_none j t e)
 at_unplaced (r ∷ rs) zero t e = let same = some-injective _ t e in (subst (λ (z : Claim). At 0 z.request (r ∷ rs)) same refl, ap (λ (z : Claim). z.index) (sym same))
 at_unplaced (r ∷ rs) (suc j) t e = at_unplaced rs j t e
 
+pub claim_at : (rs : History) (j : ℕ) (r : Record) → At j r rs → At j (record { request = r; index = None }) (unplaced rs)
+claim_at [] j r e = absurd (at_none j r e)
+claim_at (x ∷ rs) zero r e = subst (λ (z : Record). At zero (record { request = z; index = None }) (unplaced (x ∷ rs))) (some-injective x r e) refl
+claim_at (x ∷ rs) (suc j) r e = claim_at rs j r e
+
 pub at_taken : (k : ℕ) (rs : History) (j : ℕ) (r : Record) → j < k → At j r rs → At j r (take k rs)
 at_taken zero rs j r lt e = absurd (omega (arith, lt))
 at_taken (suc k) [] j r lt e = absurd (at_none j r e)

@@ -31,7 +31,7 @@ module _ (l : L) (h : LogView) (u : NodeReplica) (is : IsLogOf l h) (f : Follows
   pub nothing : caught_up l.catalogue 0 (copied h u) ≡ u
   nothing = λ i. record {
     replica = record { tail = (plus_none u.replica.tail) i; state = u.replica.state };
-    hand = record { begin = (plus_none u.replica.tail ∙ sym f.begins) i; records = (sym f.empty) i; window = u.hand.window };
+    hand = record { begin = (plus_none u.replica.tail ∙ sym f.begins) i; records = (sym f.empty) i; window = u.hand.window; long = u.hand.long };
   }
 
   pub none_owed : length l.history ≤ ENDLESS → IsWellFormed store_meaning l → Owes l.catalogue h (copied h u) 0
@@ -43,6 +43,7 @@ module _ (l : L) (h : LogView) (u : NodeReplica) (is : IsLogOf l h) (f : Follows
         tail = omega (arith, t, within);
         rest = ap (records_from h) (sym (plus_none u.replica.tail));
         window = f.window ∙ sym is.sizes.0;
+        long = f.long ∙ sym is.sizes.3;
       }
 
 -- ---- a replica that changed places with the base
@@ -72,7 +73,7 @@ module _ (l : L) (g : LogView) (u : NodeReplica) (is : IsLogOf l g) (f : Follows
       tail = reaches i;
       state = (state_in l p (rest_of l p all_others) owed ∙ (ap (state_after store_meaning l.catalogue l.history) reaches ∙ sym f.state)) i;
     };
-    hand = record { begin = (reaches ∙ sym f.begins) i; records = (sym f.empty) i; window = u.hand.window };
+    hand = record { begin = (reaches ∙ sym f.begins) i; records = (sym f.empty) i; window = u.hand.window; long = u.hand.long };
   }
 
   pub some_owed : IsWellFormed store_meaning l → Owes l.catalogue h p owed
@@ -84,6 +85,7 @@ module _ (l : L) (g : LogView) (u : NodeReplica) (is : IsLogOf l g) (f : Follows
         tail = omega (arith, r);
         rest = ap (λ z. drop owed (drop z g.records)) (no_more g.base) ∙ sym (ap (λ z. drop z (drop owed g.records)) (ap (λ z. z - u.replica.tail) r ∙ no_more u.replica.tail));
         window = f.window ∙ sym is.sizes.0;
+        long = f.long ∙ sym is.sizes.3;
       }
 
 -- ---- the batch behind them
@@ -105,7 +107,7 @@ module _ (c : CatalogueView) (h h2 : LogView) (n m : NodeReplica) (owed : ℕ) (
   pub as_copied : m ≡ with_more more (replayed_first c owed n) → m ≡ copied h2 (caught_up c owed n)
   as_copied e = e ∙ (λ i. record {
     replica = record { tail = t; state = after store_meaning c n.replica.state (take owed n.hand.records) };
-    hand = record { begin = t; records = rest i; window = n.hand.window };
+    hand = record { begin = t; records = rest i; window = n.hand.window; long = n.hand.long };
   })
 
   -- the hand has room for it

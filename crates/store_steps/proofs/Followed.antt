@@ -2,7 +2,7 @@
 use Rattle.std.proofs.Common.{◌≡◌, suc, ◌+◌, ◌-◌, ◌<◌, ◌≤◌, ◌&&◌, true, false, [], length, drop, refl, sym, ap, ◌∙◌, subst, arith, Some, slice_get, ⊎_elim}
 use Rattle.std.proofs.lemmas.Bool.{cases_lt, le-leb, le-ltb}
 use Rattle.loader.specs.StoreState.{sizes_of}
-use Rattle.loader.specs.CatalogueView.{CatalogueView, sizes_for}
+use Rattle.loader.specs.CatalogueView.{CatalogueView, longest_argument, sizes_for}
 use Rattle.oplog.specs.declared.configuration.TheConstants.{ENDLESS}
 use Rattle.oplog.specs.Logs.{Log as LogView, HandView, records_from}
 use Rattle.oplog.specs.History.{state_after}
@@ -27,6 +27,7 @@ follows_on l m n grown f =
       state = f.state ∙ state_on store_meaning l m n.replica.tail grown f.within;
       sizes = f.sizes ∙ ap sizes_for grown.catalogue;
       window = f.window ∙ ap (λ c. c.window) grown.config;
+      long = f.long ∙ ap longest_argument grown.catalogue;
       begins = f.begins;
       empty = f.empty;
     }
@@ -39,6 +40,7 @@ module _ (l : L) (g : LogView) (n : NodeReplica) (is : IsLogOf l g) (f : Follows
     state = is.agrees.base_state;
     sizes = is.sizes.2;
     window = f.window;
+    long = f.long;
     begins = refl;
     empty = refl;
   }
@@ -54,7 +56,7 @@ module _ (l : L) (g : LogView) (n : NodeReplica) (is : IsLogOf l g) (f : Follows
       (cases_lt n.replica.tail g.base)
 
   pub fits : Fits g n
-  fits = let t = is.tail in let w = f.within in record { tail = omega (arith, t, w); window = f.window ∙ sym is.sizes.0 }
+  fits = let t = is.tail in let w = f.within in record { tail = omega (arith, t, w); window = f.window ∙ sym is.sizes.0; long = f.long ∙ sym is.sizes.3 }
 
   module _ (low : g.base ≤ n.replica.tail) where
     pub above : is_above g n ≡ true
@@ -69,7 +71,7 @@ module _ (l : L) (g : LogView) (n : NodeReplica) (is : IsLogOf l g) (f : Follows
       state = f.state;
       sizes = f.sizes;
       few = few;
-      hand = λ i. record { begin = n.replica.tail; records = others i; window = f.window i };
+      hand = λ i. record { begin = n.replica.tail; records = others i; window = f.window i; long = f.long i };
     }
 
     pub updates : IsWellFormed store_meaning l → AreUpdates l.catalogue (records_from g n.replica.tail)
@@ -80,7 +82,7 @@ pub record HasAll (l : L) (n : NodeReplica) : Type 0 where
   pub tail : n.replica.tail ≡ length l.history
   pub state : n.replica.state ≡ state_after store_meaning l.catalogue l.history n.replica.tail
   pub sizes : sizes_of n.replica.state ≡ sizes_for l.catalogue
-  pub hand : n.hand ≡ (let rest : HandView = record { begin = n.replica.tail; records = []; window = l.config.window } in rest)
+  pub hand : n.hand ≡ (let rest : HandView = record { begin = n.replica.tail; records = []; window = l.config.window; long = longest_argument l.catalogue } in rest)
 
 pub all_follows : (l : L) (n : NodeReplica) → HasAll l n → Follows l n
-all_follows l n a = let t = a.tail in record { within = omega (arith, t); state = a.state; sizes = a.sizes; window = ap (λ (h : HandView). h.window) a.hand; begins = ap (λ (h : HandView). h.begin) a.hand; empty = ap (λ (h : HandView). h.records) a.hand }
+all_follows l n a = let t = a.tail in record { within = omega (arith, t); state = a.state; sizes = a.sizes; window = ap (λ (h : HandView). h.window) a.hand; long = ap (λ (h : HandView). h.long) a.hand; begins = ap (λ (h : HandView). h.begin) a.hand; empty = ap (λ (h : HandView). h.records) a.hand }

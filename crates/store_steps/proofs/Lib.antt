@@ -9,6 +9,7 @@ pub mod Exchanged
 pub mod Rooms
 pub mod Finished
 pub mod Batched
+pub mod Fitting
 pub mod Appended
 pub mod AtDesk
 pub mod TakenDesk

@@ -66,10 +66,10 @@ replica_put (Replica m) n e = refl
 replica_put (Log g) n e = absurd (not_some e)
 replica_put (Desk d) n e = absurd (not_some e)
 
--- a replica keeps the window of its hand, and the sizes of its state
+-- a replica keeps the window of its hand and the room there for an argument, and the sizes of its state
 pub replica_sizes : (config : Sizes) (c : CatalogueView) (w : Value) (n : NodeReplica) → IsSome (replica_of w) → IsSized config c w → HasReplicaSizes config c n → KeepsSizes IsSized w (with_replica w n)
 replica_sizes config c (Replica m) n e s t d b u =
-    (t.0 ∙ (sym s.0 ∙ u.0), t.1 ∙ (λ i. record { begin = n.replica.tail; records = []; window = (sym (ap (λ z. z.window) s.1) ∙ ap (λ z. z.window) u.1) i }))
+    (t.0 ∙ (sym s.0 ∙ u.0), t.1 ∙ (λ i. record { begin = n.replica.tail; records = []; window = (sym (ap (λ z. z.window) s.1) ∙ ap (λ z. z.window) u.1) i; long = (sym (ap (λ z. z.long) s.1) ∙ ap (λ z. z.long) u.1) i }))
 replica_sizes config c (Log g) n e s t d b u = absurd (not_some e)
 replica_sizes config c (Desk g) n e s t d b u = absurd (not_some e)
 

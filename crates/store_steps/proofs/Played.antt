@@ -6,7 +6,7 @@ use Rattle.ownlock.specs.declared.known.ShelfStep.TheVariants.{Raised}
 use Rattle.ownlock.specs.Rules.{leader}
 use Rattle.ownlock.specs.Seats.{At, having_raised, Continues, Run as RunOf}
 use Rattle.ownlock.specs.Knowledge.{Later, Possible}
-use Rattle.loader.specs.CatalogueView.{CatalogueView, sizes_for}
+use Rattle.loader.specs.CatalogueView.{CatalogueView, longest_argument, sizes_for}
 use Rattle.oplog.specs.Logs.{Log as LogView, HandView}
 use Rattle.oplog.specs.History.{after, state_after}
 use Rattle.replica.specs.StoreMeaning.{store_meaning}
@@ -37,7 +37,7 @@ pub record Rest (l : L) (n : NodeReplica) : Type 0 where
   within : n.replica.tail ≤ length l.history
   state : n.replica.state ≡ state_after store_meaning l.catalogue l.history n.replica.tail
   sizes : sizes_of n.replica.state ≡ sizes_for l.catalogue
-  hand : n.hand ≡ (let full : HandView = record { begin = n.replica.tail; records = drop n.replica.tail l.history; window = l.config.window } in full)
+  hand : n.hand ≡ (let full : HandView = record { begin = n.replica.tail; records = drop n.replica.tail l.history; window = l.config.window; long = longest_argument l.catalogue } in full)
 
 pub rest_of : (l : L) (n : NodeReplica) → HasOthers l n → Rest l n
 rest_of l n h = record { within = h.within; state = h.state; sizes = h.sizes; hand = h.hand }
@@ -62,7 +62,7 @@ module _ (l : L) (n : NodeReplica) (h : Rest l n) where
     tail = all;
     state = ap (λ z. after store_meaning l.catalogue n.replica.state z) (sym (take_whole n.hand.records)) ∙ state_in (length n.hand.records);
     sizes = same ∙ h.sizes;
-    hand = λ i. record { begin = t + length n.hand.records; records = []; window = (ap (λ (z : HandView). z.window) h.hand) i };
+    hand = λ i. record { begin = t + length n.hand.records; records = []; window = (ap (λ (z : HandView). z.window) h.hand) i; long = (ap (λ (z : HandView). z.long) h.hand) i };
   }
 
   pub keeps : (old new : RepliesView) → KeepsOutcomes l.catalogue n.replica.state n.replica.tail n.hand.records old new → KeepsOutcomesOf l t old new
@@ -91,7 +91,7 @@ pub all_agrees : (l m : L) (n : NodeReplica) → Extends l m → length l.histor
 all_agrees l m n g done h =
     let t = h.tail in (
       replayed_agrees store_meaning l m (replica_value n.replica) g (omega (arith, t)) h.state (omega (arith, t, done)),
-      (h.sizes ∙ ap sizes_for g.catalogue, h.hand ∙ (λ i. record { begin = n.replica.tail; records = []; window = (ap (λ c. c.window) g.config) i })),
+      (h.sizes ∙ ap sizes_for g.catalogue, h.hand ∙ (λ i. record { begin = n.replica.tail; records = []; window = (ap (λ c. c.window) g.config) i; long = (ap longest_argument g.catalogue) i })),
     )
 
 -- a replica with the log beside it, once it has followed that
@@ -101,7 +101,7 @@ followed_all l g n m is f low e same =
       within = f.within;
       state = f.state;
       sizes = f.sizes;
-      hand = λ i. record { begin = n.replica.tail; records = others l g n is f low i; window = f.window i };
+      hand = λ i. record { begin = n.replica.tail; records = others l g n is f low i; window = f.window i; long = f.long i };
     } in
     subst (HasAll l) (sym e) (has_all l (copied g n) full (ap (λ (z : NodeReplica). sizes_of z.replica.state) (sym e) ∙ same))
 

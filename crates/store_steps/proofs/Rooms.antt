@@ -3,7 +3,7 @@ use Rattle.std.proofs.Common.{◌≡◌, Bool, true, false, ℕ, zero, suc, ◌+
 use Rattle.std.specs.Prelude.{◌⊎◌}
 use Rattle.std.proofs.Math.Nat.{le-max_right, max-le, min-le_left}
 use Rattle.loader.specs.StoreState.{sizes_of}
-use Rattle.loader.specs.CatalogueView.{CatalogueView, sizes_for}
+use Rattle.loader.specs.CatalogueView.{CatalogueView, longest_argument, sizes_for}
 use Rattle.oplog.specs.Logs.{Log as LogView, tail_of, left_of, room_in}
 use Rattle.oplog.specs.declared.configuration.TheConstants.{ENDLESS}
 use Rattle.replica.specs.StoreMeaning.{store_meaning}
@@ -79,6 +79,7 @@ module _ (k after : K) (g : LogView) (u : NodeReplica) (is : IsLogOf k.progress 
       is.sizes.0 ∙ ap (λ c. c.window) up.goes.extends.config,
       is.sizes.1 ∙ ap (λ c. c.limit) up.goes.extends.config,
       f.sizes ∙ ap sizes_for up.goes.extends.catalogue,
+      is.sizes.3 ∙ ap longest_argument up.goes.extends.catalogue,
     );
   }
 
@@ -98,7 +99,7 @@ module _ (k after : K) (g : LogView) (u : NodeReplica) (is : IsLogOf k.progress 
     well = well_formed after.progress up.stands.notes up.stands.accounts;
     same = sym (up.still holds);
     log = log_of_base;
-    keeps = (refl, refl, f.sizes ∙ sym is.sizes.2);
+    keeps = (refl, refl, f.sizes ∙ sym is.sizes.2, refl);
     follows = follows_on k.progress after.progress u up.goes.extends f;
     above = omega arith;
     room = has_room;
@@ -143,7 +144,7 @@ roomy k want g n well is f low room = record {
   well = well;
   same = refl;
   log = is;
-  keeps = (refl, refl, refl);
+  keeps = (refl, refl, refl, refl);
   follows = f;
   above = low;
   room = room;

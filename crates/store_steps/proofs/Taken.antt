@@ -58,7 +58,7 @@ agrees_in l (Desk g) x e a s n is = absurd (none-some n is)
 pub follows_agreed : (l : L) (n : NodeReplica) → IsWellFormed store_meaning l → Agrees l n → Follows l n
 follows_agreed l n well a =
     let t = a.0.tail in let low = well.completed in
-    record { within = omega (arith, t, low); state = a.0.state; sizes = a.1.0; window = ap (λ h. h.window) a.1.1; begins = ap (λ h. h.begin) a.1.1; empty = ap (λ h. h.records) a.1.1 }
+    record { within = omega (arith, t, low); state = a.0.state; sizes = a.1.0; window = ap (λ h. h.window) a.1.1; long = ap (λ h. h.long) a.1.1; begins = ap (λ h. h.begin) a.1.1; empty = ap (λ h. h.records) a.1.1 }
 
 pub log_is : (l : L) (x : Value) (v : LogValue StoreState) → IsWellFormed store_meaning l → view_of x ≡ TheLog v → LogAgrees store_meaning l v → IsSized l.config l.catalogue x → (g : LogView) → log_of x ≡ Some g → IsLogOf l g
 log_is l (Log h) v well e a s g is =

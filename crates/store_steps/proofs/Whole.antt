@@ -5,7 +5,7 @@ use Rattle.std.proofs.Math.Nat.{max-eq_left}
 use Rattle.std.proofs.lemmas.Bool.{le-leb, ltb-false}
 use Rattle.std.proofs.lemmas.List.{append-nil, drop-append-le}
 use Rattle.std.proofs.lemmas.Option.{none-some}
-use Rattle.loader.specs.CatalogueView.{CatalogueView, sizes_for}
+use Rattle.loader.specs.CatalogueView.{CatalogueView, longest_argument, sizes_for}
 use Rattle.oplog.specs.History.{History, after}
 use Rattle.oplog.specs.Logs.{Log as LogView, tail_of}
 use Rattle.oplog.specs.declared.configuration.Sizes.{Sizes}
@@ -73,7 +73,7 @@ module _ (l m : L) (g : LogView) (is : IsLogOf l g) (grows : Extends l m) where
           records = refl;
         };
         tail = later_tail;
-        sizes = (is.sizes.0 ∙ ap (λ (z : Sizes). z.window) grows.config, is.sizes.1 ∙ ap (λ (z : Sizes). z.limit) grows.config, is.sizes.2 ∙ ap sizes_for grows.catalogue);
+        sizes = (is.sizes.0 ∙ ap (λ (z : Sizes). z.window) grows.config, is.sizes.1 ∙ ap (λ (z : Sizes). z.limit) grows.config, is.sizes.2 ∙ ap sizes_for grows.catalogue, is.sizes.3 ∙ ap longest_argument grows.catalogue);
       }
 
   -- what was added to the history are updates
@@ -128,7 +128,7 @@ ran c n rs = replayed c (record n { hand = record n.hand { begin = n.replica.tai
 ran_none : (c : CatalogueView) (n : NodeReplica) → n.hand.begin ≡ n.replica.tail → n.hand.records ≡ [] → ran c n [] ≡ n
 ran_none c n begins empty = λ i. record {
   replica = record { tail = (plus_none n.replica.tail) i; state = n.replica.state };
-  hand = record { begin = (plus_none n.replica.tail ∙ sym begins) i; records = (sym empty) i; window = n.hand.window };
+  hand = record { begin = (plus_none n.replica.tail ∙ sym begins) i; records = (sym empty) i; window = n.hand.window; long = n.hand.long };
 }
 
 -- a replica with an empty hand applies what the log has and it lacks
@@ -235,17 +235,17 @@ pub agrees_on : (l m : L) (n : NodeReplica) → Extends l m → n.replica.tail �
 agrees_on l m n grown within a =
     let tail = a.0.tail in let rise = grown.completed in (
       record { tail = omega (arith, tail, rise); state = a.0.state ∙ state_on store_meaning l m n.replica.tail grown within },
-      (a.1.0 ∙ ap sizes_for grown.catalogue, a.1.1 ∙ (λ i. record { begin = n.replica.tail; records = []; window = (ap (λ (z : Sizes). z.window) grown.config) i })),
+      (a.1.0 ∙ ap sizes_for grown.catalogue, a.1.1 ∙ (λ i. record { begin = n.replica.tail; records = []; window = (ap (λ (z : Sizes). z.window) grown.config) i; long = (ap longest_argument grown.catalogue) i })),
     )
 
 -- the log whose base is the replica
 abbrev pub log_from : L → NodeReplica → LogView
-log_from l n = record { base = n.replica.tail; base_state = n.replica.state; records = drop n.replica.tail l.history; done = l.completed; window = l.config.window; limit = l.config.limit }
+log_from l n = record { base = n.replica.tail; base_state = n.replica.state; records = drop n.replica.tail l.history; done = l.completed; window = l.config.window; long = longest_argument l.catalogue; limit = l.config.limit }
 
 pub log_from_is : (l : L) (n : NodeReplica) → l.completed ≤ length l.history → Agrees l n → IsLogOf l (log_from l n)
 log_from_is l n low a =
     let tail = a.0.tail in record {
       agrees = record { done = omega arith; base = tail; base_state = a.0.state; records = refl };
       tail = long_drop n.replica.tail l.history (omega (arith, tail, low));
-      sizes = (refl, refl, a.1.0);
+      sizes = (refl, refl, a.1.0, refl);
     }

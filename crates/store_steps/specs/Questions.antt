@@ -1,6 +1,6 @@
 -- Several questions in one call: which are refused, and what several reads at one point tell.
 use Rattle.std.specs.Prelude.{◌≡◌, ℕ, suc, ◌≤◌, List, [], ◌∷◌, length, true, Option, Some, None, slice_get}
-use Rattle.maps.specs.declared.shapes.TheConstants.{MAX_ARG_LEN}
+use Rattle.maps.specs.declared.shapes.TheConstants.{MOST_ARG_LEN}
 use Rattle.ownlock.specs.Seats.{At}
 use Rattle.verifier.specs.declared.refusal.Mode.{Mode}
 use Rattle.verifier.specs.declared.refusal.Mode.TheVariants.{Read}
@@ -39,7 +39,7 @@ first_refused c number questions = first_refused_in Read c number questions
 
 -- the program may be called in this mode on this argument, which fits a call's room
 abbrev pub MayAskFor : Mode → CatalogueView → (program : ℕ) → List ℕ → Type 0
-MayAskFor mode c program argument = (is_operation mode c (op_of program argument) ≡ true) × (length argument ≤ MAX_ARG_LEN)
+MayAskFor mode c program argument = (is_operation mode c (op_of program argument) ≡ true) × (length argument ≤ MOST_ARG_LEN)
 
 -- so may each question
 abbrev pub MayAskEach : Mode → CatalogueView → List Question → Type 0

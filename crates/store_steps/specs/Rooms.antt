@@ -22,6 +22,7 @@ pub record Owes (c : CatalogueView) (g : LogView) (n : NodeReplica) (owed : ℕ)
   pub tail : n.replica.tail + owed ≤ tail_of g
   pub rest : drop owed n.hand.records ≡ records_from g (n.replica.tail + owed)
   pub window : n.hand.window ≡ g.window
+  pub long : n.hand.long ≡ g.long
 
 -- the replica is above the log's base, and without the records before it the log has room for so many, if the history may have them
 abbrev pub FreesRoom : ℕ → LogView → NodeReplica → Type 0

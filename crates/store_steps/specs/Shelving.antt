@@ -3,7 +3,7 @@ use Rattle.std.specs.Prelude.{◌≡◌, ℕ, ◌+◌, ◌*◌, List, [], length
 use Rattle.ownlock.specs.Rules.{Rules}
 use Rattle.ownlock.specs.Seats.{Opened, opened_with}
 use Rattle.loader.specs.StoreState.{StoreState, sizes_of}
-use Rattle.loader.specs.CatalogueView.{CatalogueView, sizes_for}
+use Rattle.loader.specs.CatalogueView.{CatalogueView, longest_argument, opening_state, sizes_for}
 use Rattle.oplog.specs.declared.configuration.Sizes.{Sizes}
 use Rattle.oplog.specs.Logs.{Log as LogView, HandView, opened_log, opened_hand}
 use Rattle.replica.specs.Views.{ReplicaView}
@@ -33,17 +33,17 @@ view_of (Log g) = TheLog (log_value g.value)
 view_of (Replica n) = TheReplica (replica_value n.value.replica)
 view_of (Desk d) = TheDesk d.value
 
--- the log has the window, the limit and the sizes that the store was opened with
+-- the log has the window, the limit and the sizes that the store was opened with, and room for its longest argument
 abbrev pub HasLogSizes : Sizes → CatalogueView → LogView → Type 0
-HasLogSizes config c g = (g.window ≡ config.window) × (g.limit ≡ config.limit) × (sizes_of g.base_state ≡ sizes_for c)
+HasLogSizes config c g = (g.window ≡ config.window) × (g.limit ≡ config.limit) × (sizes_of g.base_state ≡ sizes_for c) × (g.long ≡ longest_argument c)
 
 -- a hand that has no record, and begins at the tail of its replica
-abbrev pub resting_hand : Sizes → ℕ → HandView
-resting_hand config tail = record { begin = tail; records = []; window = config.window }
+abbrev pub resting_hand : Sizes → CatalogueView → ℕ → HandView
+resting_hand config c tail = record { begin = tail; records = []; window = config.window; long = longest_argument c }
 
--- the replica has the sizes of the catalogue, and its hand, of the configuration's window, is empty
+-- the replica has the sizes of the catalogue, and its hand, of the configuration's window and with room for the longest argument, is empty
 abbrev pub HasReplicaSizes : Sizes → CatalogueView → NodeReplica → Type 0
-HasReplicaSizes config c n = (sizes_of n.replica.state ≡ sizes_for c) × (n.hand ≡ resting_hand config n.replica.tail)
+HasReplicaSizes config c n = (sizes_of n.replica.state ≡ sizes_for c) × (n.hand ≡ resting_hand config c n.replica.tail)
 
 -- the sizes of a value are those of the configuration and the catalogue, and a hand on the shelf is empty
 abbrev pub IsSized : Sizes → CatalogueView → Value → Type 0
@@ -80,16 +80,16 @@ opening_notes s = replicate (sessions_of s.config) fresh_note
 abbrev pub store_opening : Setup → Opened (Progress CatalogueView) SessionNote
 store_opening s = opened_with (opening_progress s) (places_of s.config) (opening_notes s)
 
--- a new log on a state, and a new replica of it with its empty hand
-abbrev pub IsOpenedLog : StoreState → ℕ → ℕ → Value → Type 0
-IsOpenedLog state window limit (Log g) = g.value ≡ opened_log state window limit
-IsOpenedLog state window limit (Replica n) = ⊥
-IsOpenedLog state window limit (Desk n) = ⊥
+-- a new log on what a catalogue opens on, and a new replica of it with its empty hand
+abbrev pub IsOpenedLog : CatalogueView → (window limit : ℕ) → Value → Type 0
+IsOpenedLog c window limit (Log g) = g.value ≡ opened_log (opening_state c) window (longest_argument c) limit
+IsOpenedLog c window limit (Replica n) = ⊥
+IsOpenedLog c window limit (Desk n) = ⊥
 
-abbrev pub opened_node : StoreState → ℕ → NodeReplica
-opened_node state window = record { replica = record { tail = 0; state = state }; hand = opened_hand window }
+abbrev pub opened_node : CatalogueView → (window : ℕ) → NodeReplica
+opened_node c window = record { replica = record { tail = 0; state = opening_state c }; hand = opened_hand window (longest_argument c) }
 
-abbrev pub IsOpenedReplica : StoreState → ℕ → Value → Type 0
-IsOpenedReplica state window (Log g) = ⊥
-IsOpenedReplica state window (Desk g) = ⊥
-IsOpenedReplica state window (Replica n) = n.value ≡ opened_node state window
+abbrev pub IsOpenedReplica : CatalogueView → (window : ℕ) → Value → Type 0
+IsOpenedReplica c window (Log g) = ⊥
+IsOpenedReplica c window (Desk g) = ⊥
+IsOpenedReplica c window (Replica n) = n.value ≡ opened_node c window

@@ -4,6 +4,7 @@ ghost use Rattle.std.specs.Prelude.{◌≡◌};
 
 use combiner::Batch;
 use replica::Replies;
+use std::alloc::{AllocError, Global};
 
 /// Room for what a session does for its node.
 #[derive(Drop)]
@@ -19,14 +20,34 @@ pub struct Room {
 }
 
 impl Room {
-    /// Room with nothing in it.
-    pub fn new() -> Room {
+    /// Room with nothing in it. No later call takes memory.
+    ///
+    /// # Errors
+    ///
+    /// The system has no memory left.
+    pub fn open(alloc: Global) -> Result<Room, AllocError> {
+        Ok(Room::with(Batch::open(alloc)?))
+    }
+
+    /// Room whose requests go into this batch, and that has combined none yet. What the batch has is lost.
+    pub fn with(batch: Batch) -> Room {
         Room {
-            batch: Batch::new(),
+            batch,
             replies: Replies::new(0, 0),
             singles: 0,
             shared: Batches::none(),
         }
+    }
+
+    /// Gives the batch, for other room.
+    pub fn into_batch(self) -> Batch {
+        let Room {
+            batch,
+            replies: _replies,
+            singles: _singles,
+            shared: _shared,
+        } = self;
+        batch
     }
 
     /// The batches that the session has combined.

@@ -25,6 +25,7 @@ use combiner::{Batch, Reply};
 use oplog::OpRef;
 use ownlock::{Held, Seat};
 use replica::Replies;
+use std::alloc::{AllocError, Global};
 use std::sync::Wait;
 
 /// A session that shares the takes of its node's desk with others: its seat, and its slot.
@@ -312,11 +313,14 @@ fn give_each<R: Wait>(
 }
 
 impl EachRoom {
-    /// Room with nothing in it.
-    pub fn new() -> EachRoom {
-        EachRoom {
-            combining: Room::new(),
-        }
+    /// Room with nothing in it. No later call takes memory.
+    ///
+    /// # Errors
+    ///
+    /// The system has no memory left.
+    pub fn open(alloc: Global) -> Result<EachRoom, AllocError> {
+        let combining = Room::open(alloc)?;
+        Ok(EachRoom { combining })
     }
 
     /// Performs several whole updates at once, one of each member, by four takes. In one hold of their desk each member posts its call, and the first member

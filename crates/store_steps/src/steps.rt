@@ -3,6 +3,7 @@
 ghost use Rattle.std.specs.Prelude.{◌≡◌, ◌↔◌, ◌⊎◌, ◌+◌, ◌-◌, ◌<◌, ◌≤◌, true, false, min, length, drop, nat_lt, None, IsTrue, IfSome, IfNone, IfOk, IfErr};
 ghost use Rattle.loader.specs.CatalogueView.{sizes_for};
 ghost use Rattle.loader.specs.StoreState.{sizes_of};
+ghost use Rattle.oplog.specs.History.{AllFit};
 ghost use Rattle.oplog.specs.Limits.{IsWindow};
 ghost use Rattle.oplog.specs.Logs.{left_of, records_from, room_in, tail_of};
 ghost use Rattle.oplog.specs.declared.configuration.TheConstants.{ENDLESS};
@@ -268,6 +269,7 @@ fn replay_owed(node: &mut NodeReplica, catalogue: &Catalogue, owed: usize, appen
     requires next { IsNext catalogue.now node.old }
     requires owed { owed ≤ length node.old.hand.records }
     requires room { length (drop owed node.old.hand.records) + length appended.now ≤ node.old.hand.window }
+    requires fit { AllFit node.old.hand.long appended.now }
     ensures node { node.new ≡ with_more appended.now (replayed_first catalogue.now owed node.old) }
 {
     if owed > 0 {

@@ -1,7 +1,7 @@
 // The values on a store's shelf: the log, and the replica and the desk of each node.
 
 ghost use Rattle.std.specs.Prelude.{◌≡◌, Some, IsSome, IfOk};
-ghost use Rattle.loader.specs.CatalogueView.{OpensOn, opening_state};
+ghost use Rattle.loader.specs.CatalogueView.{OpensOn};
 ghost use Rattle.oplog.specs.Limits.{IsWindow, IsLimit};
 ghost use Rattle.store_steps.specs.Lending.{log_of, replica_of, desk_of};
 ghost use Rattle.store_steps.specs.Shelving.{IsOpenedLog, IsOpenedReplica};
@@ -9,7 +9,7 @@ ghost use Rattle.store_steps.specs.Shelving.{IsOpenedLog, IsOpenedReplica};
 use combiner::Desk;
 use loader::{Catalogue, StoreState};
 use node::NodeReplica;
-use oplog::{Hand, LogState, Sizes};
+use oplog::{Hand, LogRoom, LogState, Sizes};
 use ownlock::Shelved;
 use replica::Replica;
 use std::alloc::{AllocError, Global};
@@ -139,10 +139,11 @@ pub fn shelved_log(
     requires opens { OpensOn catalogue.now state }
     requires window { IsWindow window }
     requires limit { IsLimit limit }
-    ensures log { IfOk result (λ v. IsOpenedLog (opening_state catalogue.now) window limit v) }
+    ensures log { IfOk result (λ v. IsOpenedLog catalogue.now window limit v) }
 {
     let base = StoreState::opening(alloc, catalogue, state)?;
-    let log = LogState::open(alloc, base, window, limit)?;
+    let long = catalogue.longest_argument();
+    let log = LogState::open(alloc, base, LogRoom { window, long }, limit)?;
     Ok(Value::Log(Box::new(alloc, log)?))
 }
 
@@ -155,9 +156,9 @@ pub fn shelved_replica(
 ) -> Result<Value, AllocError>
     requires opens { OpensOn catalogue.now state }
     requires window { IsWindow window }
-    ensures replica { IfOk result (λ v. IsOpenedReplica (opening_state catalogue.now) window v) }
+    ensures replica { IfOk result (λ v. IsOpenedReplica catalogue.now window v) }
 {
     let replica = Replica::open(StoreState::opening(alloc, catalogue, state)?);
-    let hand = Hand::open(alloc, window)?;
+    let hand = Hand::open(alloc, window, catalogue.longest_argument())?;
     Ok(Value::Replica(Box::new(alloc, NodeReplica { replica, hand })?))
 }

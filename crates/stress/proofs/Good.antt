@@ -1,5 +1,5 @@
 -- To the transcripts that `stress` may write `replay` answers that they are good.
-use Rattle.std.proofs.Common.{◌≡◌, ◌∙◌, ℕ, ◌+◌, Bool, true, false, not, List, [], ◌∷◌, ◌++◌, map, slice_get, nat_le, Some, None, Ok, sym, ap, subst, arith}
+use Rattle.std.proofs.Common.{◌≤◌, ◌≡◌, ◌∙◌, ℕ, ◌+◌, Bool, true, false, not, List, [], ◌∷◌, ◌++◌, map, slice_get, nat_le, Some, None, Ok, sym, ap, subst, arith}
 use Rattle.std.specs.Prelude.{if◌then◌else◌, codes, option_map}
 use Rattle.std.specs.List.{All}
 use Rattle.std.specs.Str.{IsUtf8}
@@ -17,6 +17,9 @@ use Rattle.replica.specs.StoreMeaning.{AreUpdates}
 use Rattle.oplog.specs.Limits.{IsConfig}
 use Rattle.engine.specs.Answer.{Answer}
 use Rattle.std.specs.Str.{is_utf8}
+use Rattle.text.specs.Words.{is_name}
+use Rattle.engine.specs.declared.reading.MapSizes.{MapSizes}
+use Rattle.engine.specs.declared.reading.MapSizes.TheVariants.{Standard, Large}
 use Rattle.engine.specs.Reading.{Given, files_in, first_stranger, read, limits_of}
 use Rattle.engine.specs.Unread.{first_strange}
 use Rattle.engine.proofs.Export.{found, is_strange, unless_strange, are_limits}
@@ -39,8 +42,8 @@ use Rattle.stress.specs.Timed.{how_many, is_updated, is_seen, AreCounted}
 use Rattle.stress.proofs.Agreeing.{transcripts_agree}
 use Rattle.stress.proofs.Fit.{IsFit, script_fit}
 use Rattle.stress.proofs.GoodLines.{Fits, counted, all_go, is_text_of}
-use Rattle.stress.proofs.Programs.{has_name}
-use Rattle.stress.proofs.ReadBack.{HaveNames}
+use Rattle.stress.proofs.Programs.{is_within, IsWithin}
+use Rattle.stress.proofs.ReadBack.{FitLines}
 use Rattle.stress.proofs.Transcripts.{each_call_has_one_line}
 use Rattle.stress.proofs.Sizes.{sizes_from}
 
@@ -72,9 +75,9 @@ of_map : {A B : Type 0} (P : B → Type 0) (f : A → B) (xs : List A) → All P
 of_map P f [] h = All-nil (λ x. P (f x))
 of_map P f (x ∷ xs) h = All-cons (λ x. P (f x)) x xs (All-head P (f x) (map f xs) h) (of_map P f xs (All-tail P (f x) (map f xs) h))
 
-module _ (c : CatalogueView) (whole : IsCatalogue c) (names : HaveNames c) (config : Config) (sizes : IsConfig config) (calls : List Called) (fit : All (IsFit c) calls) (a : Answer) (t : IsTranscript config c calls a)
+module _ (c : CatalogueView) (whole : IsCatalogue c) (lines : FitLines c) (config : Config) (sizes : IsConfig config) (calls : List Called) (fit : All (IsFit c) calls) (a : Answer) (t : IsTranscript config c calls a)
     (counts : Counts) (are : AreCounted t.told counts) where
-  all_fit : All (Fits c whole names) t.told
+  all_fit : All (Fits c whole lines) t.told
   all_fit k d below =
       let fits = of_map (IsFit c) (λ (x : ToldCall). x.call) t.told (All-permutation (IsFit c) calls (calls_of t.told) (each_call_has_one_line config c calls a sizes t) fit) in
       let suited = All-permutation (λ (x : ToldCall). suits (told_as x.call.asked) x.said ≡ true) t.asked t.told t.same t.suited in
@@ -86,8 +89,8 @@ module _ (c : CatalogueView) (whole : IsCatalogue c) (names : HaveNames c) (conf
   pub is_good : IsGood
   is_good =
       let none : AreUpdates c [] = λ k r e. absurd cc in
-      let go = all_go c whole names 1 nothing_replayed t.told (none, omega arith) (omega arith, omega arith) all_fit (transcripts_agree config c calls a sizes t) in
-      let text = is_text_of c whole names t.told go.0 in
+      let go = all_go c whole lines 1 nothing_replayed t.told (none, omega arith) (omega arith, omega arith) all_fit (transcripts_agree config c calls a sizes t) in
+      let text = is_text_of c whole lines t.told go.0 in
       let same : a.text ≡ transcript_text c t.told = ap (λ (x : Answer). x.text) t.is in
       let first : 0 + how_many is_updated t.told ≡ counts.updates = omega (arith, are.updates) in
       let second : 0 + how_many is_seen t.told ≡ counts.reads = omega (arith, are.reads) in
@@ -99,14 +102,19 @@ module _ (c : CatalogueView) (whole : IsCatalogue c) (names : HaveNames c) (conf
 
 -- ---- what is answered to what is given
 
+-- by either limits an argument has room in a line
+line_fits : (z : MapSizes) (e : Entry) → IsWithin (limits_of z) e → (is_name e.name ≡ true) × (e.checked.arg_len ≤ 192)
+line_fits Standard e h = let few = h.1 in (h.0, omega (arith, few))
+line_fits Large e h = let few = h.1 in (h.0, omega (arith, few))
+
 module _ (config : Config) (timed : Bool) (g : Given) (s : Stressed) (texts : first_stranger g ≡ None) (sizes : are_sizes config ≡ true) (base : CatalogueView) (is : loaded_within (limits_of g.sizes) g.manifest (files_in g) ≡ Ok base) where
   pub found_good : (opened : CatalogueView) → IsCatalogue opened → opened.programs ≡ base.programs → opened_by (with_places base config.spare) g.state ≡ Ok opened
       → (calls : List Called) → script_calls opened 1 (lines_of g.file) ≡ Ok calls → IsRun config timed opened calls s → IsFoundGood config timed g s
   found_good opened whole same opens calls asked run =
       let text = s.reply.text.items in
       let within = sizes_from config sizes in
-      let names : HaveNames opened = λ k e at. has_name (limits_of g.sizes) g.manifest (files_in g) base k e (are_limits g.sizes) is (subst (λ (es : List Entry). slice_get es k ≡ Some e) same at) in
-      let good = is_good opened whole names config within calls (script_fit opened 1 (lines_of g.file) calls asked) (answer_of s.reply) run.transcript s.counts run.counts in
+      let lines : FitLines opened = λ k e at. line_fits g.sizes e (is_within (limits_of g.sizes) g.manifest (files_in g) base k e (are_limits g.sizes) is (subst (λ (es : List Entry). slice_get es k ≡ Some e) same at)) in
+      let good = is_good opened whole lines config within calls (script_fit opened 1 (lines_of g.file) calls asked) (answer_of s.reply) run.transcript s.counts run.counts in
       let placed : nat_le config.spare MAX_SPARE ≡ true = le-leb config.spare MAX_SPARE within.spare in
       record {
         opened = opened;

@@ -34,7 +34,7 @@ use Rattle.stress.specs.Lines.{is_ended}
 use Rattle.stress.specs.Timed.{how_many, is_updated, is_seen}
 use Rattle.stress.proofs.Fit.{IsFit}
 use Rattle.stress.proofs.Printed.{ArePrinted, is_utf8_line, no_feed}
-use Rattle.stress.proofs.ReadBack.{AreSmall, HaveNames, asked_bytes, asked_operation, call_is, line_of, program_of, read_back, told_meaning}
+use Rattle.stress.proofs.ReadBack.{AreSmall, FitLines, asked_bytes, asked_operation, call_is, line_of, program_of, read_back, told_meaning}
 use Rattle.stress.proofs.Replies.{HasBytes, read_small, update_small}
 
 -- ---- what a line does
@@ -64,7 +64,7 @@ Grows at (Updated index reply) next = (length next.history ≡ suc (length at.hi
 Grows at (Seen point reply) next = (length next.history ≡ length at.history) × (next.reads ≡ next_count at.reads) × (next.ended ≡ at.ended)
 Grows at Ended next = (length next.history ≡ length at.history) × (next.reads ≡ at.reads) × (next.ended ≡ next_count at.ended)
 
-module _ (c : CatalogueView) (whole : IsCatalogue c) (names : HaveNames c) where
+module _ (c : CatalogueView) (whole : IsCatalogue c) (lines : FitLines c) where
   -- a history of updates, as long as a replay allows
   abbrev Known : Replayed → Type 0
   Known at = AreUpdates c at.history × (length at.history ≤ MAX_LIMIT)
@@ -113,11 +113,11 @@ module _ (c : CatalogueView) (whole : IsCatalogue c) (names : HaveNames c) where
     -- ---- what its line says is found to be what was told
 
     found : (asked : Asked) (bytes : List ℕ) (said : Said) → asked_refusal c asked bytes ≡ None → suits (told_as asked) said ≡ true → told c at (Some (told_meaning c asked bytes said)) ≡ told_outcome c at (operation_on asked bytes) said
-    found (asks.Run Update k) bytes (Updated index reply) free fit = ap (λ o. option_map_or (compared c at Update index reply) o Bad) (call_is c whole names Update k bytes free)
+    found (asks.Run Update k) bytes (Updated index reply) free fit = ap (λ o. option_map_or (compared c at Update index reply) o Bad) (call_is c whole lines Update k bytes free)
     found (asks.Run Update k) bytes (Seen point reply) free fit = absurd cc
-    found (asks.Run Update k) bytes Ended free fit = ap (ended_outcome at) (call_is c whole names Update k bytes free)
+    found (asks.Run Update k) bytes Ended free fit = ap (ended_outcome at) (call_is c whole lines Update k bytes free)
     found (asks.Run Read k) bytes (Updated index reply) free fit = absurd cc
-    found (asks.Run Read k) bytes (Seen point reply) free fit = ap (λ o. option_map_or (compared c at Read point reply) o Bad) (call_is c whole names Read k bytes free)
+    found (asks.Run Read k) bytes (Seen point reply) free fit = ap (λ o. option_map_or (compared c at Read point reply) o Bad) (call_is c whole lines Read k bytes free)
     found (asks.Run Read k) bytes Ended free fit = absurd cc
     found (asks.Install mode arg_len) bytes (Updated index reply) free fit =
         ap (λ o. option_map_or (compared c at Update index reply) (unless_barred (operations.Install (program_of mode arg_len bytes)) o) Bad) free
@@ -132,10 +132,10 @@ module _ (c : CatalogueView) (whole : IsCatalogue c) (names : HaveNames c) where
         → told_outcome c at (operation_on asked bytes) said ≡ Agrees next → Goes asked digits said next
     unfolding line_outcome
     goes asked digits bytes said next hex free fit e =
-        let are = asked_bytes c whole names asked digits bytes hex in
-        let is = asked_operation c whole names asked bytes free are in
+        let are = asked_bytes c whole lines asked digits bytes hex in
+        let is = asked_operation c whole lines asked bytes free are in
         let after = steps asked bytes said next are is fit e in
-        let line = read_back c whole names asked digits bytes said hex free after.0 fit in
+        let line = read_back c whole lines asked digits bytes said hex free after.0 fit in
         (line.0, ap (told c at) line.1 ∙ found asked bytes said free fit ∙ e, after.1, after.2)
 
   -- ---- all lines

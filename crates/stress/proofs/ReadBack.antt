@@ -1,7 +1,9 @@
 -- The line of a call that was told is read as what was told.
 use Rattle.std.proofs.Common.{◌≡◌, ◌∙◌, inl, inr, ℕ, zero, suc, ◌^◌, ◌<◌, ◌≤◌, true, List, [], ◌∷◌, ◌++◌, length, codes, decimal, slice_get, Option, Some, None, refl, ap, append_assoc, arith}
 use Rattle.std.specs.Prelude.{option_and_then, if◌then◌else◌}
-use Rattle.std.specs.Option.{option_map_or}
+use Rattle.std.specs.Option.{option_map, option_map_or}
+use Rattle.std.proofs.lemmas.Option.{none-some, same_Some}
+use Rattle.verifier.specs.Accepted.{Checked}
 use Rattle.std.proofs.lemmas.Bool.{le-ltb}
 use Rattle.std.proofs.lemmas.List.{length-append}
 use Rattle.verifier.specs.declared.refusal.Mode.{Mode}
@@ -29,7 +31,7 @@ use Rattle.stress.specs.Lines.{Said, Updated, Seen, Ended, asked_text, suits, up
 use Rattle.stress.proofs.Fit.{within}
 use Rattle.stress.proofs.Printed.{ArePrinted, both_printed, spaced_printed, hex_is, mode_printed, mode_short, name_printed, name_short, number_printed, number_short}
 use Rattle.stress.proofs.Programs.{number_is}
-use Rattle.stress.proofs.Replies.{HasBytes, is_accepted}
+use Rattle.stress.proofs.Replies.{HasBytes}
 
 -- ---- programs by their names or numbers
 
@@ -53,8 +55,8 @@ past_all (x ∷ es) zero e = absurd cc
 past_all (x ∷ es) (suc k) e = let past = past_all es k e in omega (arith, past)
 
 -- each program of the catalogue has a name
-abbrev pub HaveNames : CatalogueView → Type 0
-HaveNames c = (k : ℕ) (e : Entry) → slice_get c.programs k ≡ Some e → is_name e.name ≡ true
+abbrev pub FitLines : CatalogueView → Type 0
+FitLines c = (k : ℕ) (e : Entry) → slice_get c.programs k ≡ Some e → (is_name e.name ≡ true) × (e.checked.arg_len ≤ 192)
 
 -- ---- a line, and what it says
 
@@ -89,7 +91,7 @@ told_meaning c (asks.Install mode arg_len) bytes (Updated index reply) = Install
 told_meaning c (asks.Install mode arg_len) bytes (Seen point reply) = meanings.Comment
 told_meaning c (asks.Install mode arg_len) bytes Ended = EndedInstall (program_of mode arg_len bytes)
 
-module _ (c : CatalogueView) (whole : IsCatalogue c) (names : HaveNames c) where
+module _ (c : CatalogueView) (whole : IsCatalogue c) (lines : FitLines c) where
   told_number : (k : ℕ) → number_told c (key_at c k) ≡ Some k
   told_number k = by (slice_get c.programs k) refl
     where
@@ -111,12 +113,19 @@ module _ (c : CatalogueView) (whole : IsCatalogue c) (names : HaveNames c) where
   abbrev IsFew : ℕ → List ℕ → Type 0
   IsFew n bytes = (n < 2 ^ 64) × (length bytes ≤ 192)
 
+  short_named : (k : ℕ) (o : Option Entry) (p : Checked) → slice_get c.programs k ≡ o → option_map (λ (e : Entry). e.checked) o ≡ Some p → p.arg_len ≤ 192
+  short_named k None p at is = absurd (none-some p is)
+  short_named k (Some e) p at is =
+      let short = (lines k e at).1 in
+      let same : e.checked.arg_len ≡ p.arg_len = ap (λ (q : Checked). q.arg_len) (same_Some e.checked p is) in
+      omega (arith, short, same)
+
   few_of_call : (mode : Mode) (k : ℕ) (bytes : List ℕ) → IsCall mode c (record { program = k; argument = bytes }) → IsFew k bytes
   few_of_call mode k bytes (inl h) =
       let below = within c k h.program h.named in
       let few : length c.programs ≤ 256 = whole.few in
       let long = h.length_is in
-      let short : h.program.arg_len ≤ 64 = (is_accepted c k h.program whole h.named).argument in
+      let short : h.program.arg_len ≤ 192 = short_named k (slice_get c.programs k) h.program refl h.named in
       (omega (arith, below, few), omega (arith, long, short))
   few_of_call mode k bytes (inr h) =
       let below = h.within in
@@ -144,7 +153,7 @@ module _ (c : CatalogueView) (whole : IsCatalogue c) (names : HaveNames c) where
     where
       by : (o : Option Entry) → slice_get c.programs k ≡ o → IsField 32 (name_or k o)
       by None is = let short = number_short k small in (number_printed k small, omega (arith, short))
-      by (Some e) is = let name = names k e is in (name_printed e.name name, name_short e.name name)
+      by (Some e) is = let name = (lines k e is).0 in (name_printed e.name name, name_short e.name name)
 
   asked_field : (asked : Asked) → number_of_asked asked < 2 ^ 64 → IsField 32 (asked_text c asked)
   asked_field (asks.Run mode k) small = name_field k small
@@ -190,7 +199,7 @@ module _ (c : CatalogueView) (whole : IsCatalogue c) (names : HaveNames c) where
     where
       by : (o : Option Entry) → slice_get c.programs k ≡ o → IsKey (key_told k o)
       by None is = small
-      by (Some e) is = names k e is
+      by (Some e) is = (lines k e is).0
 
   -- NAME and HEX before what follows
   key_first : (k : ℕ) (digits rest : List ℕ) → (name_or k (slice_get c.programs k) ++ 32 ∷ digits) ++ 32 ∷ rest ≡ key_text (key_at c k) ++ 32 ∷ (digits ++ 32 ∷ rest)

@@ -8,7 +8,7 @@ use crate::calls::ScriptCall;
 use crate::gate::Gate;
 use crate::lines::AnsweredCall;
 use crate::players::Playground;
-use crate::rounds::{Hand, Held, Round, apart, ask_round};
+use crate::rounds::{Hand, Held, Round, apart, ask_round, counted_together};
 use crate::teams::Team;
 use std::alloc::{AllocError, Global};
 use std::mem;
@@ -116,8 +116,8 @@ pub(crate) fn play<'a, R: Wait, G: Gate, C: Clock>(
     };
     let (hand, told) = ask_all(rt, ground, number * ground.together, hand);
     let Hand { held, batches } = hand;
+    team.batches = batches.and(counted_together(&held));
     let empty = mem::replace(&mut team.sessions, apart(held));
     empty.destroy_empty();
     team.told = told;
-    team.batches = batches;
 }

@@ -40,7 +40,7 @@ pub(crate) enum Held {
     Joined(Pipeline),
 }
 
-// The sessions of a team, and the batches that they do not count: those from before they were joined, and their lists.
+// The sessions of a team, and the batches that they count no longer: those from before they were joined or parted.
 pub(crate) struct Hand {
     pub held: Held,
     pub batches: Batches,
@@ -66,20 +66,19 @@ pub(crate) fn apart(held: Held) -> Vec<Session>
     }
 }
 
-// The batches that the sessions of a team count. A pipeline counts none.
-fn counted(held: &Held) -> Batches {
+// The batches that sessions count one by one: not any more once they are joined.
+fn counted_apart(held: &Held) -> Batches {
     match held {
         Held::Apart(sessions) => batches_of(sessions),
         Held::Joined(_) => Batches::none(),
     }
 }
 
-// One batch, of a list of so many calls.
-fn list_of(calls: u64) -> Batches {
-    Batches {
-        count: 1,
-        requests: calls,
-        largest: calls,
+// The batches that joined sessions count: not any more once they part.
+pub(crate) fn counted_together(held: &Held) -> Batches {
+    match held {
+        Held::Apart(_) => Batches::none(),
+        Held::Joined(pipeline) => pipeline.batches(),
     }
 }
 
@@ -336,11 +335,11 @@ pub(crate) fn ask_round<'a, R: Wait, G: Gate, C: Clock>(
 {
     let Hand { held, batches } = hand;
     if round.calls.len() > 1 && are_updates(round.calls) {
-        let batches = batches.and(counted(&held));
+        let batches = batches.and(counted_apart(&held));
         let (held, told) = ask_joined(rt, ground, round, held);
-        let batches = batches.and(list_of(round.calls.len() as u64));
         return (Hand { held, batches }, told);
     }
+    let batches = batches.and(counted_together(&held));
     let mut sessions = apart(held);
     let told = ask_in_turn(rt, ground, round, &mut sessions);
     let held = Held::Apart(sessions);

@@ -18,7 +18,7 @@ use crate::signature::Signature;
 use crate::verification::{check_structure, sweep};
 use flow::good_size;
 use insn::{Edge, Insn};
-use maps::{MAX_ARG_LEN, Shape};
+use maps::{MOST_ARG_LEN, Shape};
 use regkind::Frame;
 use std::alloc::{AllocError, Global};
 
@@ -79,7 +79,7 @@ pub fn explain(
     mode: Mode,
 ) -> Result<Explained, AllocError>
     requires shapes { AreShapesSupported shapes.now }
-    requires argument { arg_len ≤ MAX_ARG_LEN }
+    requires argument { arg_len ≤ MOST_ARG_LEN }
     // `refused` is the refusal of `verify`, or none if `verify` accepts.
     ensures refused { IfOk result (λ k. k.refused ≡ verdict program.now (signature shapes.now arg_len mode)) }
     // `kinds` is the first rule of kinds that a reached instruction breaks.

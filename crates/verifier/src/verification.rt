@@ -22,7 +22,7 @@ use crate::signature::Signature;
 use crate::visiting::visit;
 use flow::{StructureRule, structure};
 use insn::{Insn, MAX_INSTALLED_SLOTS, MAX_SLOTS};
-use maps::{MAX_ARG_LEN, Shape};
+use maps::{MOST_ARG_LEN, Shape};
 use regkind::Frame;
 use std::alloc::{AllocError, Global};
 
@@ -57,7 +57,7 @@ pub fn verify(
     mode: Mode,
 ) -> Result<Accepted, VerifyError>
     requires shapes { AreShapesSupported shapes.now }
-    requires argument { arg_len ≤ MAX_ARG_LEN }
+    requires argument { arg_len ≤ MOST_ARG_LEN }
     // What is handed back is the program, with what it was checked for.
     ensures accepted { IfOk result (λ a. a ≡ checked program.items shapes.now arg_len mode) }
     ensures typable { OnOk result (IsTypable program.items (signature shapes.now arg_len mode)) }

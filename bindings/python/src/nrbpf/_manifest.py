@@ -41,23 +41,25 @@ class Manifest:
 
 
 class Limits(NamedTuple):
-    """How large the maps of a manifest may be: the most bytes of a key and of a value, entries of a map, and bytes of all
-    maps. A host that loads others' manifests may make them narrower."""
+    """How large the maps of a manifest and the arguments of its programs may be: the most bytes of a key and of a
+    value, entries of a map, bytes of all maps, and bytes of an argument. A host that loads others' manifests may make
+    them narrower."""
 
     key: int = 64
     value: int = 256
     entries: int = 65_536
     bytes: int = 16_777_216
+    argument: int = 64
 
 
 STANDARD = Limits()
 
-LARGE = Limits(value=16_384, entries=1 << 31, bytes=1 << 40)
+LARGE = Limits(value=16_384, entries=1 << 31, bytes=1 << 40, argument=16_384)
 
 
 class Sizes(NamedTuple):
     """The sizes of a store: its nodes, the sessions of each, the updates that the log keeps, those that its history may
-    have (0: no end), the programs that may be installed later, and how large the maps may be."""
+    have (0: no end), the programs that may be installed later, and how large maps and arguments may be."""
 
     nodes: int = 1
     slots: int = 1

@@ -1,4 +1,4 @@
-"""The functions and structs of nrbpf.h, version 2.3, by ctypes, which lets the interpreter's lock go while a call is
+"""The functions and structs of nrbpf.h, version 2.5, by ctypes, which lets the interpreter's lock go while a call is
 made."""
 
 from __future__ import annotations
@@ -8,7 +8,7 @@ import os
 import platform
 import sys
 
-VERSION = 2004
+VERSION = 2005
 
 
 class File(c.Structure):
@@ -16,7 +16,11 @@ class File(c.Structure):
 
 
 class Limits(c.Structure):
-    _fields_ = (("key", c.c_uint32), ("value", c.c_uint32), ("entries", c.c_uint64), ("bytes", c.c_uint64))
+    _fields_ = (
+        *((name, c.c_uint32) for name in ("key", "value")),
+        *((name, c.c_uint64) for name in ("entries", "bytes")),
+        ("argument", c.c_uint32),
+    )
 
 
 class Config(c.Structure):

@@ -180,6 +180,6 @@ def open(
     window: 16 to 1,048,576, the updates that the log keeps
     limit: the updates of the whole history, behind which there is S4; ENDLESS, 0: no end
     spare: 0 to 4,096, the programs that may be installed later
-    limits: STANDARD, LARGE or others: how large the maps may be
+    limits: STANDARD, LARGE or others: how large the maps and the arguments of programs may be
     """
     return Store(manifest, Sizes(nodes, slots, window, limit, spare, limits), state)

@@ -9,9 +9,9 @@ use crate::files::decoded;
 use crate::sentences::Word::{Character, Count, Field, Hex, Number, Small, Text};
 use crate::sentences::{Advice, Written, put_all, put_numbers, say};
 use asm::{AsmError, AsmFault, assemble};
-use insn::{DecodeFault, DecodeRefusal};
+use insn::{DecodeFault, DecodeRefusal, MAX_INSTALLED_SLOTS};
 use loader::{Line, read_line};
-use maps::{MAX_ARG_LEN, MapLimits, Shape, ShapeFault, shapes_within};
+use maps::{MapLimits, Shape, ShapeFault, shapes_within};
 use std::alloc::{AllocError, Global};
 use std::str;
 use text::{LINE_BYTES, is_name, number, number_within};
@@ -28,7 +28,7 @@ const OBJECT_FILE: &str =
 // What is told of a line that has more or fewer fields than it should, and of one that begins otherwise.
 const OTHER_FIELDS: &str = "The line has more or fewer fields than `{0}`.";
 
-// What is told where the widest limits of maps allow what these don't.
+// What is told where `--large` allows what these limits don't.
 const LARGE: &str = "|`--large` allows it.";
 
 const OTHER_WORD: &str = "A line begins with `map`, `program` or `#`, and not with `{0}`.";
@@ -100,7 +100,12 @@ fn wrong_blank(line: &str) -> Option<(&'static str, usize)> {
 }
 
 // What is wrong with the fields of a program.
-fn wrong_program<'a>(name: &'a str, mode: &'a str, length: &'a str) -> Option<Advice<'a>> {
+fn wrong_program<'a>(
+    limits: &MapLimits,
+    name: &'a str,
+    mode: &'a str,
+    length: &'a str,
+) -> Option<Advice<'a>> {
     if !is_name(name) {
         let what = "`{0}` is no name: 1 to 32 of a-z, 0-9, _ and -, the first a letter.";
         return Some(say(what, &[Text(name)]));
@@ -108,7 +113,7 @@ fn wrong_program<'a>(name: &'a str, mode: &'a str, length: &'a str) -> Option<Ad
     if mode != "update" && mode != "read" {
         return Some(say("`{0}` is no mode: `update` or `read`.", &[Text(mode)]));
     }
-    let of_length = wrong_number("ARGLEN", 0, MAX_ARG_LEN as u64, length);
+    let of_length = wrong_number("ARGLEN", 0, u64::from(limits.argument), length);
     of_length.or(Some(say("FILE is 1 to 255 printable characters of ASCII.", &[])))
 }
 
@@ -120,7 +125,7 @@ fn wrong_words<'a>(limits: &MapLimits, words: &[&'a str]) -> Option<Advice<'a>> 
         ["map", "hash", ..] => (OTHER_FIELDS, "map hash KEY VALUE ENTRIES"),
         ["map", "array", ..] | ["map"] => (OTHER_FIELDS, "map array VALUE ENTRIES"),
         ["map", word, ..] => ("A map is an `array` or a `hash`, and no `{0}`.", *word),
-        ["program", name, mode, length, _] => return wrong_program(name, mode, length),
+        ["program", name, mode, length, _] => return wrong_program(limits, name, mode, length),
         ["program", ..] => (OTHER_FIELDS, "program NAME MODE ARGLEN FILE"),
         [word, ..] => (OTHER_WORD, *word),
         [] => return None,
@@ -128,12 +133,22 @@ fn wrong_words<'a>(limits: &MapLimits, words: &[&'a str]) -> Option<Advice<'a>> 
     Some(say(text, &[Text(word)]))
 }
 
-// Whether a line is that of a map by the widest limits.
+// The most bytes of an argument that `--large` allows: as many as a line has room for.
+const LINE_ARG_LEN: usize = 8 * MAX_INSTALLED_SLOTS;
+
+// Whether a line is that of a map or of a program by the limits that `--large` sets.
 fn is_large(line: &str) -> bool {
-    matches!(read_line(&MapLimits::widest(), line), Some(Line::Map(_)))
+    let large = MapLimits {
+        argument: LINE_ARG_LEN as u32,
+        ..MapLimits::widest()
+    };
+    matches!(
+        read_line(&large, line),
+        Some(Line::Map(_) | Line::Program(_))
+    )
 }
 
-// What is wrong with a line that is bad by itself, by these limits of maps.
+// What is wrong with a line that is bad by itself, by these limits.
 pub(crate) fn wrong_line<'a>(
     alloc: Global,
     limits: &MapLimits,

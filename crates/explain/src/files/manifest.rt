@@ -7,7 +7,7 @@ ghost use Rattle.std.specs.String.{string_bytes};
 ghost use Rattle.insn.specs.declared.instruction.TheConstants.{MAX_SLOTS};
 ghost use Rattle.insn.specs.Layout.{size};
 ghost use Rattle.maps.specs.Shapes.{AreLimits, IsShapeWithin};
-ghost use Rattle.maps.specs.declared.shapes.TheConstants.{MAX_ARG_LEN};
+ghost use Rattle.maps.specs.declared.shapes.TheConstants.{MOST_ARG_LEN};
 ghost use Rattle.loader.specs.declared.refusals.LoadFault.TheVariants.{BadLine, TooMany};
 ghost use Rattle.loader.specs.Grammar.{Map, Program, line_meaning};
 ghost use Rattle.loader.specs.LineShown.{meaning_of, program_of, LineFits};
@@ -170,7 +170,7 @@ impl<'a> Explanation<'a> {
     fn put_judged(&self, out: &mut String, line: ProgramLine<'_>, program: &[Insn]) -> Written
         requires within { IsWithin self.now.limits (above_of self.now) }
         requires map { has_map (above_of self.now) ≡ true }
-        requires argument { line.arg_len ≤ MAX_ARG_LEN }
+        requires argument { line.arg_len ≤ MOST_ARG_LEN }
         requires few { size program.now ≤ MAX_SLOTS }
         ensures { OnOk result (Writes (Judges self.now line.entry program.now) out.old out.new) }
     {
@@ -206,7 +206,7 @@ impl<'a> Explanation<'a> {
     fn put_bytes(&self, out: &mut String, line: ProgramLine<'_>, bytes: &[u8]) -> Written
         requires within { IsWithin self.now.limits (above_of self.now) }
         requires map { has_map (above_of self.now) ≡ true }
-        requires argument { line.arg_len ≤ MAX_ARG_LEN }
+        requires argument { line.arg_len ≤ MOST_ARG_LEN }
         ensures { OnOk result (Writes (TellsRead self.now line.entry (instructions_of bytes.now)) out.old out.new) }
     {
         match decode(self.alloc, bytes) {
@@ -223,7 +223,7 @@ impl<'a> Explanation<'a> {
     fn put_text(&self, out: &mut String, line: ProgramLine<'_>, text: &str) -> Written
         requires within { IsWithin self.now.limits (above_of self.now) }
         requires map { has_map (above_of self.now) ≡ true }
-        requires argument { line.arg_len ≤ MAX_ARG_LEN }
+        requires argument { line.arg_len ≤ MOST_ARG_LEN }
         ensures { OnOk result (Writes (TellsRead self.now line.entry (program_of_text text.now)) out.old out.new) }
     {
         let bytes = spaced_hex(self.alloc, text)?;
@@ -239,7 +239,7 @@ impl<'a> Explanation<'a> {
     // Adds what is known of the program of the line, where a map stands above, or what is wrong with its file.
     fn put_program(&self, out: &mut String, line: ProgramLine<'_>) -> Written
         requires within { IsWithin self.now.limits (above_of self.now) }
-        requires argument { line.arg_len ≤ MAX_ARG_LEN }
+        requires argument { line.arg_len ≤ MOST_ARG_LEN }
         ensures { OnOk result (Writes (TellsKnown self.now line.entry) out.old out.new) }
     {
         if !self.has_map() {
@@ -264,7 +264,7 @@ impl<'a> Explanation<'a> {
     // Adds what is to be said of the line of a program, if it is asked for.
     fn put_asked(&self, out: &mut String, line: ProgramLine<'a>) -> Written
         requires within { IsWithin self.now.limits (above_of self.now) }
-        requires argument { line.arg_len ≤ MAX_ARG_LEN }
+        requires argument { line.arg_len ≤ MOST_ARG_LEN }
         ensures { OnOk result (Writes (TellsAsked self.now line.entry) out.old out.new) }
     {
         if !self.is_asked(line) {
@@ -278,7 +278,7 @@ impl<'a> Explanation<'a> {
     // `put_asked`, but the program's name is taken from then on.
     fn put_named(&mut self, out: &mut String, program: ProgramLine<'a>) -> Written
         requires within { IsWithin self.old.limits (above_of self.old) }
-        requires argument { program.arg_len ≤ MAX_ARG_LEN }
+        requires argument { program.arg_len ≤ MOST_ARG_LEN }
         ensures { (line : List ℕ) → OnOk result (TakesNext line (Some (Program (program_of program.entry))) self.old self.new out.old out.new) }
     {
         self.put_asked(out, program)?;

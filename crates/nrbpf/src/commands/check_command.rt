@@ -27,7 +27,7 @@ A manifest has one item a line. One space separates fields, and a line has at mo
                                        ARGLEN 0 to 64 bytes; FILE a path from the working folder
 
 First come 1 to 16 map lines, then at most 256 program lines. All maps take at most 16777216 bytes. With --large
-VALUE is 1 to 16384, ENTRIES 1 to 2147483648, and all maps take at most 2^40 bytes.
+VALUE is 1 to 16384, ENTRIES 1 to 2147483648, ARGLEN 0 to 192, and all maps take at most 2^40 bytes.
 
 A program file has hexadecimal digits. White space in it is skipped. For the manifest above, with
 `b7000000050000009500000000000000` in five.hex, `check` writes `five ok 2 2`.

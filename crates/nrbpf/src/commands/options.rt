@@ -47,9 +47,9 @@ pub fn dump<'a>(alloc: Global) -> Arg<'a> {
     arg!(in alloc; output: --dump <FILE> "The path of the file for the state at the end")
 }
 
-/// Whether maps may be larger than the standard limits allow.
+/// Whether maps and arguments may be larger than the standard limits allow.
 pub fn large<'a>(alloc: Global) -> Arg<'a> {
-    arg!(in alloc; --large "Allows values of up to 16384 bytes, 2147483648 entries a map, and 2^40 bytes of all maps")
+    arg!(in alloc; --large "Allows values of up to 16384 bytes, 2147483648 entries a map, 2^40 bytes of all maps, and arguments of 192 bytes")
 }
 
 /// Whether the answer has the maps that a program names.

@@ -2,12 +2,13 @@ use Rattle.std.proofs.Common.{rules, ◌≡◌, None, sym, ap, ◌∙◌, subst}
 use Rattle.std.specs.Prelude.{OnOk}
 use Rattle.std.specs.Option.{option_map_or}
 use Rattle.oplog.specs.Calls.{NewProgram}
+use Rattle.oplog.specs.Operations.{Operation}
 use Rattle.oplog.specs.declared.records.Op.TheVariants.{Install}
 use Rattle.oplog.specs.Logs.{Log, tail_of}
 use Rattle.replica.specs.Refusals.{install_refusal}
 use Rattle.node.specs.declared.following.NodeReplica.{NodeReplica}
 use Rattle.running.specs.RunAnswer.{refused, submitted}
-use Rattle.running.specs.Running.{Follows, IsTaken}
+use Rattle.running.specs.Running.{Follows, IsTaken, IsUpdated}
 use Rattle.scripts.specs.ScriptShown.{program_of}
 use Rattle.running.proofs.Turns.{install_told, install_turn}
 use Rattle.running.proofs.calls.run_install.Goals as goal
@@ -19,9 +20,13 @@ returns-in-Some-clause-taken c = λ limit h follows.
     let log = ap (λ (g : Log). tail_of g) c.check.ensures.log in
     let here : Follows limit catalogue h node = record { limit_is = ap (λ (g : Log). g.limit) c.check.ensures.log ∙ follows.limit_is; count = log ∙ follows.count; state = ap (λ (n : NodeReplica). n.replica.state) c.check.ensures.own ∙ follows.state } in
     let none : install_refusal catalogue.shapes (program_of c.args.text.now) ≡ None = search rules in
+    let p = c.in-Ok.program in
+    let asked : c.install-install.result ≡ Install p =
+    c.install-install.ensures.program ∙ (λ i. Install (record { mode = c.mode.ensures.mode i; arg_len = c.arg_len.ensures.length i; bytes = c.bytes.ensures.bytes i })) in
+    let updated = subst (λ (o : Operation). IsUpdated catalogue o node c.submit.new.self c.in-Some.outcome) asked c.in-Some.ensures.updated in
     let wrote =
     install_turn limit catalogue h node here (Install c.in-Ok.program) c.put_install.result c.tail-index.result c.submit.new.self c.in-Some.outcome
-    c.args.out.now.items c.put_install.new.out.items (c.tail-index.ensures ∙ sym log) c.in-Some.ensures.updated c.put_install.ensures in
+    c.args.out.now.items c.put_install.new.out.items (c.tail-index.ensures ∙ sym log) updated c.put_install.ensures in
     let said =
     subst (λ (p : NewProgram). OnOk c.put_install.result (IsTaken limit catalogue (submitted limit install_told catalogue h (Install p)) c.submit.new.self c.args.out.now.items c.put_install.new.out.items))
     c.in-Ok.ensures.program.0 wrote in

@@ -1,15 +1,15 @@
 use Rattle.std.proofs.Common.{rules, ◌≡◌, true, None, sym, ap, ◌∙◌, subst}
-use Rattle.maps.specs.Maps.{AreBytes}
 use Rattle.oplog.specs.Calls.{NewProgram}
-use Rattle.replica.specs.StoreMeaning.{is_installable}
+use Rattle.verifier.specs.declared.refusal.Mode.TheVariants.{Update}
+use Rattle.replica.specs.StoreMeaning.{is_operation}
 use Rattle.replica.specs.Refusals.{install_refusal}
 use Rattle.replica.proofs.Export.{may_install}
 use Rattle.schedule.proofs.nodes.program_of.Goals as goal
 
 pub returns-clause-program : goal.returns-clause-program
 returns-clause-program c =
-    let is = c.new.ensures.program in
+    let is = c.install.ensures.program in
     let asked : NewProgram = record { mode = c.args.mode; arg_len = c.args.arg_len; bytes = c.args.bytes.now } in
     let none : install_refusal c.args.room.now.shapes asked ≡ None = search rules in
     let none_here : install_refusal c.args.catalogue.now.shapes asked ≡ None = ap (λ s. install_refusal s asked) (sym c.requires.room.0) ∙ none in
-    (is, subst (λ (x : NewProgram). is_installable c.args.catalogue.now x ≡ true) (sym is) (may_install c.args.catalogue.now asked none_here (subst (λ (x : NewProgram). AreBytes x.bytes) is c.new.ensures.bytes)))
+    (is, subst (λ op. is_operation Update c.args.catalogue.now op ≡ true) (sym is) (may_install c.args.catalogue.now asked none_here c.install.ensures.bytes))

@@ -1,6 +1,6 @@
 use Rattle.std.proofs.Common.{◌≡◌, ℕ, suc, ◌-◌, ◌<◌, ◌≤◌, length, refl, sym, ap, ◌∙◌, subst, arith, true}
 use Rattle.std.specs.Prelude.{[]}
-use Rattle.maps.specs.declared.shapes.TheConstants.{MAX_ARG_LEN}
+use Rattle.maps.specs.declared.shapes.TheConstants.{MOST_ARG_LEN}
 use Rattle.ownlock.specs.Seats.{At, HoldsNone}
 use Rattle.verifier.specs.declared.refusal.Mode.TheVariants.{Update}
 use Rattle.replica.specs.StoreMeaning.{is_operation}
@@ -36,7 +36,7 @@ pub run-op-requires : goal.run-op-requires
 run-op-requires c =
     let up = c.loop-number.invariant.posting.upto in
     let q = at_there c.args.calls.now c.loop-number.number up in
-    record { fits = subst (λ (z : Question). length z.argument.now ≤ MAX_ARG_LEN) (sym (or_at c.args.calls.now c.loop-number.number _ q.0 q.1)) (c.requires.calls c.loop-number.number q.0 q.1).1 }
+    record { fits = subst (λ (z : Question). length z.argument.now ≤ MOST_ARG_LEN) (sym (or_at c.args.calls.now c.loop-number.number _ q.0 q.1)) (c.requires.calls c.loop-number.number q.0 q.1).1 }
 
 pub split-next-requires-clause-own : goal.split-next-requires-clause-own
 split-next-requires-clause-own c =

@@ -1,7 +1,7 @@
 use Rattle.std.proofs.Common.{◌≡◌, ℕ, suc, ◌<◌, ◌-◌, ◌≤◌, length, map, set, slice_index_or, sym, ap, ◌∙◌, subst, arith, true}
 use Rattle.std.specs.Prelude.{[]}
 use Rattle.atomic_table.proofs.Lists.{set_else, set_here}
-use Rattle.maps.specs.declared.shapes.TheConstants.{MAX_ARG_LEN}
+use Rattle.maps.specs.declared.shapes.TheConstants.{MOST_ARG_LEN}
 use Rattle.ownlock.specs.Held.{held_place}
 use Rattle.ownlock.specs.Seats.{At, HoldsNone}
 use Rattle.verifier.specs.declared.refusal.Mode.TheVariants.{Update}
@@ -101,7 +101,7 @@ post_later-at-requires-clause-has c member at =
 pub run-op-requires : goal.run-op-requires
 run-op-requires c =
     let q = at_there c.args.calls.now 0 c.requires.may.some in
-    record { fits = subst (λ (z : Question). length z.argument.now ≤ MAX_ARG_LEN) (sym (or_at c.args.calls.now 0 _ q.0 q.1)) (c.requires.may.calls 0 q.0 q.1).1 }
+    record { fits = subst (λ (z : Question). length z.argument.now ≤ MOST_ARG_LEN) (sym (or_at c.args.calls.now 0 _ q.0 q.1)) (c.requires.may.calls 0 q.0 q.1).1 }
 
 pub claim_first-requires-clause-members : goal.claim_first-requires-clause-members
 claim_first-requires-clause-members c =

@@ -8,6 +8,8 @@ use Rattle.store_steps.specs.Standing.{HasPlace}
 use Rattle.store_steps.specs.Rooms.{caught_up}
 use Rattle.store_steps.specs.Whole.{AppendsBy, MakesRoom}
 use Rattle.store_steps.proofs.Taken.{holds_log, known_as, may_take_log, took_log}
+use Rattle.oplog.specs.History.{AllFit}
+use Rattle.store_steps.proofs.Fitting.{appended_fit, fit_taken}
 use Rattle.store_steps.proofs.Appended.{may, put_appended, back_appended, back_log}
 use Rattle.store_steps.proofs.Exchanged.{as_copied, has_room}
 use Rattle.store_steps.proofs.Stretches.{appends_by}
@@ -39,6 +41,14 @@ append_only-requires-clause-room c =
     let m = (subst (λ w. Learns c.try_take.new.seat c.make_room-owed.new.seat (λ k after. HasPlace k after w c.log_mut-log.result.now c.make_room-owed.new.log (caught_up c.args.shared.catalogue.now c.make_room-owed.result c.make_room-owed.new.node))) c.len-wanted.ensures.len c.make_room-owed.ensures.room) t.0 t.2 in
     m.2.room
 
+pub append_only-requires-clause-fit : goal.append_only-requires-clause-fit
+append_only-requires-clause-fit c =
+    let i = c.requires.holds in
+    let t = c.in-Some.ensures.taken i.0 i.1 in
+    let b = took_log i.0 t.0 c.args.node.now c.in-Some.held.value c.args.shared.catalogue.now i.2.0 t.1 in
+    let m = (subst (λ w. Learns c.try_take.new.seat c.make_room-owed.new.seat (λ k after. HasPlace k after w c.log_mut-log.result.now c.make_room-owed.new.log (caught_up c.args.shared.catalogue.now c.make_room-owed.result c.make_room-owed.new.node))) c.len-wanted.ensures.len c.make_room-owed.ensures.room) t.0 t.2 in
+    appended_fit i.0 t.0 m.0 c.args.node.now c.log_mut-log.result.now c.make_room-owed.new.log _ c.in-Some.held.value c.args.records.now i.2.0.stands i.2.1 b m.2
+
 pub put-requires-clause-may : goal.put-requires-clause-may
 put-requires-clause-may c =
     let i = c.requires.holds in let n = c.args.node.now in let x = c.in-Some.held.value in
@@ -63,6 +73,16 @@ replay_owed-requires-clause-room c =
     let o = c.make_room-owed in let h = o.new.log in let v = caught_up c.args.shared.catalogue.now o.result o.new.node in let a = c.append_only.ensures in
     let count : length c.append_only.new.replies.outcomes ≡ room_for c.args.records.now h = ap (λ z. length z.outcomes) a.replies ∙ length-replicate (room_for c.args.records.now h) _ in
     has_room c.args.shared.catalogue.now h c.append_only.new.log o.new.node o.new.node o.result c.args.records.now _ o.ensures.owes a.log (c.first-appended.ensures.first ∙ ap (λ z. take z c.args.records.now) (c.len-count.ensures.count ∙ count)) a.kept
+
+pub replay_owed-requires-clause-fit : goal.replay_owed-requires-clause-fit
+replay_owed-requires-clause-fit c =
+    let o = c.make_room-owed in
+    let i = c.requires.holds in
+    let t = c.in-Some.ensures.taken i.0 i.1 in
+    let b = took_log i.0 t.0 c.args.node.now c.in-Some.held.value c.args.shared.catalogue.now i.2.0 t.1 in
+    let m = (subst (λ w. Learns c.try_take.new.seat c.make_room-owed.new.seat (λ k after. HasPlace k after w c.log_mut-log.result.now c.make_room-owed.new.log (caught_up c.args.shared.catalogue.now c.make_room-owed.result c.make_room-owed.new.node))) c.len-wanted.ensures.len c.make_room-owed.ensures.room) t.0 t.2 in
+    let all = appended_fit i.0 t.0 m.0 c.args.node.now c.log_mut-log.result.now c.make_room-owed.new.log _ c.in-Some.held.value c.args.records.now i.2.0.stands i.2.1 b m.2 in
+    subst (λ z. AllFit z c.first-appended.result) (sym o.ensures.owes.long) (subst (AllFit o.new.log.long) (sym c.first-appended.ensures.first) (fit_taken o.new.log.long c.len-count.result c.args.records.now all))
 
 pub returns-clause-appended : goal.returns-clause-appended
 returns-clause-appended c k is =

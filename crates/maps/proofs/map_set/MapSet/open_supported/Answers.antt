@@ -1,4 +1,4 @@
-use Rattle.std.proofs.Common.{refl, sym, ap, ◌∙◌, subst}
+use Rattle.std.proofs.Common.{sym, ap, ◌∙◌, subst}
 use Rattle.maps.specs.MapSets.{maps_of, stored_shapes}
 use Rattle.maps.specs.Shapes.{AreShapesSupported}
 use Rattle.maps.specs.Maps.{HasShapes}

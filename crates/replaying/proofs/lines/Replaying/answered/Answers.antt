@@ -1,3 +1,7 @@
+use Rattle.std.proofs.Common.{◌≡◌, subst}
+use Rattle.verifier.specs.declared.refusal.Mode.TheVariants.{Update}
+use Rattle.oplog.specs.Operations.{Operation}
+use Rattle.replaying.specs.Noted.{due_at}
 use Rattle.oplog.specs.declared.records.Op.TheVariants.{Run}
 use Rattle.scripts.specs.ScriptShown.{keyed_of}
 use Rattle.replaying.proofs.TranscriptLines.{due_of, of_operation, of_read}
@@ -17,4 +21,5 @@ returns-in-Read-clause-due c =
 
 pub returns-in-Update-clause-due : goal.returns-in-Update-clause-due
 returns-in-Update-clause-due c =
-    λ at has differs. due_of c.args.catalogue.now at c.args.mode (keyed_of c.args.call.now) c.args.told (Run c.in-Some.call) c.update.new.self.due c.in-Some.ensures.found (rw c.in-Update.is (c.update.ensures.due at has))
+    λ at has differs. due_of c.args.catalogue.now at c.args.mode (keyed_of c.args.call.now) c.args.told (Run c.in-Some.call) c.update.new.self.due c.in-Some.ensures.found (rw c.in-Update.is
+    (subst (λ (op : Operation). c.update.new.self.due ≡ due_at c.args.catalogue.now Update at.history op) c.op.ensures.run (c.update.ensures.due at has)))

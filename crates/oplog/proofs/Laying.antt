@@ -1,0 +1,301 @@
+-- Rows next to bytes: what stays as bytes are put behind them, as rows are dropped, and as bytes are dropped in front.
+use Rattle.std.proofs.Common.{◌⊎◌, inl, inr, ◌≡◌, ℕ, zero, suc, ◌+◌, ◌-◌, ◌*◌, ◌<◌, ◌≤◌, List, [], ◌∷◌, ◌++◌, length, take, drop, refl, sym, ap, ap₂, ◌∙◌, subst, arith}
+use Rattle.std.specs.Prelude.{slice_get, slice_index_or, slice_set, nat_le, Bool, true, false, if◌then◌else◌, Some}
+use Rattle.std.proofs.Math.Nat.{suc-mul}
+use Rattle.std.proofs.lemmas.Option.{none-some, same_Some}
+use Rattle.std.proofs.lemmas.List.{drop-append-le, take-append-le, length-drop, drop-drop, length-take, length-take-le, take-append-drop}
+use Rattle.std.proofs.Math.Seq.{drop-append-add, take-append_seam}
+use Rattle.std.proofs.lemmas.Bool.{le-leb, leb-true, leb-false}
+use Rattle.maps.specs.declared.shapes.TheConstants.{MAX_ARG_LEN, MOST_ARG_LEN}
+use Rattle.oplog.specs.declared.laid.LongCall.{LongCall}
+use Rattle.oplog.specs.declared.laid.LaidOp.{LaidOp}
+use Rattle.oplog.specs.declared.laid.LaidOp.TheVariants.{Short, Long, Install}
+use Rattle.oplog.specs.declared.records.Op.TheVariants.{Run as run, Install as install}
+use Rattle.oplog.specs.declared.rows.Row.{Row}
+use Rattle.oplog.specs.Operations.{Operation, long_part, FitsIn}
+use Rattle.oplog.specs.History.{AllFit}
+use Rattle.oplog.specs.Laid.{text_in, op_in, record_in, records_in, pulled, pulled_row, pulled_rows, each_of, begin_by, begin_of, IsWithin, IsNext, IsAfter, IsApart, KeepsApart, EndsAt, AreWithin, AreLaid}
+
+-- ---- bytes are put behind
+
+text_before : (beside more : List ℕ) (c : LongCall) → c.begin + c.len ≤ length beside → text_in (beside ++ more) c ≡ text_in beside c
+text_before beside more c within =
+    let rest = length-drop c.begin beside in
+    ap (take c.len) (drop-append-le c.begin beside more (omega (arith, within))) ∙ take-append-le c.len (drop c.begin beside) more (omega (arith, within, rest))
+
+abbrev with_text : ℕ → List ℕ → Operation
+with_text program argument = run (record { program = program; argument = argument })
+
+pub op_before : (beside more : List ℕ) (op : LaidOp) → IsWithin (length beside) op → op_in (beside ++ more) op ≡ op_in beside op
+op_before beside more (Short call) h = refl
+op_before beside more (Long call) h = ap (with_text call.program) (text_before beside more call h.0)
+op_before beside more (Install new) h = refl
+
+pub rows_before : (beside more : List ℕ) (rows : List Row) → AreWithin (length beside) rows → records_in (beside ++ more) rows ≡ records_in beside rows
+rows_before beside more [] h = refl
+rows_before beside more (r ∷ rs) h =
+    ap₂ (λ op rest. record { author = r.author; op = op; seq = r.seq } ∷ rest) (op_before beside more r.op h.0) (rows_before beside more rs h.1)
+
+pub within_more : (m n : ℕ) (op : LaidOp) → m ≤ n → IsWithin m op → IsWithin n op
+within_more m n (Short call) le h = h
+within_more m n (Long call) le h = let fits = h.0 in (omega (arith, fits, le), h.1)
+within_more m n (Install new) le h = h
+
+pub next_within : (begin end : ℕ) (op : LaidOp) → IsNext begin op end → IsWithin end op
+next_within begin end (Short call) h = h.1
+next_within begin end (Long call) h = let fits = h.1 in (omega (arith, fits), h.2)
+next_within begin end (Install new) h = _
+
+-- ---- bytes are written from a place on
+
+read_before : (xs text : List ℕ) (begin : ℕ) (c : LongCall) → begin ≤ length xs → c.begin + c.len ≤ begin → text_in (take begin xs ++ text) c ≡ text_in xs c
+read_before xs text begin c le apart =
+    let kept : length (take begin xs) ≡ begin = length-take-le begin xs le in
+    let first : text_in (take begin xs ++ text) c ≡ text_in (take begin xs) c = text_before (take begin xs) text c (omega (arith, kept, apart)) in
+    let again : text_in (take begin xs ++ drop begin xs) c ≡ text_in (take begin xs) c = text_before (take begin xs) (drop begin xs) c (omega (arith, kept, apart)) in
+    first ∙ sym again ∙ ap (λ ys. text_in ys c) (take-append-drop begin xs)
+
+read_behind : (xs text : List ℕ) (begin : ℕ) (c : LongCall) → begin ≤ length xs → begin + length text ≤ c.begin
+    → text_in (take begin xs ++ (text ++ drop (begin + length text) xs)) c ≡ text_in xs c
+read_behind xs text begin c le apart =
+    let kept : length (take begin xs) ≡ begin = length-take-le begin xs le in
+    let place : c.begin ≡ length (take begin xs) + (length text + (c.begin - (begin + length text))) = omega (arith, kept, apart) in
+    let rest : (begin + length text) + (c.begin - (begin + length text)) ≡ c.begin = omega (arith, apart) in
+    ap (take c.len)
+    (ap (λ i. drop i (take begin xs ++ (text ++ drop (begin + length text) xs))) place
+    ∙ drop-append-add (take begin xs) (text ++ drop (begin + length text) xs) (length text + (c.begin - (begin + length text)))
+    ∙ drop-append-add text (drop (begin + length text) xs) (c.begin - (begin + length text))
+    ∙ drop-drop (c.begin - (begin + length text)) (begin + length text) xs
+    ∙ ap (λ i. drop i xs) rest)
+
+apart_text : (old grown text : List ℕ) (begin : ℕ) (c : LongCall) → begin + length text ≤ length (old ++ grown) → length text ≤ MOST_ARG_LEN → c.begin + c.len ≤ length old
+    → (c.begin + c.len ≤ begin) ⊎ (begin + MOST_ARG_LEN ≤ c.begin)
+    → text_in (take begin (old ++ grown) ++ (text ++ drop (begin + length text) (old ++ grown))) c ≡ text_in old c
+apart_text old grown text begin c fits few within (inl before) =
+    read_before (old ++ grown) (text ++ drop (begin + length text) (old ++ grown)) begin c (omega (arith, fits)) before ∙ text_before old grown c within
+apart_text old grown text begin c fits few within (inr behind) =
+    read_behind (old ++ grown) text begin c (omega (arith, fits)) (omega (arith, behind, few)) ∙ text_before old grown c within
+
+-- a text that was written from a place on leaves what lies apart
+pub keeps_apart : (old grown text new : List ℕ) (begin : ℕ) → begin + length text ≤ length (old ++ grown) → length text ≤ MOST_ARG_LEN
+    → new ≡ take begin (old ++ grown) ++ (text ++ drop (begin + length text) (old ++ grown)) → KeepsApart begin old new
+keeps_apart old grown text new begin fits few is (Short call) h apart = refl
+keeps_apart old grown text new begin fits few is (Long call) h apart =
+    ap (λ b. with_text call.program (text_in b call)) is ∙ ap (with_text call.program) (apart_text old grown text begin call fits few h.0 apart)
+keeps_apart old grown text new begin fits few is (Install m) h apart = refl
+
+-- and is read there
+pub written_there : (xs text : List ℕ) (begin : ℕ) → begin ≤ length xs → take (length text) (drop begin (take begin xs ++ (text ++ drop (begin + length text) xs))) ≡ text
+written_there xs text begin le =
+    let kept : length (take begin xs) ≡ begin = length-take-le begin xs le in
+    let place : begin ≡ length (take begin xs) + 0 = omega (arith, kept) in
+    ap (λ i. take (length text) (drop i (take begin xs ++ (text ++ drop (begin + length text) xs)))) place
+    ∙ ap (take (length text)) (drop-append-add (take begin xs) (text ++ drop (begin + length text) xs) 0)
+    ∙ take-append_seam text (drop (begin + length text) xs)
+
+-- ---- parts
+
+pub within_first : (n k : ℕ) (rows : List Row) → AreWithin n rows → AreWithin n (take k rows)
+within_first n zero rows h = _
+within_first n (suc k) [] h = h
+within_first n (suc k) (r ∷ rs) h = (h.0, within_first n k rs h.1)
+
+pub within_behind : (n k : ℕ) (rows : List Row) → AreWithin n rows → AreWithin n (drop k rows)
+within_behind n zero rows h = h
+within_behind n (suc k) [] h = h
+within_behind n (suc k) (r ∷ rs) h = within_behind n k rs h.1
+
+pub within_at : (n k : ℕ) (rows : List Row) (d : Row) → k < length rows → AreWithin n rows → IsWithin n (slice_index_or rows k d).op
+within_at n k [] d low h = absurd (omega (arith, low))
+within_at n zero (r ∷ rs) d low h = h.0
+within_at n (suc k) (r ∷ rs) d low h = within_at n k rs d (omega (arith, low)) h.1
+
+pub record_at : (beside : List ℕ) (k : ℕ) (rows : List Row) (d : Row) → k < length rows → slice_get (records_in beside rows) k ≡ Some (record_in beside (slice_index_or rows k d))
+record_at beside k [] d low = absurd (omega (arith, low))
+record_at beside zero (r ∷ rs) d low = refl
+record_at beside (suc k) (r ∷ rs) d low = record_at beside k rs d (omega (arith, low))
+
+-- ---- what is laid is within
+
+begins_by : (long : ℕ) (op : LaidOp) (next end : ℕ) → EndsAt long op next → next ≤ end → begin_by op next ≤ end
+begins_by long (Short call) next end e le = le
+begins_by long (Long call) next end e le = let ends = e.0 in omega (arith, le, ends)
+begins_by long (Install new) next end e le = le
+
+pub begins_within : (long : ℕ) (rows : List Row) (end : ℕ) → AreLaid long rows end → begin_of rows end ≤ end
+begins_within long [] end h = omega arith
+begins_within long (r ∷ rs) end h = begins_by long r.op (begin_of rs end) end h.0 (begins_within long rs end h.1)
+
+is_within : (long : ℕ) (op : LaidOp) (next end : ℕ) → long ≤ MOST_ARG_LEN → EndsAt long op next → next ≤ end → IsWithin end op
+is_within long (Short call) next end most e le = e
+is_within long (Long call) next end most e le =
+    let ends = e.0 in
+    let few = e.1 in
+    (omega (arith, le, ends), omega (arith, few, most))
+is_within long (Install new) next end most e le = _
+
+pub laid_within : (long : ℕ) (rows : List Row) (end : ℕ) → long ≤ MOST_ARG_LEN → AreLaid long rows end → AreWithin end rows
+laid_within long [] end most h = _
+laid_within long (r ∷ rs) end most h = (is_within long r.op (begin_of rs end) end most h.0 (begins_within long rs end h.1), laid_within long rs end most h.1)
+
+few_by : (long : ℕ) (op : LaidOp) (next n end : ℕ) → EndsAt long op next → end ≤ next + n → end ≤ begin_by op next + (long + n)
+few_by long (Short call) next n end e le = omega (arith, le)
+few_by long (Long call) next n end e le = let ends = e.0 in let few = e.1 in omega (arith, le, ends, few)
+few_by long (Install new) next n end e le = omega (arith, le)
+
+-- so many rows have at most so many bytes
+pub few_bytes : (long : ℕ) (rows : List Row) (end : ℕ) → AreLaid long rows end → end ≤ begin_of rows end + length rows * long
+few_bytes long [] end h = omega arith
+few_bytes long (r ∷ rs) end h =
+    let more = suc-mul (length rs) long in
+    let all = few_by long r.op (begin_of rs end) (length rs * long) end h.0 (few_bytes long rs end h.1) in
+    omega (arith, more, all)
+
+-- ---- a row more
+
+pub begin_onto : (rows : List Row) (r : Row) (end : ℕ) → begin_of (rows ++ r ∷ []) end ≡ begin_of rows (begin_by r.op end)
+begin_onto [] r end = refl
+begin_onto (x ∷ rows) r end = ap (begin_by x.op) (begin_onto rows r end)
+
+pub laid_onto : (long : ℕ) (rows : List Row) (r : Row) (begin end : ℕ) → begin_by r.op end ≡ begin → EndsAt long r.op end → AreLaid long rows begin → AreLaid long (rows ++ r ∷ []) end
+laid_onto long [] r begin end is ends h = (ends, _)
+laid_onto long (x ∷ rows) r begin end is ends h =
+    let same : begin_of rows begin ≡ begin_of (rows ++ r ∷ []) end = ap (begin_of rows) (sym is) ∙ sym (begin_onto rows r end) in
+    (subst (EndsAt long x.op) same h.0, laid_onto long rows r begin end is ends h.1)
+
+-- what an operation has that was put behind the bytes
+pub next_begins : (b e : ℕ) (op : LaidOp) → IsNext b op e → begin_by op e ≡ b
+next_begins b e (Short call) h = h.0
+next_begins b e (Long call) h = h.0
+next_begins b e (Install new) h = h
+
+pub next_ends : (long b e : ℕ) (op : LaidOp) → IsNext b op e → e ≤ b + long → EndsAt long op e
+next_ends long b e (Short call) h le = h.1
+next_ends long b e (Long call) h le = let begins = h.0 in let ends = h.1 in (ends, omega (arith, begins, ends, le))
+next_ends long b e (Install new) h le = _
+
+-- ---- what lies in a list fits there
+
+each_few : (long : ℕ) (b : Bool) → nat_le long MAX_ARG_LEN ≡ b → (if b then 0 else long) ≤ long
+each_few long true is = omega arith
+each_few long false is = omega arith
+
+pub each_at_most : (long : ℕ) → each_of long ≤ long
+each_at_most long = each_few long (nat_le long MAX_ARG_LEN) refl
+
+part_few : (argument : List ℕ) (b : Bool) → length (if b then [] else argument) ≤ length argument
+part_few argument true = omega arith
+part_few argument false = omega arith
+
+pub part_at_most : (argument : List ℕ) → length (if nat_le (length argument) MAX_ARG_LEN then [] else argument) ≤ length argument
+part_at_most argument = part_few argument (nat_le (length argument) MAX_ARG_LEN)
+
+-- a part that fits in `long` bytes is none where a list keeps no bytes for each record
+each_by : (long n : ℕ) (argument : List ℕ) (b d : Bool) → nat_le long MAX_ARG_LEN ≡ b → nat_le (length argument) MAX_ARG_LEN ≡ d
+    → length (if d then [] else argument) ≤ long → length (if d then [] else argument) ≤ (if b then 0 else long)
+each_by long n argument true true e f h = omega arith
+each_by long n argument true false e f h = let few = leb-true long MAX_ARG_LEN e in let many = leb-false (length argument) MAX_ARG_LEN f in omega (arith, few, many, h)
+each_by long n argument false d e f h = h
+
+pub part_fits : (long : ℕ) (op : Operation) → FitsIn long op → length (long_part op) ≤ each_of long
+part_fits long (run call) h = each_by long 0 call.argument (nat_le long MAX_ARG_LEN) (nat_le (length call.argument) MAX_ARG_LEN) refl refl h
+part_fits long (install new) h = omega arith
+
+pub short_part : (argument : List ℕ) → length argument ≤ MAX_ARG_LEN → length (if nat_le (length argument) MAX_ARG_LEN then [] else argument) ≤ 0
+short_part argument le = rw (le-leb (length argument) MAX_ARG_LEN le) (omega arith)
+
+text_few : (beside : List ℕ) (c : LongCall) → length (text_in beside c) ≤ c.len
+text_few beside c = let long = length-take c.len (drop c.begin beside) in omega (arith, long)
+
+fits_laid : (long next : ℕ) (beside : List ℕ) (op : LaidOp) → EndsAt (each_of long) op next → FitsIn long (op_in beside op)
+fits_laid long next beside (Short call) e = let none = short_part call.argument e in omega (arith, none)
+fits_laid long next beside (Long call) e =
+    let few = e.1 in
+    let each = each_at_most long in
+    let text = text_few beside call in
+    let part = part_at_most (text_in beside call) in
+    omega (arith, few, each, text, part)
+fits_laid long next beside (Install new) e = omega arith
+
+-- what lies within some bytes has no more than any argument may have
+pub within_fits : (n : ℕ) (beside : List ℕ) (op : LaidOp) → IsWithin n op → FitsIn MOST_ARG_LEN (op_in beside op)
+within_fits n beside (Short call) h = let none = short_part call.argument h in omega (arith, none)
+within_fits n beside (Long call) h =
+    let few = h.1 in
+    let text = text_few beside call in
+    let part = part_at_most (text_in beside call) in
+    omega (arith, few, text, part)
+within_fits n beside (Install new) h = omega arith
+
+pub all_fit : (long : ℕ) (beside : List ℕ) (rows : List Row) (end : ℕ) → AreLaid (each_of long) rows end → AllFit long (records_in beside rows)
+all_fit long beside [] end h k r at = absurd (none-some r at)
+all_fit long beside (x ∷ rs) end h zero r at = subst (λ z. FitsIn long z.op) (same_Some (record_in beside x) r at) (fits_laid long (begin_of rs end) beside x.op h.0)
+all_fit long beside (x ∷ rs) end h (suc k) r at = all_fit long beside rs end h.1 k r at
+
+-- ---- rows are dropped
+
+pub laid_behind : (long n : ℕ) (rows : List Row) (end : ℕ) → AreLaid long rows end → AreLaid long (drop n rows) end
+laid_behind long zero rows end h = h
+laid_behind long (suc n) [] end h = h
+laid_behind long (suc n) (r ∷ rs) end h = laid_behind long n rs end h.1
+
+-- ---- bytes are dropped in front
+
+text_pulled : (gap : ℕ) (beside : List ℕ) (c : LongCall) → gap ≤ c.begin → take c.len (drop (c.begin - gap) (drop gap beside)) ≡ text_in beside c
+text_pulled gap beside c after =
+    let place : gap + (c.begin - gap) ≡ c.begin = omega (arith, after) in
+    ap (take c.len) (drop-drop (c.begin - gap) gap beside ∙ ap (λ i. drop i beside) place)
+
+op_pulled : (gap : ℕ) (beside : List ℕ) (op : LaidOp) → IsAfter gap op → op_in (drop gap beside) (pulled gap op) ≡ op_in beside op
+op_pulled gap beside (Short call) h = refl
+op_pulled gap beside (Long call) h = ap (with_text call.program) (text_pulled gap beside call h)
+op_pulled gap beside (Install new) h = refl
+
+pub after_by : (long gap : ℕ) (op : LaidOp) (next : ℕ) → EndsAt long op next → gap ≤ begin_by op next → IsAfter gap op × (gap ≤ next)
+after_by long gap (Short call) next e le = (_, le)
+after_by long gap (Long call) next e le = let ends = e.0 in (le, omega (arith, le, ends))
+after_by long gap (Install new) next e le = (_, le)
+
+pub after_at : (long gap k : ℕ) (rows : List Row) (end : ℕ) (d : Row) → k < length rows → AreLaid long rows end → gap ≤ begin_of rows end → IsAfter gap (slice_index_or rows k d).op
+after_at long gap k [] end d low h le = absurd (omega (arith, low))
+after_at long gap zero (r ∷ rs) end d low h le = (after_by long gap r.op (begin_of rs end) h.0 le).0
+after_at long gap (suc k) (r ∷ rs) end d low h le = after_at long gap k rs end d (omega (arith, low)) h.1 (after_by long gap r.op (begin_of rs end) h.0 le).1
+
+-- the first k rows are pulled: the next one is as it was
+pub next_row : (gap k : ℕ) (rows : List Row) (d : Row) → k < length rows → slice_index_or (pulled_rows gap (take k rows) ++ drop k rows) k d ≡ slice_index_or rows k d
+next_row gap k [] d low = absurd (omega (arith, low))
+next_row gap zero (r ∷ rs) d low = refl
+next_row gap (suc k) (r ∷ rs) d low = next_row gap k rs d (omega (arith, low))
+
+pub row_pulled : (gap k : ℕ) (rows : List Row) (d : Row) → k < length rows
+    → slice_set (pulled_rows gap (take k rows) ++ drop k rows) k (pulled_row gap (slice_index_or rows k d)) ≡ pulled_rows gap (take (suc k) rows) ++ drop (suc k) rows
+row_pulled gap k [] d low = absurd (omega (arith, low))
+row_pulled gap zero (r ∷ rs) d low = refl
+row_pulled gap (suc k) (r ∷ rs) d low = ap (λ xs. pulled_row gap r ∷ xs) (row_pulled gap k rs d (omega (arith, low)))
+
+pub rows_pulled : (long gap : ℕ) (beside : List ℕ) (rows : List Row) (end : ℕ) → AreLaid long rows end → gap ≤ begin_of rows end
+    → records_in (drop gap beside) (pulled_rows gap rows) ≡ records_in beside rows
+rows_pulled long gap beside [] end h le = refl
+rows_pulled long gap beside (r ∷ rs) end h le =
+    let after = after_by long gap r.op (begin_of rs end) h.0 le in
+    ap₂ (λ op rest. record { author = r.author; op = op; seq = r.seq } ∷ rest) (op_pulled gap beside r.op after.0) (rows_pulled long gap beside rs end h.1 after.1)
+
+begin_by_pulled : (gap : ℕ) (op : LaidOp) (next : ℕ) → begin_by (pulled gap op) (next - gap) ≡ begin_by op next - gap
+begin_by_pulled gap (Short call) next = refl
+begin_by_pulled gap (Long call) next = refl
+begin_by_pulled gap (Install new) next = refl
+
+pub begin_pulled : (gap : ℕ) (rows : List Row) (end : ℕ) → begin_of (pulled_rows gap rows) (end - gap) ≡ begin_of rows end - gap
+begin_pulled gap [] end = refl
+begin_pulled gap (r ∷ rs) end = ap (begin_by (pulled gap r.op)) (begin_pulled gap rs end) ∙ begin_by_pulled gap r.op (begin_of rs end)
+
+ends_pulled : (long gap : ℕ) (op : LaidOp) (next : ℕ) → EndsAt long op next → IsAfter gap op → EndsAt long (pulled gap op) (next - gap)
+ends_pulled long gap (Short call) next e after = e
+ends_pulled long gap (Long call) next e after = let ends = e.0 in (omega (arith, ends, after), e.1)
+ends_pulled long gap (Install new) next e after = _
+
+pub laid_pulled : (long gap : ℕ) (rows : List Row) (end : ℕ) → AreLaid long rows end → gap ≤ begin_of rows end → AreLaid long (pulled_rows gap rows) (end - gap)
+laid_pulled long gap [] end h le = _
+laid_pulled long gap (r ∷ rs) end h le =
+    let after = after_by long gap r.op (begin_of rs end) h.0 le in
+    (subst (EndsAt long (pulled gap r.op)) (sym (begin_pulled gap rs end)) (ends_pulled long gap r.op (begin_of rs end) h.0 after.0), laid_pulled long gap rs end h.1 after.1)
