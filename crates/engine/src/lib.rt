@@ -17,7 +17,9 @@ pub use parted::{Destination, Handed, Parted};
 pub use performing::{
     Command, Performed, hand_back, perform, perform_kept, prepare, report, write_pieces, write_text,
 };
-pub use reading::{Folder, Gathered, Inputs, LINE_ARG_LEN, MapSizes, NamedText, Stranger, Texts, gather, lent};
+pub use reading::{
+    Folder, Gathered, Inputs, LINE_ARG_LEN, MapSizes, NamedText, Stranger, Texts, gather, lent,
+};
 pub use replies::{
     AnswerText, Answering, Notes, Reply, Status, Telling, Verdict, not_text, sizes_refused,
 };

@@ -11,8 +11,8 @@ ghost use Rattle.engine.specs.Reading.{FailedInTurn, FileFailedOr, GoesBy, IfGiv
 ghost use Rattle.engine.specs.Unread.{AreRead, FailsAs, FoundAs, Gathered, IfUnread, IsStrangeFile, TextIs};
 
 use crate::transfer::{ReadFault, Source};
-use loader::named_files;
 use insn::MAX_INSTALLED_SLOTS;
+use loader::named_files;
 use maps::MapLimits;
 use std::alloc::{AllocError, AllocFailed, Global};
 

@@ -222,12 +222,7 @@ impl Replaying {
             return LineVerdict::Bad;
         };
         match mode {
-            Mode::Update => verdict_of(self.update(
-                catalogue,
-                &call.op(),
-                told.index,
-                told.reply,
-            )),
+            Mode::Update => verdict_of(self.update(catalogue, &call.op(), told.index, told.reply)),
             Mode::Read => verdict_of(self.read(catalogue, &call, told.index, told.reply)),
         }
     }
