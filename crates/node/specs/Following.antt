@@ -78,6 +78,10 @@ replayed c n =
       hand = record n.hand { begin = tail; records = [] };
     }
 
+-- the node with these records behind the others in its hand
+abbrev pub with_more : History → NodeReplica → NodeReplica
+with_more rs n = record n { hand = record n.hand { records = n.hand.records ++ rs } }
+
 -- the replica once it has applied the first of the records in its hand, so many
 abbrev pub replayed_first : CatalogueView → ℕ → NodeReplica → NodeReplica
 replayed_first c count n =

@@ -1,6 +1,6 @@
 // A node's replica with the records that were copied for it, and its steps on a log.
 
-ghost use Rattle.std.specs.Prelude.{◌≡◌, ◌≤◌, ◌<◌, true, length};
+ghost use Rattle.std.specs.Prelude.{◌≡◌, ◌++◌, ◌≤◌, ◌<◌, IsTrue, true, length};
 ghost use Rattle.loader.specs.CatalogueView.{sizes_for};
 ghost use Rattle.loader.specs.StoreState.{sizes_of};
 ghost use Rattle.oplog.specs.declared.configuration.TheConstants.{ENDLESS};
@@ -8,7 +8,7 @@ ghost use Rattle.oplog.specs.History.{AllFit};
 ghost use Rattle.oplog.specs.Logs.{tail_of, records_from, room_in};
 ghost use Rattle.replica.specs.Replaying.{KeepsOutcomes};
 ghost use Rattle.replica.specs.StoreMeaning.{AreUpdates};
-ghost use Rattle.node.specs.Following.{IsNext, Fits, may_append, grown, copied, room_for, replies_for, is_above, has_next, replayed, replayed_first, replies_after, may_finish, told, may_reclaim, reclaimed, may_rebase, rebased, exchanged, may_answer, may_reply};
+ghost use Rattle.node.specs.Following.{IsNext, Fits, may_append, grown, copied, room_for, replies_for, is_above, has_next, replayed, replayed_first, replies_after, with_more, may_finish, told, may_reclaim, reclaimed, may_rebase, rebased, exchanged, may_answer, may_reply};
 
 use loader::Catalogue;
 use oplog::{CopyAnswer, Hand, LogState, Records};
@@ -73,8 +73,34 @@ pub fn append(
     copy(log, node);
 }
 
+// Whether the replica lacks nothing, and its hand says so.
+#[inline(always)]
+fn lacks_nothing(log: &LogState, node: &NodeReplica) -> bool
+    requires above { is_above log.now node.now ≡ true }
+    requires fits { Fits log.now node.now }
+    ensures same { IsTrue result → node.now ≡ copied log.now node.now }
+    ensures within { tail_of log.now ≤ ENDLESS }
+{
+    let tail = node.replica.tail();
+    tail == log.tail() && node.hand.is_empty() && node.hand.begin() == tail
+}
+
 /// Copies what the replica lacks into the hand. The log has all of it.
+#[inline(always)]
 pub fn copy(log: &LogState, node: &mut NodeReplica)
+    requires above { is_above log.now node.old ≡ true }
+    requires fits { Fits log.now node.old }
+    ensures node { node.new ≡ copied log.now node.old }
+    ensures within { tail_of log.now ≤ ENDLESS }
+{
+    if !lacks_nothing(log, node) {
+        copy_lacked(log, node);
+    }
+}
+
+// `copy`, whatever the replica lacks.
+#[inline(never)]
+fn copy_lacked(log: &LogState, node: &mut NodeReplica)
     requires above { is_above log.now node.old ≡ true }
     requires fits { Fits log.now node.old }
     ensures node { node.new ≡ copied log.now node.old }
@@ -104,6 +130,24 @@ pub fn replay(node: &mut NodeReplica, catalogue: &Catalogue, replies: &mut Repli
     ensures kept { KeepsOutcomes catalogue.now node.old.replica.state node.old.replica.tail node.old.hand.records replies.old replies.new }
 {
     node.replica.replay(&mut node.hand, catalogue, replies);
+}
+
+/// [`replay`], but applies these records behind those of the hand. They are not copied into it.
+#[inline(always)]
+pub fn replay_with(
+    node: &mut NodeReplica,
+    more: &Records<'_>,
+    catalogue: &Catalogue,
+    replies: &mut Replies,
+)
+    requires next { IsNext catalogue.now (with_more more.now node.old) }
+    ensures node { node.new ≡ replayed catalogue.now (with_more more.now node.old) }
+    ensures sizes { sizes_of node.new.replica.state ≡ sizes_of node.old.replica.state }
+    ensures replies { replies.new ≡ replies_after catalogue.now (with_more more.now node.old) replies.old }
+    ensures kept { KeepsOutcomes catalogue.now node.old.replica.state node.old.replica.tail (node.old.hand.records ++ more.now) replies.old replies.new }
+{
+    node.replica
+        .replay_with(&mut node.hand, more, catalogue, replies);
 }
 
 /// Applies the first of the records in the hand to the replica, so many, and lets go of what they answer.

@@ -11,6 +11,6 @@ pub use answering::answer_batch;
 pub use following::{
     NodeReplica, append, append_only, copy, exchange, finish, follow, has_next, may_answer,
     may_append, may_finish, may_rebase, may_reclaim, may_reply, rebase, reclaim, replay,
-    replay_first,
+    replay_first, replay_with,
 };
 pub use parts::{NodeBatch, Written};

@@ -1,10 +1,10 @@
 -- What a history may have fits in the room for the longest argument of the catalogue's programs.
-use Rattle.std.proofs.Common.{inl, inr, ◌≡◌, ℕ, zero, suc, ◌≤◌, max, true, List, [], ◌∷◌, length, refl, sym, ap, ◌∙◌, subst, arith}
+use Rattle.std.proofs.Common.{inl, inr, ◌≡◌, ℕ, zero, suc, ◌≤◌, true, List, [], ◌∷◌, refl, ap, arith}
 use Rattle.std.specs.Prelude.{slice_get, Option, Some, None}
 use Rattle.std.specs.Option.{option_map}
 use Rattle.std.proofs.lemmas.Option.{none-some, same_Some}
 use Rattle.verifier.specs.declared.refusal.Mode.{Mode}
-use Rattle.verifier.specs.declared.refusal.Mode.TheVariants.{Update, Read}
+use Rattle.verifier.specs.declared.refusal.Mode.TheVariants.{Update}
 use Rattle.verifier.specs.Accepted.{Checked}
 use Rattle.loader.specs.CatalogueView.{CatalogueView, Entry, longest_of, longest_argument}
 use Rattle.oplog.specs.Calls.{Call}
@@ -12,7 +12,7 @@ use Rattle.oplog.specs.declared.records.Op.TheVariants.{Run, Install}
 use Rattle.oplog.specs.Operations.{Operation, FitsIn}
 use Rattle.oplog.specs.History.{History, AllFit}
 use Rattle.oplog.proofs.Export.{part_at_most, short_part}
-use Rattle.replica.specs.StoreMeaning.{program_at, is_operation, IsCall, AreUpdates}
+use Rattle.replica.specs.StoreMeaning.{is_operation, IsCall, AreUpdates}
 use Rattle.replica.proofs.Tested.{are_tested}
 
 longest_at : (es : List Entry) (k : ℕ) (e : Entry) → slice_get es k ≡ Some e → e.checked.arg_len ≤ longest_of es

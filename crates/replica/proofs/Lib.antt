@@ -1,4 +1,5 @@
 pub mod Outcomes
+pub mod Joined
 pub mod Kept
 pub mod Afters
 pub mod Histories

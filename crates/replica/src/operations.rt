@@ -13,7 +13,7 @@ use crate::replying::Replies;
 use loader::{Catalogue, Installed};
 use machine::{Machine, Outcome, run_in};
 use maps::MapSet;
-use oplog::{Hand, OpParts, OpRef, Records};
+use oplog::{OpParts, OpRef, Records};
 use verifier::{Accepted, Mode};
 
 /// What operations run on.
@@ -170,27 +170,24 @@ fn perform(on: &mut Ground, catalogue: &Catalogue, op: &OpRef<'_>) -> Outcome
     }
 }
 
-// Performs the operations of the first records in a hand, one after the other, and keeps what they answer.
-pub(crate) fn perform_first(
+// Performs the operations of records, the first of which has this index in the history, one after the other, and keeps what they answer.
+pub(crate) fn perform_each(
     on: &mut Ground,
     catalogue: &Catalogue,
-    hand: &Hand,
-    count: usize,
+    first: u64,
+    records: &Records<'_>,
     replies: &mut Replies,
 )
-    requires count { count ≤ length hand.now.records }
     requires shapes { HasShapes catalogue.now.shapes (maps_of on.old.maps) }
     requires programs { on.old.programs.shapes ≡ catalogue.now.shapes }
-    requires allowed { AreUpdates catalogue.now hand.now.records }
-    requires fits { hand.now.begin + length hand.now.records < 2 ^ 64 }
-    ensures state { Leaves catalogue.now (state_in on.old) (take count hand.now.records) (state_in on.new) }
+    requires allowed { AreUpdates catalogue.now records.now }
+    requires fits { first + length records.now < 2 ^ 64 }
+    ensures state { Leaves catalogue.now (state_in on.old) records.now (state_in on.new) }
     ensures shapes { HasShapes catalogue.now.shapes (maps_of on.new.maps) }
     ensures sizes { (on.new.programs.shapes ≡ on.old.programs.shapes) × (on.new.programs.places ≡ on.old.programs.places) }
-    ensures kept { KeepsOutcomes catalogue.now (state_in on.old) hand.now.begin (take count hand.now.records) replies.old replies.new }
+    ensures kept { KeepsOutcomes catalogue.now (state_in on.old) first records.now replies.old replies.new }
 {
-    let first = hand.begin();
-    let records = hand.records();
-    for k in 0..count {
+    for k in 0..records.len() {
         let op = records.op(k);
         let outcome = perform(on, catalogue, &op);
         replies.keep(first + k as u64, outcome);

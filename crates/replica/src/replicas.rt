@@ -1,6 +1,6 @@
 // A replica of the maps, and of the programs that were installed.
 
-ghost use Rattle.std.specs.Prelude.{◌≡◌, ◌+◌, ◌<◌, ◌≤◌, ◌^◌, [], length, take, drop, Some};
+ghost use Rattle.std.specs.Prelude.{◌≡◌, ◌+◌, ◌++◌, ◌<◌, ◌≤◌, ◌^◌, [], length, take, drop, Some};
 ghost use Rattle.maps.specs.Maps.{shapes_of, HasShapes};
 ghost use Rattle.maps.specs.MapSets.{maps_of};
 ghost use Rattle.verifier.specs.declared.refusal.Mode.TheVariants.{Read};
@@ -11,12 +11,12 @@ ghost use Rattle.oplog.specs.Logs.{records_from};
 ghost use Rattle.replica.specs.StoreMeaning.{store_meaning, call_of, run_of, ran_to, AreUpdates};
 ghost use Rattle.replica.specs.Replaying.{KeepsOutcomes};
 
-use crate::operations::{Ground, perform_first, program_of, run_suitable};
+use crate::operations::{Ground, perform_each, program_of, run_suitable};
 use crate::replying::Replies;
 use loader::{Catalogue, Installed, StoreState};
 use machine::Outcome;
 use maps::MapSet;
-use oplog::{Hand, LogState};
+use oplog::{Hand, LogState, Records};
 use std::marker::Model;
 use verifier::Mode;
 
@@ -94,8 +94,36 @@ impl Replica {
         ensures replies { KeepsOutcomes catalogue.now self.old.state self.old.tail hand.old.records replies.old replies.new }
     {
         let count = hand.len();
-        perform_first(&mut self.ground, catalogue, hand, count, replies);
+        if count > 0 {
+            let records = hand.records();
+            perform_each(&mut self.ground, catalogue, self.tail, &records, replies);
+        }
         self.tail += count as u64;
+        hand.clear(self.tail);
+    }
+
+    /// [`Replica::replay`], but applies these records behind those of the hand. They are not copied.
+    #[inline(always)]
+    pub fn replay_with(
+        &mut self,
+        hand: &mut Hand,
+        more: &Records<'_>,
+        catalogue: &Catalogue,
+        replies: &mut Replies,
+    )
+        requires begins { hand.old.begin ≡ self.old.tail }
+        requires sizes { sizes_of self.old.state ≡ sizes_for catalogue.now }
+        requires allowed { AreUpdates catalogue.now (hand.old.records ++ more.now) }
+        requires fits { self.old.tail + length (hand.old.records ++ more.now) < 2 ^ 64 }
+        ensures tail { self.new.tail ≡ self.old.tail + length (hand.old.records ++ more.now) }
+        ensures state { self.new.state ≡ after store_meaning catalogue.now self.old.state (hand.old.records ++ more.now) }
+        ensures sizes { sizes_of self.new.state ≡ sizes_of self.old.state }
+        ensures hand { hand.new ≡ record hand.old { begin = self.new.tail; records = [] } }
+        ensures replies { KeepsOutcomes catalogue.now self.old.state self.old.tail (hand.old.records ++ more.now) replies.old replies.new }
+    {
+        self.replay(hand, catalogue, replies);
+        perform_each(&mut self.ground, catalogue, self.tail, more, replies);
+        self.tail += more.len() as u64;
         hand.clear(self.tail);
     }
 
@@ -114,7 +142,14 @@ impl Replica {
         ensures hand { hand.new ≡ record hand.old { begin = self.new.tail; records = drop count hand.old.records } }
     {
         let mut replies = Replies::new(0, 0);
-        perform_first(&mut self.ground, catalogue, hand, count, &mut replies);
+        let records = hand.records().first(count);
+        perform_each(
+            &mut self.ground,
+            catalogue,
+            self.tail,
+            &records,
+            &mut replies,
+        );
         self.tail += count as u64;
         hand.drop_first(count);
     }

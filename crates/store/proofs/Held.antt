@@ -6,10 +6,9 @@ use Rattle.accounts.proofs.Export.{at_none, at_there}
 use Rattle.store_steps.specs.declared.pipelines.Member.{Member}
 use Rattle.store_steps.specs.Holds.{session_at}
 use Rattle.store_steps.specs.Standing.{SessionKnown}
-use Rattle.store_steps.specs.Views.{first_in, session_view}
+use Rattle.store_steps.specs.Views.{first_in}
 use Rattle.store.specs.Pipelines.{known_at, views_of}
 use Rattle.store.specs.PolledPipelines.{SetsFirst}
-use Rattle.store.specs.Sessions.{known_of}
 use Rattle.store.proofs.AskedEach.{replaced_long}
 
 abbrev K : Type 0

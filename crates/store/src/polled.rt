@@ -35,7 +35,7 @@ use replica::{Replies, StoreRefused, check_call, check_install};
 use std::marker::Model;
 use store_steps::{
     Batches, Beginning, Caller, Deed, Get, GetRefused, Here, Look, Lookup, MapKey, Page, Question,
-    QuestionRefused, Reads, Scan, ScanRefused, Snapshot, Stage, Value, go_on, go_on_at_once,
+    QuestionRefused, Reads, Scan, ScanRefused, Snapshot, Stage, Value, give_and_turn, go_on,
     try_look, try_post,
 };
 use verifier::Mode;
@@ -344,7 +344,9 @@ impl Polled {
             caller: *caller,
         };
         if *at_once {
-            return go_on_at_once(here, seat, batch, replies, stage);
+            if let Stage::Ready = *stage {
+                return give_and_turn(here, seat, batch, replies, stage);
+            }
         }
         go_on(here, seat, batch, replies, stage)
     }

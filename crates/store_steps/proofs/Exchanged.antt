@@ -1,5 +1,5 @@
 -- A node whose replica owes some of the records in its hand, and is what it was once they are applied.
-use Rattle.std.proofs.Common.{◌≡◌, ℕ, ◌+◌, ◌-◌, ◌≤◌, ◌++◌, length, length-append, take, drop, sym, ap, ◌∙◌, arith}
+use Rattle.std.proofs.Common.{◌≡◌, ℕ, ◌+◌, ◌-◌, ◌≤◌, ◌++◌, length, take, drop, sym, ap, ◌∙◌, arith}
 use Rattle.std.proofs.lemmas.List.{drop-append-le}
 use Rattle.loader.specs.CatalogueView.{CatalogueView}
 use Rattle.oplog.specs.History.{History, after, state_after}
@@ -8,11 +8,10 @@ use Rattle.oplog.specs.declared.configuration.TheConstants.{ENDLESS}
 use Rattle.replica.specs.StoreMeaning.{store_meaning}
 use Rattle.accounts.specs.declared.sessions.Progress.{Progress}
 use Rattle.accounts.specs.Accounts.{IsWellFormed}
-use Rattle.node.specs.Following.{copied, exchanged, grown, rebased, reclaimed, replayed_first, room_for, told}
+use Rattle.node.specs.Following.{copied, exchanged, grown, rebased, reclaimed, replayed_first, room_for, told, with_more}
 use Rattle.node.specs.declared.following.NodeReplica.{NodeReplica}
-use Rattle.store_steps.specs.Rooms.{Owes, caught_up, with_more}
+use Rattle.store_steps.specs.Rooms.{Owes, caught_up}
 use Rattle.store_steps.specs.Standing.{Follows, HasOthers, IsLogOf}
-use Rattle.store_steps.proofs.Places.{long_drop}
 use Rattle.store_steps.proofs.Followed.{follows_rebased, has_others}
 use Rattle.store_steps.proofs.Played.{all, is_next, rest_of, state_in}
 
@@ -109,16 +108,3 @@ module _ (c : CatalogueView) (h h2 : LogView) (n m : NodeReplica) (owed : ℕ) (
     replica = record { tail = t; state = after store_meaning c n.replica.state (take owed n.hand.records) };
     hand = record { begin = t; records = rest i; window = n.hand.window; long = n.hand.long };
   })
-
-  -- the hand has room for it
-  pub has_room : length h2.records ≤ h2.window → length (drop owed n.hand.records) + length more ≤ n.hand.window
-  has_room kept =
-      let long = sym (length-append (drop owed n.hand.records) more) ∙ ap length rest in
-      let a = o.above in
-      let base : h2.base ≡ h.base = ap (λ (z : LogView). z.base) log in
-      let size : length h2.records ≡ length h.records + length (take (room_for rs h) rs) = ap (λ (z : LogView). length z.records) log ∙ length-append h.records (take (room_for rs h) rs) in
-      let in_h = inside in
-      let part = long_drop (t - h2.base) h2.records (omega (arith, base, size, in_h)) in
-      let window : h2.window ≡ h.window = ap (λ (z : LogView). z.window) log in
-      let same = o.window in
-      omega (arith, long, part, kept, window, same)

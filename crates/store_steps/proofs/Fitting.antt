@@ -1,10 +1,8 @@
 -- The requests that a session combines fit in the log of its store, and in the hands for that.
-use Rattle.std.proofs.Common.{◌≡◌, ℕ, zero, suc, true, [], ◌∷◌, length, take, sym, ap, ◌∙◌, subst}
-use Rattle.std.specs.Prelude.{slice_get, None, Some}
-use Rattle.std.proofs.lemmas.Option.{none-some}
+use Rattle.std.proofs.Common.{◌≡◌, true, length, sym, ap, ◌∙◌, subst}
+use Rattle.std.specs.Prelude.{None}
 use Rattle.ownlock.specs.Seats.{At}
 use Rattle.loader.specs.CatalogueView.{longest_argument}
-use Rattle.oplog.specs.declared.records.Record.{Record}
 use Rattle.oplog.specs.History.{AllFit, History}
 use Rattle.oplog.specs.Logs.{Log as LogView}
 use Rattle.replica.specs.StoreMeaning.{AreUpdates, is_operation}
@@ -30,16 +28,6 @@ batch_updates k rs s noted j r e =
 
 pub batch_fits : (k : SessionKnown) (rs : History) → Stands k → k.note.batch ≡ unplaced rs → AllFit (longest_argument k.progress.catalogue) rs
 batch_fits k rs s noted = updates_fit k.progress.catalogue rs (batch_updates k rs s noted)
-
--- the first of them fit too
-taken_get : (n : ℕ) (rs : History) (j : ℕ) (r : Record) → slice_get (take n rs) j ≡ Some r → slice_get rs j ≡ Some r
-taken_get zero rs j r e = absurd (none-some r e)
-taken_get (suc n) [] j r e = absurd (none-some r e)
-taken_get (suc n) (x ∷ rs) zero r e = e
-taken_get (suc n) (x ∷ rs) (suc j) r e = taken_get n rs j r e
-
-pub fit_taken : (long n : ℕ) (rs : History) → AllFit long rs → AllFit long (take n rs)
-fit_taken long n rs fit j r e = fit j r (taken_get n rs j r e)
 
 -- once there is room in the log that the session k has taken, as t, they fit there
 pub appended_fit : (k t m : SessionKnown) (n0 : NodeReplica) (g h : LogView) (n : NodeReplica) (x : Value) (rs : History) → Stands k → k.note.batch ≡ unplaced rs → TookLog k t n0 x → HasPlace t m (length rs) g h n → AllFit h.long rs

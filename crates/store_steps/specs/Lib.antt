@@ -27,6 +27,7 @@ pub mod Combining
 pub mod Trying
 -- Whole calls as lists of steps.
 pub mod Whole
+pub mod Due
 pub mod Updating
 pub mod Visits
 -- A replica that is held and has come up.

@@ -1,5 +1,5 @@
 -- A node whose replica may have changed places with the log's base, until it is again what it was.
-use Rattle.std.specs.Prelude.{◌≡◌, ◌⊎◌, ℕ, ◌+◌, ◌*◌, ◌-◌, ◌<◌, ◌≤◌, [], ◌++◌, length, drop, min}
+use Rattle.std.specs.Prelude.{◌≡◌, ◌⊎◌, ℕ, ◌+◌, ◌*◌, ◌-◌, ◌<◌, ◌≤◌, [], length, drop, min}
 use Rattle.loader.specs.CatalogueView.{CatalogueView}
 use Rattle.oplog.specs.History.{History}
 use Rattle.oplog.specs.Logs.{Log as LogView, tail_of, left_of, records_from, room_in}
@@ -9,10 +9,6 @@ use Rattle.node.specs.declared.following.NodeReplica.{NodeReplica}
 -- the node once its replica has applied the first of the records in its hand, so many, and has let go of the others
 abbrev pub caught_up : CatalogueView → ℕ → NodeReplica → NodeReplica
 caught_up c owed n = let m = replayed_first c owed n in record m { hand = record m.hand { records = [] } }
-
--- the node with these records behind the others in its hand
-abbrev pub with_more : History → NodeReplica → NodeReplica
-with_more rs n = record n { hand = record n.hand { records = n.hand.records ++ rs } }
 
 -- once the replica has applied the first of the records in its hand, so many, it lacks the others: those that the log has from there on
 pub record Owes (c : CatalogueView) (g : LogView) (n : NodeReplica) (owed : ℕ) : Type 0 where

@@ -37,20 +37,16 @@ pub(crate) fn try_combine(
     ensures combined { IfOk result (λ _. Learns seat.old seat.new (λ k after. HasAnswered k after batch.now replies.new)) }
     ensures goes { IfOk result (λ _. Relates seat.old seat.new (λ k after. AnswersBy here.entry.caller.node k after batch.now replies.new)) }
 {
-    let Shared {
-        shelf,
-        catalogue,
-        ..
-    } = here.shared;
+    let Shared { shelf, .. } = here.shared;
     let Some(mut held) = shelf.try_take(seat, 1 + here.caller.node) else {
         return Err(1 + here.caller.node);
     };
     let node = held.value.replica_mut();
-    let Some(()) = try_append_and_copy(here.shared, seat, node, &batch.records(), replies) else {
+    let Some(due) = try_append_and_copy(here.shared, seat, node, &batch.records(), replies) else {
         shelf.put::<Brand>(seat, held);
         return Err(LEADER);
     };
-    replay_and_raise(shelf, seat, node, catalogue, replies);
+    replay_and_raise(here.shared, seat, node, &due, replies);
     shelf.put::<Brand>(seat, held);
     Ok(())
 }

@@ -31,7 +31,7 @@ pub use getting::{Get, GetRefused, Lookup, MapKey};
 pub use looks::{Look, look_waiting, try_look};
 pub use measuring::{Stats, measure, try_measure};
 pub use pipelines::{EachRoom, Member};
-pub use polling::{go_on_at_once, try_begin};
+pub use polling::{give_and_turn, try_begin};
 pub use polling_each::{EachStage, go_on_each, try_begin_each};
 pub use questions::{QuestionRefused, Reads, check_each};
 pub use requests::{complete, post, try_post};

@@ -7,12 +7,12 @@ ghost use Rattle.replica.specs.StoreMeaning.{is_operation};
 ghost use Rattle.replica.specs.Views.{RepliesView};
 ghost use Rattle.store_steps.specs.Knowing.{IsOn, Knows, Relates};
 ghost use Rattle.store_steps.specs.Polling.{BeginsBy, DeedsGo, HasBegun};
-ghost use Rattle.store_steps.specs.Stages.{HasGone, IsOut, IsPolled};
+ghost use Rattle.store_steps.specs.Stages.{HasGone, IsPolled};
 ghost use Rattle.store_steps.specs.Views.{IsIdle};
 ghost use Rattle.store_steps.specs.declared.deeds.Stage.TheVariants.{Ready};
 
 use crate::at_once::{try_hand_over_and_turn, try_post_and_turn};
-use crate::deeds::{Deed, Stage, go_on};
+use crate::deeds::{Deed, Stage};
 use crate::desks::Turn;
 use crate::steps::Here;
 use crate::values::Value;
@@ -54,8 +54,9 @@ pub fn try_begin(
     }
 }
 
-// Hands over the answers to the requests that have run, and has a turn in the same hold.
-fn give_and_turn(
+/// Hands over the answers to the requests that have run, and has a turn in the same hold of the desk.
+#[inline(always)]
+pub fn give_and_turn(
     here: Here<'_>,
     seat: &mut Seat<Value>,
     batch: &mut Batch,
@@ -85,27 +86,4 @@ fn give_and_turn(
             Deed::Collected(reply)
         }
     }
-}
-
-/// The next deed of an update that is out, as [`go_on`](crate::go_on) has it; where the answers are still to be handed over, the turn behind that is
-/// had in the same hold of the desk.
-pub fn go_on_at_once(
-    here: Here<'_>,
-    seat: &mut Seat<Value>,
-    batch: &mut Batch,
-    replies: &mut Replies,
-    stage: &mut Stage,
-) -> Deed
-    requires own { seat.old.shelf ≡ here.shared.shelf.now.id }
-    requires on { Knows seat.old (IsOn here.shared) }
-    requires polled { IsPolled seat.old here.caller batch.old replies.old stage.old }
-    requires out { IsOut stage.old }
-    ensures same { seat.new.shelf ≡ seat.old.shelf }
-    ensures gone { HasGone seat.old seat.new here.entry.caller batch.new replies.new stage.new result }
-    ensures goes { Relates seat.old seat.new (λ k after. DeedsGo k after result) }
-{
-    if let Stage::Ready = *stage {
-        return give_and_turn(here, seat, batch, replies, stage);
-    }
-    go_on(here, seat, batch, replies, stage)
 }

@@ -15,15 +15,16 @@ ghost use Rattle.store_steps.specs.Standing.{Stands, IsFree, HasOthers, HasRaise
 ghost use Rattle.store_steps.specs.Trying.{IsStill};
 ghost use Rattle.store_steps.specs.Ready.{HoldsReady};
 ghost use Rattle.ownlock.specs.Held.{held_place};
-ghost use Rattle.store_steps.specs.Rooms.{FreesRoom, IsBaseDue, IsHalfBefore, Owes, caught_up, with_more};
+ghost use Rattle.store_steps.specs.Rooms.{FreesRoom, IsBaseDue, IsHalfBefore, Owes, caught_up};
+ghost use Rattle.store_steps.specs.Due.{AppendsDue, HasDue, HasReplayedDue, IsDue, ReplaysDue};
 ghost use Rattle.store_steps.specs.Whole.{MakesRoom, AppendsAny, ReplaysAnywhere, FollowsBy};
 
 use crate::values::Value;
 use loader::Catalogue;
 use maps::Shape;
 use node::{
-    NodeReplica, append_only, copy, exchange, follow, may_rebase, rebase, reclaim, replay,
-    replay_first,
+    NodeReplica, append_only, copy, exchange, follow, may_rebase, rebase, reclaim, replay_first,
+    replay_with,
 };
 use oplog::{LogState, MAX_NODES, MAX_SESSIONS, Records};
 use ownlock::{Held, LEADER, Seat, Shelf};
@@ -264,40 +265,46 @@ fn make_room(
     }
 }
 
-// Applies the first of the records in the hand to the replica, so many, and puts these behind the others.
-fn replay_owed(node: &mut NodeReplica, catalogue: &Catalogue, owed: usize, appended: &Records<'_>)
+// What a replica has still to apply: of the records in its hand the first, so many, which bring it back to what it was, then the others, and
+// then those that its session has appended.
+#[derive(Drop)]
+pub(crate) struct Due<'a> {
+    owed: usize,
+    appended: Records<'a>,
+}
+
+// Applies the first of the records in the hand to the replica, so many.
+fn replay_owed(node: &mut NodeReplica, catalogue: &Catalogue, owed: usize)
     requires next { IsNext catalogue.now node.old }
     requires owed { owed ≤ length node.old.hand.records }
-    requires room { length (drop owed node.old.hand.records) + length appended.now ≤ node.old.hand.window }
-    requires fit { AllFit node.old.hand.long appended.now }
-    ensures node { node.new ≡ with_more appended.now (replayed_first catalogue.now owed node.old) }
+    ensures node { node.new ≡ replayed_first catalogue.now owed node.old }
+    ensures sizes { sizes_of node.new.replica.state ≡ sizes_of node.old.replica.state }
 {
     if owed > 0 {
         replay_first(node, catalogue, owed);
     }
-    node.hand.extend(appended);
 }
 
-// Takes the log, makes room and appends as many of the records as the history may still have, and puts the log back. The hand has what
-// the replica has still to apply then. The replies that are lent keep the places of those that were appended. A replica that changed
-// places with the log's base is brought back to what it was, once the log is put back. Where another session holds the log it answers
-// `None`, and nothing has changed.
+// Takes the log, makes room and appends as many of the records as the history may still have, and puts the log back. It answers what the replica
+// has still to apply then. The replies that are lent keep the places of those that were appended. Where another session holds the log it
+// answers `None`, and nothing has changed.
 #[inline(always)]
-pub(crate) fn try_append_and_copy(
+pub(crate) fn try_append_and_copy<'a>(
     shared: Shared<'_>,
     seat: &mut Seat<Value>,
     node: &mut NodeReplica,
-    records: &Records<'_>,
+    records: &Records<'a>,
     replies: &mut Replies,
-) -> Option<()>
+) -> Option<Due<'a>>
     requires own { seat.old.shelf ≡ shared.shelf.now.id }
     requires there { 0 < shared.shelf.now.places }
     requires few { length records.now ≤ 16 }
     requires holds { Knows seat.old (λ k. HasReplica k node.old shared.catalogue.now × (k.note.batch ≡ unplaced records.now)) }
     ensures same { seat.new.shelf ≡ seat.old.shelf }
     ensures stays { IfNone result ((seat.new ≡ seat.old) × (node.new ≡ node.old)) }
-    ensures appended { IfSome result (λ _. Learns seat.old seat.new (λ k after. HasAppended k after records.now replies.new node.new)) }
-    ensures goes { IfSome result (λ _. Relates seat.old seat.new (λ k after. AppendsAny k after records.now node.old node.new replies.new)) }
+    ensures next { IfSome result (λ due. IsNext shared.entry.catalogue.now node.new × (due.owed ≤ length node.new.hand.records)) }
+    ensures appended { IfSome result (λ due. Learns seat.old seat.new (HasDue shared.entry.catalogue.now due node.new records.now replies.new)) }
+    ensures goes { IfSome result (λ due. Relates seat.old seat.new (AppendsDue shared.entry.catalogue.now due node.old node.new records.now replies.new)) }
 {
     let Some(mut held) = shared.shelf.try_take(seat, LEADER) else {
         return None;
@@ -309,28 +316,29 @@ pub(crate) fn try_append_and_copy(
     shared.shelf.put::<Brand>(seat, held);
     let count = replies.len();
     let appended = records.first(count);
-    replay_owed(node, shared.catalogue, owed, &appended);
-    Some(())
+    Some(Due { owed, appended })
 }
 
-// Replays the records in the hand, and raises the completed tail to the replica's.
+// Replays what the replica has still to apply, and raises the completed tail to the replica's.
 #[inline(always)]
 pub(crate) fn replay_and_raise(
-    shelf: &Shelf<Value>,
+    shared: Shared<'_>,
     seat: &mut Seat<Value>,
     node: &mut NodeReplica,
-    catalogue: &Catalogue,
+    due: &Due<'_>,
     replies: &mut Replies,
 )
-    requires own { seat.old.shelf ≡ shelf.now.id }
-    requires known { Knows seat.old (λ k. HasOthers k.progress node.old × Stands k × (k.progress.catalogue ≡ catalogue.now)) }
+    requires own { seat.old.shelf ≡ shared.shelf.now.id }
+    requires next { IsNext shared.catalogue.now node.old × (due.now.owed ≤ length node.old.hand.records) }
+    requires known { Knows seat.old (IsDue shared.catalogue.now due.now node.old) }
     ensures same { seat.new.shelf ≡ seat.old.shelf }
-    ensures replayed { Learns seat.old seat.new (λ k after. HasReplayed k after node.old node.new replies.old replies.new) }
-    ensures goes { Relates seat.old seat.new (λ k after. ReplaysAnywhere k after node.old node.new replies.old replies.new) }
+    ensures replayed { Learns seat.old seat.new (HasReplayedDue shared.entry.catalogue.now due.now node.old node.new replies.old replies.new) }
+    ensures goes { Relates seat.old seat.new (ReplaysDue shared.entry.catalogue.now due.now node.old node.new replies.old replies.new) }
 {
-    replay(node, catalogue, replies);
+    replay_owed(node, shared.catalogue, due.owed);
+    replay_with(node, &due.appended, shared.catalogue, replies);
     let replayed = node.replica.tail();
-    raise_to(shelf, seat, replayed);
+    raise_to(shared.shelf, seat, replayed);
 }
 
 // Takes the log, brings the replica up to its end while it is held, puts it back, and raises the completed tail to the replica's.

@@ -5,6 +5,7 @@ use Rattle.accounts.specs.declared.sessions.SessionNote.{SessionNote}
 use Rattle.accounts.specs.Moves.{unplaced}
 use Rattle.store_steps.specs.Combining.{HasClaimed}
 use Rattle.store_steps.specs.Lending.{with_replica}
+use Rattle.store_steps.specs.Due.{brought}
 use Rattle.store_steps.specs.Standing.{Agrees, HasAppended, IsFree}
 use Rattle.store_steps.specs.Whole.{AnswersBy}
 use Rattle.store_steps.proofs.Stretches.{answers_by}
@@ -62,7 +63,7 @@ returns-clause-combined c k is =
     let t = c.in-Some.ensures.taken k is in
     let b = took_replica k t.0 c.args.here.caller w free t.1 in
     let a = c.in-Some-try_append_and_copy.ensures.appended t.0 t.2 in
-    let v = c.try_append_and_copy.new.node in
+    let v = brought c.args.here.shared.catalogue.now c.in-Some-try_append_and_copy.due c.try_append_and_copy.new.node in
     let old = c.try_append_and_copy.new.replies in
     let done = subst (λ z. HasAppended t.0 a.0 z old v) c.records.ensures.records a.2 in
     let h = holds_on t.0 a.0 w a.2.goes b.holds in
@@ -94,7 +95,7 @@ returns-clause-goes c k after is now =
     let b = took_replica k t.0 c.args.here.caller w free t.1 in
     let a = c.in-Some-try_append_and_copy.ensures.appended t.0 t.2 in
     let n = c.replica_mut-node.result.now in
-    let v = c.try_append_and_copy.new.node in
+    let v = brought c.args.here.shared.catalogue.now c.in-Some-try_append_and_copy.due c.try_append_and_copy.new.node in
     let m = c.replay_and_raise.new.node in
     let old = c.try_append_and_copy.new.replies in
     let new = c.replay_and_raise.new.replies in

@@ -5,13 +5,13 @@ use Rattle.accounts.specs.Moves.{unplaced}
 use Rattle.store_steps.specs.Knowing.{HasReplica, Learns, Relates}
 use Rattle.node.specs.Following.{copied, room_for}
 use Rattle.store_steps.specs.Standing.{HasPlace}
+use Rattle.store_steps.specs.Due.{brought}
 use Rattle.store_steps.specs.Rooms.{caught_up}
 use Rattle.store_steps.specs.Whole.{AppendsBy, MakesRoom}
 use Rattle.store_steps.proofs.Taken.{holds_log, known_as, may_take_log, took_log}
-use Rattle.oplog.specs.History.{AllFit}
-use Rattle.store_steps.proofs.Fitting.{appended_fit, fit_taken}
+use Rattle.store_steps.proofs.Fitting.{appended_fit}
 use Rattle.store_steps.proofs.Appended.{may, put_appended, back_appended, back_log}
-use Rattle.store_steps.proofs.Exchanged.{as_copied, has_room}
+use Rattle.store_steps.proofs.Exchanged.{as_copied}
 use Rattle.store_steps.proofs.Stretches.{appends_by}
 use Rattle.store_steps.proofs.steps.try_append_and_copy.Goals as goal
 
@@ -62,27 +62,8 @@ put-requires-clause-may c =
           (a.log, refl, a.replies, a.within) _ c.in-Some.ensures.place,
     )
 
-pub replay_owed-requires-clause-next : goal.replay_owed-requires-clause-next
-replay_owed-requires-clause-next c = c.make_room-owed.ensures.owes.next
-
-pub replay_owed-requires-clause-owed : goal.replay_owed-requires-clause-owed
-replay_owed-requires-clause-owed c = c.make_room-owed.ensures.owes.within
-
-pub replay_owed-requires-clause-room : goal.replay_owed-requires-clause-room
-replay_owed-requires-clause-room c =
-    let o = c.make_room-owed in let h = o.new.log in let v = caught_up c.args.shared.catalogue.now o.result o.new.node in let a = c.append_only.ensures in
-    let count : length c.append_only.new.replies.outcomes ≡ room_for c.args.records.now h = ap (λ z. length z.outcomes) a.replies ∙ length-replicate (room_for c.args.records.now h) _ in
-    has_room c.args.shared.catalogue.now h c.append_only.new.log o.new.node o.new.node o.result c.args.records.now _ o.ensures.owes a.log (c.first-appended.ensures.first ∙ ap (λ z. take z c.args.records.now) (c.len-count.ensures.count ∙ count)) a.kept
-
-pub replay_owed-requires-clause-fit : goal.replay_owed-requires-clause-fit
-replay_owed-requires-clause-fit c =
-    let o = c.make_room-owed in
-    let i = c.requires.holds in
-    let t = c.in-Some.ensures.taken i.0 i.1 in
-    let b = took_log i.0 t.0 c.args.node.now c.in-Some.held.value c.args.shared.catalogue.now i.2.0 t.1 in
-    let m = (subst (λ w. Learns c.try_take.new.seat c.make_room-owed.new.seat (λ k after. HasPlace k after w c.log_mut-log.result.now c.make_room-owed.new.log (caught_up c.args.shared.catalogue.now c.make_room-owed.result c.make_room-owed.new.node))) c.len-wanted.ensures.len c.make_room-owed.ensures.room) t.0 t.2 in
-    let all = appended_fit i.0 t.0 m.0 c.args.node.now c.log_mut-log.result.now c.make_room-owed.new.log _ c.in-Some.held.value c.args.records.now i.2.0.stands i.2.1 b m.2 in
-    subst (λ z. AllFit z c.first-appended.result) (sym o.ensures.owes.long) (subst (AllFit o.new.log.long) (sym c.first-appended.ensures.first) (fit_taken o.new.log.long c.len-count.result c.args.records.now all))
+pub returns-clause-next : goal.returns-clause-next
+returns-clause-next c = (c.make_room-owed.ensures.owes.next, c.make_room-owed.ensures.owes.within)
 
 pub returns-clause-appended : goal.returns-clause-appended
 returns-clause-appended c k is =
@@ -92,10 +73,10 @@ returns-clause-appended c k is =
     let o = c.make_room-owed in let h = o.new.log in let v = caught_up c.args.shared.catalogue.now o.result o.new.node in let a = c.append_only.ensures in
     let count : length c.append_only.new.replies.outcomes ≡ room_for c.args.records.now h = ap (λ z. length z.outcomes) a.replies ∙ length-replicate (room_for c.args.records.now h) _ in
     let m = (subst (λ w. Learns c.try_take.new.seat c.make_room-owed.new.seat (λ k after. HasPlace k after w c.log_mut-log.result.now c.make_room-owed.new.log (caught_up c.args.shared.catalogue.now c.make_room-owed.result c.make_room-owed.new.node))) c.len-wanted.ensures.len c.make_room-owed.ensures.room) t.0 t.2 in let p = c.put.ensures.put m.0 m.1 in
-    let back = as_copied c.args.shared.catalogue.now h c.append_only.new.log o.new.node c.replay_owed.new.node o.result c.args.records.now _ o.ensures.owes a.log (c.first-appended.ensures.first ∙ ap (λ z. take z c.args.records.now) (c.len-count.ensures.count ∙ count)) c.replay_owed.ensures.node in (
+    let back = as_copied c.args.shared.catalogue.now h c.append_only.new.log o.new.node (brought c.args.shared.catalogue.now (record { owed = o.result; appended = c.first-appended.result }) o.new.node) o.result c.args.records.now _ o.ensures.owes a.log (c.first-appended.ensures.first ∙ ap (λ z. take z c.args.records.now) (c.len-count.ensures.count ∙ count)) refl in (
       _,
       p.2,
-      back_appended k t.0 m.0 n c.log_mut-log.result.now h v c.replay_owed.new.node c.args.records.now c.append_only.new.replies has.1 o.new.seat.sessions m.1 x c.log_mut-log.ensures.log b m.2 c.append_only.new.log
+      back_appended k t.0 m.0 n c.log_mut-log.result.now h v (brought c.args.shared.catalogue.now (record { owed = o.result; appended = c.first-appended.result }) o.new.node) c.args.records.now c.append_only.new.replies has.1 o.new.seat.sessions m.1 x c.log_mut-log.ensures.log b m.2 c.append_only.new.log
           (a.log, back, a.replies, a.within) _ c.in-Some.ensures.place p.0 p.1.0 p.1.1 _ (adds_on m.0 _ _ _ _ p.3),
     )
 
@@ -107,13 +88,13 @@ returns-clause-goes c k after is now batch same =
     let o = c.make_room-owed in let h = o.new.log in let v = caught_up c.args.shared.catalogue.now o.result o.new.node in let a = c.append_only.ensures in
     let count : length c.append_only.new.replies.outcomes ≡ room_for c.args.records.now h = ap (λ z. length z.outcomes) a.replies ∙ length-replicate (room_for c.args.records.now h) _ in
     let m = (subst (λ w. Learns c.try_take.new.seat c.make_room-owed.new.seat (λ k after. HasPlace k after w c.log_mut-log.result.now c.make_room-owed.new.log (caught_up c.args.shared.catalogue.now c.make_room-owed.result c.make_room-owed.new.node))) c.len-wanted.ensures.len c.make_room-owed.ensures.room) t.0 t.2 in let p = c.put.ensures.put m.0 m.1 in
-    let there = as_copied c.args.shared.catalogue.now h c.append_only.new.log o.new.node c.replay_owed.new.node o.result c.args.records.now _ o.ensures.owes a.log (c.first-appended.ensures.first ∙ ap (λ z. take z c.args.records.now) (c.len-count.ensures.count ∙ count)) c.replay_owed.ensures.node in
-    let done = back_appended k t.0 m.0 n f h v c.replay_owed.new.node c.args.records.now c.append_only.new.replies has.1 o.new.seat.sessions m.1 x c.log_mut-log.ensures.log b m.2 c.append_only.new.log
+    let there = as_copied c.args.shared.catalogue.now h c.append_only.new.log o.new.node (brought c.args.shared.catalogue.now (record { owed = o.result; appended = c.first-appended.result }) o.new.node) o.result c.args.records.now _ o.ensures.owes a.log (c.first-appended.ensures.first ∙ ap (λ z. take z c.args.records.now) (c.len-count.ensures.count ∙ count)) refl in
+    let done = back_appended k t.0 m.0 n f h v (brought c.args.shared.catalogue.now (record { owed = o.result; appended = c.first-appended.result }) o.new.node) c.args.records.now c.append_only.new.replies has.1 o.new.seat.sessions m.1 x c.log_mut-log.ensures.log b m.2 c.append_only.new.log
     (a.log, there, a.replies, a.within) _ c.in-Some.ensures.place p.0 p.1.0 p.1.1 _ (adds_on m.0 _ _ _ _ p.3) in
-    let back = back_log k t.0 m.0 n f h v c.replay_owed.new.node c.args.records.now c.append_only.new.replies has.1 o.new.seat.sessions m.1 x c.log_mut-log.ensures.log b m.2 c.append_only.new.log
+    let back = back_log k t.0 m.0 n f h v (brought c.args.shared.catalogue.now (record { owed = o.result; appended = c.first-appended.result }) o.new.node) c.args.records.now c.append_only.new.replies has.1 o.new.seat.sessions m.1 x c.log_mut-log.ensures.log b m.2 c.append_only.new.log
     (a.log, there, a.replies, a.within) _ c.in-Some.ensures.place p.0 p.1.0 p.1.1 _ (adds_on m.0 _ _ _ _ p.3) in
     let room = (subst (λ w. Relates c.try_take.new.seat c.make_room-owed.new.seat (λ k after. MakesRoom w k after c.log_mut-log.result.now c.make_room-owed.new.log c.args.node.now (caught_up c.args.shared.catalogue.now c.make_room-owed.result c.make_room-owed.new.node))) c.len-wanted.ensures.len c.make_room-owed.ensures.goes) t.0 m.0 t.2 m.1 in
-    subst (λ z. AppendsBy k z batch n c.replay_owed.new.node c.append_only.new.replies) (one_known c.put.new.seat _ after p.2 now)
-    (appends_by k t.0 m.0 _ f h c.append_only.new.log n v c.replay_owed.new.node c.args.records.now c.append_only.new.replies b.extends (b.log f c.log_mut-log.ensures.log) room
+    subst (λ z. AppendsBy k z batch n (brought c.args.shared.catalogue.now (record { owed = o.result; appended = c.first-appended.result }) o.new.node) c.append_only.new.replies) (one_known c.put.new.seat _ after p.2 now)
+    (appends_by k t.0 m.0 _ f h c.append_only.new.log n v (brought c.args.shared.catalogue.now (record { owed = o.result; appended = c.first-appended.result }) o.new.node) c.args.records.now c.append_only.new.replies b.extends (b.log f c.log_mut-log.ensures.log) room
     (may t.0 m.0 f h v c.args.records.now m.2) a.log there a.replies back.0 back.1.completed done.stands
     x c.log_mut-log.ensures.log b.steps _ c.in-Some.ensures.place (refl, adds_on m.0 _ _ _ _ p.3) batch same)

@@ -2,8 +2,6 @@ use Rattle.std.proofs.Common.{◌≡◌, ℕ, ◌≤◌, ◌++◌, [], length, t
 use Rattle.std.proofs.lemmas.List.{length-map}
 use Rattle.loader.specs.CatalogueView.{CatalogueView}
 use Rattle.verifier.specs.declared.refusal.Mode.TheVariants.{Update}
-use Rattle.ownlock.specs.Seats.{At}
-use Rattle.store_steps.specs.declared.pipelines.Member.{Member}
 use Rattle.store_steps.specs.Pipelines.{AreMembers, MayAskAt}
 use Rattle.store_steps.specs.Questions.{MayAskEach}
 use Rattle.store_steps.specs.EachMember.{AscendEach}

@@ -1,6 +1,6 @@
 use Rattle.std.proofs.Common.{sym, ap, subst, ◌∙◌}
 use Rattle.std.proofs.lemmas.Option.{same_Some}
-use Rattle.store_steps.specs.Stages.{HasDone}
+use Rattle.store_steps.specs.Stages.{HasDone, IsPolled}
 use Rattle.store_steps.specs.Views.{SessionView, session_view}
 use Rattle.store.specs.Sessions.{IsOf}
 use Rattle.store.proofs.Between.{goes_on, known_at, on_at, out_at, room_on}
@@ -9,48 +9,45 @@ use Rattle.store_steps.proofs.Export.{go_deeds}
 use Rattle.store.proofs.Invoked.{goes_seen}
 use Rattle.store.proofs.polled.Polled.deed.Goals as goal
 
--- ---- by four takes
+-- ---- the answers are handed over, and are had in the same hold
 
-pub go_on_at_once-requires-clause-on : goal.go_on_at_once-requires-clause-on
-go_on_at_once-requires-clause-on c =
+pub give_and_turn-requires-clause-on : goal.give_and_turn-requires-clause-on
+give_and_turn-requires-clause-on c =
     let s = c.self.inside in
     let own = subst (λ z. IsOf c.args.store.now z) (sym c.self.view_is) c.requires.own in
     let shared = c.shared-shared in
     on_at s.seat s.caller s.batch s.replies shared.result c.args.store.now s.stage c.self.invariant.0 own shared.ensures.places shared.ensures.nodes shared.ensures.catalogue
 
-pub go_on_at_once-requires-clause-out : goal.go_on_at_once-requires-clause-out
-go_on_at_once-requires-clause-out c =
-    let s = c.self.inside in
-    out_at s.seat s.caller s.batch s.replies s.stage c.self.invariant.0 c.requires.asked.0 (ap (λ (z : SessionView). z.note.pending) c.self.view_is ∙ c.requires.asked.1)
-
 pub invariant_of-self : goal.invariant_of-self
 invariant_of-self c =
-    let h = c.go_on_at_once.ensures.gone in
-    (h.polled, room_on c.self.inside.seat c.go_on_at_once.new.seat c.self.inside.room h.extends c.self.invariant.1)
+    let h = c.give_and_turn.ensures.gone in
+    (h.polled, room_on c.self.inside.seat c.give_and_turn.new.seat c.self.inside.room h.extends c.self.invariant.1)
 
-pub go_on_at_once-requires-clause-polled : goal.go_on_at_once-requires-clause-polled
-go_on_at_once-requires-clause-polled c = c.self.invariant.0
+pub give_and_turn-requires-clause-polled : goal.give_and_turn-requires-clause-polled
+give_and_turn-requires-clause-polled c =
+    let s = c.self.inside in
+    subst (IsPolled s.seat s.caller s.batch s.replies) c.in-Ready.is c.self.invariant.0
 
-pub returns-then-at_once-clause-session : goal.returns-then-at_once-clause-session
-returns-then-at_once-clause-session c =
-    let h = c.go_on_at_once.ensures.gone in
-    goes_on c.args.store.now (session_view c.self.inside.seat) c.args.self.now (session_view c.go_on_at_once.new.seat) c.self.view_is c.requires.own c.go_on_at_once.ensures.same h.session h.extends h.well_formed
+pub returns-in-Ready-clause-session : goal.returns-in-Ready-clause-session
+returns-in-Ready-clause-session c =
+    let h = c.give_and_turn.ensures.gone in
+    goes_on c.args.store.now (session_view c.self.inside.seat) c.args.self.now (session_view c.give_and_turn.new.seat) c.self.view_is c.requires.own c.give_and_turn.ensures.same h.session h.extends h.well_formed
 
-pub returns-then-at_once-clause-done : goal.returns-then-at_once-clause-done
-returns-then-at_once-clause-done c o is =
-    let h = c.go_on_at_once.ensures.gone in
-    let new = session_view c.go_on_at_once.new.seat in
+pub returns-in-Ready-clause-done : goal.returns-in-Ready-clause-done
+returns-in-Ready-clause-done c o is =
+    let h = c.give_and_turn.ensures.gone in
+    let new = session_view c.give_and_turn.new.seat in
     let e = same_Some h.request o (sym h.waited ∙ (ap (λ (z : SessionView). z.note.pending) c.self.view_is ∙ is)) in
-    subst (λ z. HasDone c.args.self.now new z c.go_on_at_once.result) e (subst (λ (z : SessionView). HasDone z new h.request c.go_on_at_once.result) c.self.view_is h.done)
+    subst (λ z. HasDone c.args.self.now new z c.give_and_turn.result) e (subst (λ (z : SessionView). HasDone z new h.request c.give_and_turn.result) c.self.view_is h.done)
 
-pub returns-then-at_once-clause-goes : goal.returns-then-at_once-clause-goes
-returns-then-at_once-clause-goes c =
+pub returns-in-Ready-clause-goes : goal.returns-in-Ready-clause-goes
+returns-in-Ready-clause-goes c =
     let s = c.self.inside in
     let k = known_at s.seat s.caller s.batch s.replies s.stage c.self.invariant.0 in
-    let f = known_at c.go_on_at_once.new.seat s.caller c.go_on_at_once.new.batch c.go_on_at_once.new.replies c.go_on_at_once.new.stage c.go_on_at_once.ensures.gone.polled in
-    goes_seen (λ x y. DeedsGo x y c.go_on_at_once.result) s.seat c.go_on_at_once.new.seat c.args.self.now k.0 f.0 k.1 k.3 c.self.view_is f.1 f.3 (c.go_on_at_once.ensures.goes k.0 f.0 k.1 f.1)
+    let f = known_at c.give_and_turn.new.seat s.caller c.give_and_turn.new.batch s.replies c.give_and_turn.new.stage c.give_and_turn.ensures.gone.polled in
+    goes_seen (λ x y. DeedsGo x y c.give_and_turn.result) s.seat c.give_and_turn.new.seat c.args.self.now k.0 f.0 k.1 k.3 c.self.view_is f.1 f.3 (c.give_and_turn.ensures.goes k.0 f.0 k.1 f.1)
 
--- ---- by six
+-- ---- any other deed
 
 pub go_on-requires-clause-on : goal.go_on-requires-clause-on
 go_on-requires-clause-on c =

@@ -4,10 +4,8 @@ use Rattle.oplog.specs.declared.configuration.Sizes.{Sizes}
 use Rattle.oplog.specs.declared.configuration.TheConstants.{MAX_NODES}
 use Rattle.store.specs.Sessions.{TellsUpdate}
 use Rattle.store_steps.proofs.Export.{seen_as}
-use Rattle.store_steps.specs.Asking.{SessionPosts}
-use Rattle.store_steps.specs.AtOnce.{AsksAtOnce}
 use Rattle.store_steps.specs.Views.{SessionView, session_view}
-use Rattle.store_steps.specs.Updating.{PostsBy, UpdatesBy}
+use Rattle.store_steps.specs.Updating.{UpdatesBy}
 use Rattle.store.proofs.Invoked.{goes_on, goes_seen, has_asked, has_grown, invoked, is_idle, may_ask, tells_update}
 use Rattle.store.proofs.session.Session.perform.Goals as goal
 

@@ -6,12 +6,12 @@ use Rattle.oplog.specs.History.{after}
 use Rattle.replica.specs.Grounds.{state_in}
 use Rattle.replica.specs.StoreMeaning.{store_meaning}
 use Rattle.replica.specs.Replaying.{KeepsOutcomes}
-use Rattle.replica.proofs.operations.perform_first.Given as goal
+use Rattle.replica.proofs.operations.perform_each.Given as goal
 
 abbrev pub invariant-loop-k : goal.invariant-loop-k
 invariant-loop-k l = record {
   shapes : HasShapes l.catalogue.shapes (maps_of l.on.maps);
   sizes : (l.on.programs.shapes ≡ l.fn.on.programs.shapes) × (l.on.programs.places ≡ l.fn.on.programs.places);
-  state : state_in l.on ≡ after store_meaning l.catalogue (state_in l.fn.on) (take l.k l.hand.records);
-  kept : KeepsOutcomes l.catalogue (state_in l.fn.on) l.hand.begin (take l.k l.hand.records) l.fn.replies l.replies;
+  state : state_in l.on ≡ after store_meaning l.catalogue (state_in l.fn.on) (take l.k l.records);
+  kept : KeepsOutcomes l.catalogue (state_in l.fn.on) l.first (take l.k l.records) l.fn.replies l.replies;
 }
