@@ -17,17 +17,18 @@ brought c due n = with_more due.appended (replayed_first c due.owed n)
 abbrev pub IsDue : CatalogueView → Due → NodeReplica → SessionKnown → Type 0
 IsDue c due n k = HasOthers k.progress (brought c due n) × Stands k × (k.progress.catalogue ≡ c)
 
--- the log was taken and put back with these records, which is due at the node
+-- the session has appended these records, and that is due at the node n
 abbrev pub HasDue : CatalogueView → Due → NodeReplica → History → RepliesView → SessionKnown → SessionKnown → Type 0
 HasDue c due n records kept k after = HasAppended k after records kept (brought c due n)
 
--- the node n was one, and is m, where that is due
+-- the same, as steps of its node: that was n, and is m
 abbrev pub AppendsDue : CatalogueView → Due → (n m : NodeReplica) → History → RepliesView → SessionKnown → SessionKnown → Type 0
 AppendsDue c due n m records kept k after = AppendsAny k after records n (brought c due m) kept
 
--- what was due at the node n is replayed, and the node is m
+-- what was due at the node n is replayed, and the node is m then
 abbrev pub HasReplayedDue : CatalogueView → Due → (n m : NodeReplica) → (old new : RepliesView) → SessionKnown → SessionKnown → Type 0
 HasReplayedDue c due n m old new k after = HasReplayed k after (brought c due n) m old new
 
+-- the same, as steps of the node
 abbrev pub ReplaysDue : CatalogueView → Due → (n m : NodeReplica) → (old new : RepliesView) → SessionKnown → SessionKnown → Type 0
 ReplaysDue c due n m old new k after = ReplaysAnywhere k after (brought c due n) m old new
