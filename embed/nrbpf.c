@@ -14,12 +14,16 @@ uint32_t nrbpf_version(void) {
     return NRBPF_VERSION;
 }
 
-// The bytes of a configuration of a host with a header of this version: before 2001 it has no limits, and before 2005 none of arguments.
+// The bytes of a configuration of a host with a header of this version: before 2001 it has no limits, before 2005 none of arguments, and before
+// 2006 no long programs.
 static size_t size_of_config(uint32_t version) {
     if (version < 2001) {
         return offsetof(nrbpf_config, limits);
     }
-    return version < 2005 ? offsetof(nrbpf_config, limits.argument) : sizeof(nrbpf_config);
+    if (version < 2005) {
+        return offsetof(nrbpf_config, limits.argument);
+    }
+    return version < 2006 ? offsetof(nrbpf_config, long_bytes) : sizeof(nrbpf_config);
 }
 
 nrbpf_status nrbpf_config_init(nrbpf_config *config, uint32_t version, uint32_t nodes, uint32_t slots) {
@@ -98,17 +102,22 @@ static uint32_t number_or(uint64_t number, uint32_t standard) {
     return number ? (uint32_t)number : standard;
 }
 
-// How large maps and arguments may be. What the host's header does not have is 0 here.
-static struct nrbpf_raw_limits limits_of(const nrbpf_config *config) {
+// The configuration. What the host's header does not have is 0 here.
+static nrbpf_config whole_config(const nrbpf_config *config) {
+    nrbpf_config whole = NRBPF_CONFIG(0, 0);
+    memcpy(&whole, config, size_of_config(config->version));
+    return whole;
+}
+
+// How large maps and arguments may be.
+static struct nrbpf_raw_limits limits_of(const nrbpf_limits *given) {
     const nrbpf_limits standard = NRBPF_STANDARD;
-    nrbpf_config given = NRBPF_CONFIG(0, 0);
     struct nrbpf_raw_limits limits;
-    memcpy(&given, config, size_of_config(config->version));
-    limits.key = number_or(given.limits.key, standard.key);
-    limits.value = number_or(given.limits.value, standard.value);
-    limits.entries = number_or(given.limits.entries, (uint32_t)standard.entries);
-    limits.bytes = given.limits.bytes ? given.limits.bytes : standard.bytes;
-    limits.argument = number_or(given.limits.argument, standard.argument);
+    limits.key = number_or(given->key, standard.key);
+    limits.value = number_or(given->value, standard.value);
+    limits.entries = number_or(given->entries, (uint32_t)standard.entries);
+    limits.bytes = given->bytes ? given->bytes : standard.bytes;
+    limits.argument = number_or(given->argument, standard.argument);
     return limits;
 }
 
@@ -131,15 +140,17 @@ static nrbpf_status prepared(const struct texts *given, struct nrbpf_raw_opening
         files[i].name = lent(given->files[i].name, given->files[i].name_len);
         files[i].text = lent(given->files[i].text, given->files[i].text_len);
     }
+    const nrbpf_config config = whole_config(given->config);
     opening->manifest = lent(given->manifest, given->manifest_len);
     opening->files = files;
     opening->count = given->count;
-    opening->nodes = given->config->nodes;
-    opening->slots = given->config->slots;
-    opening->window = given->config->window;
-    opening->limit = given->config->limit;
-    opening->spare = given->config->spare;
-    opening->limits = limits_of(given->config);
+    opening->nodes = config.nodes;
+    opening->slots = config.slots;
+    opening->window = config.window;
+    opening->limit = config.limit;
+    opening->spare = config.spare;
+    opening->long_bytes = config.long_bytes;
+    opening->limits = limits_of(&config.limits);
     return NRBPF_OK;
 }
 
@@ -390,7 +401,7 @@ nrbpf_status nrbpf_detach(nrbpf_session *session) {
 }
 
 nrbpf_status nrbpf_store_info(nrbpf_store *store, nrbpf_store_facts *out, size_t size) {
-    struct nrbpf_raw_facts raw = {0, 0, 0, 0, 0, 0, 0};
+    struct nrbpf_raw_facts raw = {0, 0, 0, 0, 0, 0, 0, 0};
     if (!store || !out) {
         return NRBPF_H7;
     }
@@ -407,6 +418,7 @@ nrbpf_status nrbpf_store_info(nrbpf_store *store, nrbpf_store_facts *out, size_t
         facts.spare = (uint32_t)raw.spare;
         facts.maps = (uint32_t)raw.maps;
         facts.programs = (uint32_t)raw.programs;
+        facts.long_bytes = (uint32_t)raw.long_bytes;
         put_facts(out, size, &facts, sizeof facts);
     }
     return status;

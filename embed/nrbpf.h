@@ -67,7 +67,7 @@ typedef struct nrbpf_state nrbpf_state;
 // The major number changes if a host has to be changed or compiled again. The
 // minor number changes if something is added.
 #define NRBPF_VERSION_MAJOR 2u
-#define NRBPF_VERSION_MINOR 5u
+#define NRBPF_VERSION_MINOR 6u
 #define NRBPF_VERSION (NRBPF_VERSION_MAJOR * 1000u + NRBPF_VERSION_MINOR)
 
 // Answers the version of the library. [any]
@@ -81,8 +81,9 @@ uint32_t nrbpf_version(void);
 // H2, H3 or H11, H5, H7 of a pointer in a list, then the others. A refused call
 // changes nothing, except that before S4 other updates may have gone in, also
 // of the same list, and before H10 the writer may have had parts of the text.
-// The statuses 1 and 2 have no letter and are no refusals. Only nrbpf_poll, nrbpf_poll_each and calls with `try_` in their name
-// answer these: they have no answer yet.
+// The statuses 1 and 2 have no letter and are no refusals. Only nrbpf_poll,
+// nrbpf_poll_each and calls with `try_` in their name answer these: they have
+// no answer yet.
 typedef uint32_t nrbpf_status;
 #define NRBPF_REFUSAL(letter, number) ((nrbpf_status)(letter) << 8 | (nrbpf_status)(number))
 
@@ -142,7 +143,8 @@ enum {
     NRBPF_O1 = 'O' << 8 | 1, NRBPF_OUT_OF_LIMITS = NRBPF_O1,
     // There is no memory for the store or the state.
     NRBPF_O2, NRBPF_NO_MEMORY = NRBPF_O2,
-    // The state has other maps, or more programs than there are places.
+    // The state has other maps, or more or longer programs than there is room
+    // for.
     NRBPF_O3, NRBPF_OTHER_STATE = NRBPF_O3,
 
     // A call on a store
@@ -195,8 +197,8 @@ enum {
     NRBPF_H7, NRBPF_NULL_POINTER = NRBPF_H7,
     // The host was compiled with a header that this library does not know.
     NRBPF_H8, NRBPF_OTHER_VERSION = NRBPF_H8,
-    // snapshot: the state has other maps than the store, or another number of
-    // places.
+    // snapshot: the state has other maps than the store, another number of
+    // places, or other `long_bytes`.
     NRBPF_H9, NRBPF_OTHER_SIZES = NRBPF_H9,
     // state_dump: the host's writer stopped.
     NRBPF_H10, NRBPF_STOPPED = NRBPF_H10,
@@ -231,8 +233,8 @@ size_t nrbpf_error_text(const nrbpf_error *why, char *text, size_t room);
 // ---- A store
 
 // How large the maps of a manifest and the arguments of its programs may be. A
-// number that is 0 means that of NRBPF_STANDARD. A host that loads the manifests
-// of others may set smaller numbers.
+// number that is 0 means that of NRBPF_STANDARD. A host that loads the
+// manifests of others may set smaller numbers.
 typedef struct nrbpf_limits {
     // The most bytes of a key: 4 to 64.
     uint32_t key;
@@ -265,9 +267,17 @@ typedef struct nrbpf_config {
     // How large maps and arguments may be. The library reads it if `version` is
     // 2001 or more, and its member `argument` if `version` is 2005 or more.
     nrbpf_limits limits;
+    // The most bytes of an installed program, and of its argument, if that is
+    // more than the 192 and 64 that each may have: up to 16384, which are 2048
+    // slots. The log and each node keep so many bytes for each update of the
+    // window. If `window` times `long_bytes` is 4 GiB or more, that is O2. With
+    // 2048 slots, each spare place takes 127 KB in the log and in each node.
+    // The log, each node and each session take about 1 MB more. The library
+    // reads it if `version` is 2006 or more.
+    uint32_t long_bytes;
 } nrbpf_config;
 #define NRBPF_ENDLESS 0
-#define NRBPF_CONFIG(nodes, slots) {NRBPF_VERSION, (nodes), (slots), 4096, NRBPF_ENDLESS, 0, {0, 0, 0, 0, 0}}
+#define NRBPF_CONFIG(nodes, slots) {NRBPF_VERSION, (nodes), (slots), 4096, NRBPF_ENDLESS, 0, {0, 0, 0, 0, 0}, 0}
 
 // Fills in what NRBPF_CONFIG does, for languages without macros. `version` is
 // the NRBPF_VERSION of the header that the host was made for. Refuses with H7.
@@ -295,7 +305,9 @@ NRBPF_MUST_LOOK nrbpf_status nrbpf_open(
 // and other stores may open on it too. The new history begins at point 0.
 // Refuses as nrbpf_open does. Also refuses with O3 if the manifest has other
 // maps than the state, or if the configuration has fewer spare places than the
-// state has programs. [any], with no other call on this state at the same time.
+// state has programs. A program of the state that is longer than `long_bytes`
+// allows is O3 too, and so is a longer argument. [any], with no other call on
+// this state at the same time.
 NRBPF_MUST_LOOK nrbpf_status nrbpf_open_on(
     const nrbpf_config *config, const char *manifest, size_t manifest_len,
     const nrbpf_file *files, size_t count, const nrbpf_state *state,
@@ -357,9 +369,10 @@ NRBPF_MUST_LOOK nrbpf_status nrbpf_read(
 
 // Adds a program to the running store. Waits as nrbpf_update does. The reply is
 // its number from then on, or NRBPF_REPLY_NO_ROOM if no spare place is left. It
-// has at most 192 bytes, which are 24 slots, and an argument of at most 64 (S6).
-// Refuses with S4, S6 to S8, H2, H3, H5 and H7. Then *why says more, unless
-// `why` is null. [session]
+// has at most 192 bytes, which are 24 slots, and an argument of at most 64, or
+// as many of both as the configuration's `long_bytes` (S6). Refuses with S4, S6
+// to S8, H2, H3, H5 and H7. Then *why says more, unless `why` is null.
+// [session]
 NRBPF_MUST_LOOK nrbpf_status nrbpf_install(
     nrbpf_session *session, uint32_t mode, uint32_t argument_len,
     const void *bytes, size_t len, nrbpf_answer *out, nrbpf_error *why);
@@ -606,6 +619,9 @@ typedef struct nrbpf_store_facts {
     // How many programs the manifest has. The numbers of the spare places come
     // after theirs.
     uint32_t programs;
+    // As nrbpf_config has it: the most bytes of an installed program, and of
+    // its argument, if that is more than the 192 and 64 that each may have.
+    uint32_t long_bytes;
 } nrbpf_store_facts;
 
 // Says what a store is from its opening on. Refuses with H7. [any]
@@ -678,20 +694,21 @@ NRBPF_MUST_LOOK nrbpf_status nrbpf_try_snapshot(
 typedef int nrbpf_writer(void *to, const char *bytes, size_t len);
 
 // Dumps a state as the text that `nrbpf run --dump` writes and `--load` takes.
-// Hands it to `write` in parts of at most 16,384 bytes. Before the first part it
-// takes 4 bytes for each key of the state, and 40 KiB more. It never has the
-// whole text in memory. No store is blocked. `write` may make calls, but none on
-// this state. Refuses with E0 if there is no memory, and with H7. As soon as
-// `write` does not answer 0, refuses with H10. [any], with no other call on this
-// state at the same time.
+// Hands it to `write` in parts of at most 16,384 bytes. Before the first part
+// it takes 4 bytes for each key of the state, and 40 KiB more. It never has the
+// whole text in memory. No store is blocked. `write` may make calls, but none
+// on this state. Refuses with E0 if there is no memory, and with H7. As soon as
+// `write` does not answer 0, refuses with H10. [any], with no other call on
+// this state at the same time.
 NRBPF_MUST_LOOK nrbpf_status nrbpf_state_dump(
     const nrbpf_state *state, nrbpf_writer *write, void *to);
 
 // Makes the state that a dump describes, for stores of this manifest with
 // `config->spare` places. An empty text gives the state of a new store.
-// nrbpf_open_on takes the state. Refuses with C1 to C6, E0 to E9, O1 (of
-// `spare` or `limits`), O2, H4, H7 and H8. Then *why says where, unless `why`
-// is null. [any]
+// nrbpf_open_on takes the state. A program's line is E1 if the program or its
+// argument is longer than `long_bytes` allows. Refuses with C1 to C6, E0 to E9,
+// O1 (of `spare`, `long_bytes` or `limits`), O2, H4, H7 and H8. Then *why says
+// where, unless `why` is null. [any]
 NRBPF_MUST_LOOK nrbpf_status nrbpf_state_load(
     const nrbpf_config *config, const char *manifest, size_t manifest_len,
     const nrbpf_file *files, size_t count, const char *text, size_t len,

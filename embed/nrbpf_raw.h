@@ -35,7 +35,7 @@ enum {
     NRBPF_RAW_H4,           /* a text is not UTF-8: the manifest, a file, its name, the name of a program, or the text of a state */
     NRBPF_RAW_H5,           /* a word is no call's: `call` above 5, `mode` above 1; read_each: more than 16 questions, or another number of replies */
     NRBPF_RAW_H6,           /* detach: the session's place is not empty here; close_into: a part of the store is elsewhere, and it is ended */
-    NRBPF_RAW_H9 = 'H' << 8 | 9 /* snapshot: the state has other maps, or another number of places for programs, than the store */
+    NRBPF_RAW_H9 = 'H' << 8 | 9 /* snapshot: the state has other maps, or another number of places for programs, or takes longer or shorter ones, than the store */
 };
 
 /* ---- what is passed in */
@@ -53,6 +53,7 @@ struct nrbpf_raw_opening {
     struct nrbpf_raw_bytes manifest;
     const struct nrbpf_raw_file *files; size_t count;
     uint32_t nodes, slots, window, limit, spare;    /* O1 has their limits; a limit of 0 is none */
+    uint32_t long_bytes;                            /* the most bytes of an installed program, and of its argument, where that is more than 192 and 64 */
     struct nrbpf_raw_limits limits;
 };
 
@@ -160,6 +161,7 @@ struct nrbpf_raw_program {
 struct nrbpf_raw_facts {
     uint64_t nodes, slots, window, limit, spare; /* as the store was opened; limit 2^62 is no end */
     uint64_t maps, programs;                    /* how many it has; programs of the manifest alone */
+    uint64_t long_bytes;                        /* as the store was opened */
 };
 
 /* What a store had done at one moment: memory of the host's, all of which is written before it is passed in. */
@@ -276,7 +278,7 @@ void nrbpf_raw_part(struct nrbpf_raw_text *text, uint8_t *out, size_t room);
 void nrbpf_raw_drop_text(struct nrbpf_raw_text *text, struct nrbpf_raw_state *state);
 
 /* Loads the state that a text describes, for stores of the opening's manifest with `spare` places, and writes its handle into the room at `state`. Of the
- * opening only manifest, files, `spare` and `limits` count. Statuses, in the state's handle: 0, H4, C1 to C6, O1 (of `spare` or `limits`), E0 to E9. With
+ * opening only manifest, files, `spare`, `long_bytes` and `limits` count. Statuses, in the state's handle: 0, H4, C1 to C6, O1 (of these numbers), E0 to E9. With
  * any but 0 the handle has no state, and its memory is as good as room. */
 void nrbpf_raw_load(const struct nrbpf_raw_opening *opening, const uint8_t *text, size_t length, struct nrbpf_raw_state *state);
 

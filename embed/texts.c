@@ -30,7 +30,7 @@ static const struct text texts[] = {
     {NRBPF_E9, "E9: there are more programs than places"},
     {NRBPF_O1, "O1: a number of the configuration is out of its limits"},
     {NRBPF_O2, "O2: no memory for the store or the state"},
-    {NRBPF_O3, "O3: the state has other maps, or more programs than there are places"},
+    {NRBPF_O3, "O3: the state has other maps, or more or longer programs than there is room for"},
     {NRBPF_S1, "S1: unknown program"},
     {NRBPF_S2, "S2: the argument has another length"},
     {NRBPF_S3, "S3: the program has another mode"},

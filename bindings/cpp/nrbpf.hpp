@@ -114,6 +114,7 @@ struct config : nrbpf_config {
     config &with_limit(std::uint32_t count) noexcept { return limit = count, *this; }
     config &with_spare(std::uint32_t count) noexcept { return spare = count, *this; }
     config &with_limits(const nrbpf_limits &most) noexcept { return limits = most, *this; }
+    config &with_long_bytes(std::uint32_t count) noexcept { return long_bytes = count, *this; }
 };
 
 // Which maps a store has and which programs it offers: a text (docs/FORMATS.md), and the program files that it names.
@@ -192,8 +193,12 @@ public:
 
     // The state that a dump describes, for stores of this manifest with so many spare places and these limits. An empty dump is that of a new store.
     static state load(const manifest &of, std::string_view dump, std::uint32_t spare = 0, const nrbpf_limits &limits = {}) {
+        return load(of, dump, config().with_spare(spare).with_limits(limits));
+    }
+
+    // The same for stores with the `spare`, the `limits` and the `long_bytes` of these sizes.
+    static state load(const manifest &of, std::string_view dump, const config &sizes) {
         const auto files = of.native();
-        const config sizes = config().with_spare(spare).with_limits(limits);
         nrbpf_state *out = nullptr;
         nrbpf_error why{};
         detail::check(nrbpf_state_load(&sizes, of.text().data(), of.text().size(), files.data(), files.size(), dump.data(), dump.size(), &out, &why), why);

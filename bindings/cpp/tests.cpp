@@ -116,7 +116,7 @@ static void header() {
     const nrbpf_config wanted = config(2, 4);
     EXPECT(nrbpf_version() / 1000 == NRBPF_VERSION_MAJOR);
     const std::size_t end = offsetof(nrbpf_config, limits.argument) + sizeof told.limits.argument;
-    EXPECT(nrbpf_config_init(&told, NRBPF_VERSION, 2, 4) == NRBPF_OK && std::memcmp(&told, &wanted, end) == 0);
+    EXPECT(nrbpf_config_init(&told, NRBPF_VERSION, 2, 4) == NRBPF_OK && std::memcmp(&told, &wanted, end) == 0 && told.long_bytes == wanted.long_bytes);
     EXPECT(std::string(nrbpf_status_text(NRBPF_FULL)).rfind("S4: ", 0) == 0);
 }
 
@@ -376,7 +376,7 @@ static void refused_manifests() {
     REFUSED(open(with("map array 256 65536\nmap array 1 1\n")), NRBPF_TOO_MUCH, 0, 2);
     REFUSED(open(with("map array \xff 16\n")), NRBPF_NOT_UTF8);
     const config wrong[] = {config(0),    config(9), config(1, 0), config(1, 17), config().with_window(15), config().with_window(1048577),
-                            config().with_spare(4097)};
+                            config().with_spare(4097), config().with_long_bytes(16385)};
     for (const config &sizes : wrong) REFUSED(nrbpf::store(example("counter"), sizes), NRBPF_OUT_OF_LIMITS);
     REFUSED(open(with("map hash 8 8 65537\n")), NRBPF_BAD_LINE, 0, 1);
     nrbpf::store(with("map hash 8 8 65537\n"), config().with_limits(NRBPF_LARGE));
@@ -481,15 +481,73 @@ static void long_arguments() {
     REFUSED(lane.update_each({{0, longer}}), NRBPF_ARGUMENT_LENGTH);
 }
 
+// A program of so many slots that replies 5.
+static std::string five_in(std::size_t slots) {
+    const std::string whole = string_of(five);
+    std::string code;
+    for (std::size_t k = 1; k < slots; k++) code += whole.substr(0, 8);
+    return code + whole.substr(8);
+}
+
+// A node has what another has installed, and so have stores that go on from its state and from its dump.
+static void long_programs() {
+    const config sizes = config(2, 1).with_window(16).with_spare(2).with_long_bytes(16384);
+    const std::uint8_t last[] = {0x79, 0x10, 0xf8, 0x3f, 0, 0, 0, 0, 0x95, 0, 0, 0, 0, 0, 0, 0};
+    const std::string longest = five_in(2048), argument = std::string(16383, '\0') + '\7';
+    const std::uint64_t tail = std::uint64_t{7} << 56;
+    nrbpf::store store(example("counter"), sizes);
+    {
+        auto one = store.attach(0), other = store.attach(1);
+        ANSWER(one.install(nrbpf::mode::read, 0, longest), 0, 2);
+        ANSWER(tried(other, [&] { return other.try_install(nrbpf::mode::update, 16384, last); }), 1, 3);
+        for (std::uint64_t point = 2; point < 200; point += 2) {
+            ANSWER(other.read(2), point, 5);
+            ANSWER(one.update(3, argument), point, tail);
+            ANSWER(tried(one, [&] { return one.try_install_within({}, nrbpf::mode::read, 0, longest); }), point + 1, NRBPF_REPLY_NO_ROOM);
+        }
+        EXPECT(other.program_info(2).slots == 2048 && one.program_info(3).argument_len == 16384);
+    }
+    const std::string text = "p read 0 " + hex(longest) + "\np update 16384 " + last_hex + "\n";
+    const auto ended = std::move(store).close_into(), loaded = nrbpf::state::load(example("counter"), text, sizes);
+    for (const nrbpf::state *on : {&ended, &loaded}) {
+        EXPECT(on->dump() == text);
+        const nrbpf::store next(example("counter"), sizes, *on);
+        for (std::uint32_t node : {0u, 1u}) {
+            auto session = next.attach(node);
+            EXPECT(session.read(2).reply == 5 && session.update(3, argument).reply == tail);
+        }
+    }
+    const config fewer = config(2, 1).with_window(16).with_spare(2).with_long_bytes(16383);
+    REFUSED(nrbpf::store(example("counter"), fewer, ended), NRBPF_OTHER_STATE);
+    REFUSED(nrbpf::state::load(example("counter"), text, fewer), NRBPF_BAD_DUMP_LINE, 0, 1);
+    REFUSED(nrbpf::state::load(example("counter"), "", config().with_long_bytes(16385)), NRBPF_OUT_OF_LIMITS);
+}
+
+// One slot too many, and one byte too many of an argument, by how much a store allows.
+static void long_installs() {
+    const std::array<std::uint32_t, 3> allowed[] = {{0, 24, 64}, {100, 24, 100}, {200, 25, 200}, {16384, 2048, 16384}};
+    for (const auto &[long_bytes, slots, length] : allowed) {
+        counter it(config().with_window(16).with_spare(1).with_long_bytes(long_bytes));
+        const std::string program = five_in(slots), longer = five_in(slots + 1), given(length, '\0');
+        const std::uint32_t past = length + 1;
+        REFUSED(it.session.install(nrbpf::mode::read, 0, longer), NRBPF_TOO_LARGE);
+        REFUSED(it.session.try_install(nrbpf::mode::read, past, five), NRBPF_TOO_LARGE);
+        REFUSED(it.session.update(2, given + '\0'), NRBPF_ARGUMENT_LENGTH);
+        REFUSED(it.session.read(2, given + '\0'), NRBPF_ARGUMENT_LENGTH);
+        ANSWER(it.session.install(nrbpf::mode::read, length, program), 0, 2);
+        ANSWER(it.session.read(2, given), 1, 5);
+    }
+}
+
 // Puts its argument under the argument's first byte, in seven slots.
 static const char put_in_map_0[] = "bf12000000000000bf1300000000000018510000000000000000000000000000b70400000000000085000000020000009500000000000000";
 
 static void a_store_tells_what_it_is() {
     auto with = manifest("map hash 1 2 16\nmap array 8 4\nprogram put update 2 put.hex\n").file("put.hex", put_in_map_0);
-    nrbpf::store store(with, config(1, 2).with_window(64).with_spare(1));
+    nrbpf::store store(with, config(1, 2).with_window(64).with_spare(1).with_long_bytes(200));
     const auto sizes = store.info();
     EXPECT(sizes.nodes == 1 && sizes.slots == 2 && sizes.window == 64 && sizes.limit == NRBPF_ENDLESS && sizes.spare == 1);
-    EXPECT(sizes.maps == 2 && sizes.programs == 1 && store.maps().size() == 2);
+    EXPECT(sizes.maps == 2 && sizes.programs == 1 && sizes.long_bytes == 200 && store.maps().size() == 2);
     const auto hash = store.maps()[0], array = store.maps()[1];
     EXPECT(!hash.is_array && hash.key == 1 && hash.value == 2 && hash.entries == 16);
     EXPECT(array.is_array && array.key == 4 && array.value == 8 && array.entries == 4);
@@ -593,7 +651,7 @@ int main() {
         {"header", header}, {"scans", scans}, {"rows", rows}, {"installs", installs}, {"installs_within", installs_within}, {"tries", tries}, {"gets_and_scans", gets_and_scans}, {"reads_at_one_point", reads_at_one_point},
         {"four_threads", four_threads}, {"tries_beside_others", tries_beside_others}, {"snapshots", snapshots},
         {"snapshots_beside_threads", snapshots_beside_threads}, {"dumps", dumps}, {"stores_go_on", stores_go_on}, {"close_next_to_a_session", close_next_to_a_session},
-        {"refused_manifests", refused_manifests}, {"refused_dumps", refused_dumps}, {"refused_calls", refused_calls}, {"limits", limits}, {"long_arguments", long_arguments}, {"a_store_tells_what_it_is", a_store_tells_what_it_is}, {"a_store_tells_what_it_has_done", a_store_tells_what_it_has_done}, {"lists", lists}, {"lists_of_threads", lists_of_threads}, {"ends", ends},
+        {"refused_manifests", refused_manifests}, {"refused_dumps", refused_dumps}, {"refused_calls", refused_calls}, {"limits", limits}, {"long_arguments", long_arguments}, {"long_programs", long_programs}, {"long_installs", long_installs}, {"a_store_tells_what_it_is", a_store_tells_what_it_is}, {"a_store_tells_what_it_has_done", a_store_tells_what_it_has_done}, {"lists", lists}, {"lists_of_threads", lists_of_threads}, {"ends", ends},
     };
     for (const auto &[name, test] : tests) {
         try {

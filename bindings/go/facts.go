@@ -43,6 +43,7 @@ type StoreInfo struct {
 	Nodes, Slots, Window, Limit, Spare uint32 // as a Config has them
 	Maps                               uint32 // how many maps it has
 	Programs                           uint32 // how many programs its manifest has: the numbers of the spare places come after theirs
+	LongBytes                          uint32 // as a Config has it
 }
 
 // Counts is what a store has done, how far the session's node has come, and what the session was asked for.
@@ -73,7 +74,7 @@ func (s *Store) Info() (StoreInfo, error) {
 	}
 	return StoreInfo{
 		Nodes: uint32(it.nodes), Slots: uint32(it.slots), Window: uint32(it.window), Limit: uint32(it.limit), Spare: uint32(it.spare),
-		Maps: uint32(it.maps), Programs: uint32(it.programs),
+		Maps: uint32(it.maps), Programs: uint32(it.programs), LongBytes: uint32(it.long_bytes),
 	}, nil
 }
 

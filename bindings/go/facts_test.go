@@ -13,14 +13,15 @@ const putInMap0 = "bf12000000000000bf1300000000000018510000000000000000000000000
 func TestInfo(t *testing.T) {
 	text := "map hash 1 2 16\nmap array 8 4\nprogram put update 2 put.hex\n"
 	config := nrbpf.NewConfig(1, 2)
-	config.Window, config.Spare = 64, 1
+	config.Window, config.Spare, config.LongBytes = 64, 1, 200
 	store := must(nrbpf.Open(config, nrbpf.Manifest{Text: text, Files: map[string]string{"put.hex": putInMap0}}))
 	t.Cleanup(func() {
 		if err := store.Close(); err != nil {
 			t.Error(err)
 		}
 	})
-	same(t, "the store", must(store.Info()), nrbpf.StoreInfo{Nodes: 1, Slots: 2, Window: 64, Limit: nrbpf.Endless, Spare: 1, Maps: 2, Programs: 1})
+	sizes := nrbpf.StoreInfo{Nodes: 1, Slots: 2, Window: 64, Limit: nrbpf.Endless, Spare: 1, Maps: 2, Programs: 1, LongBytes: 200}
+	same(t, "the store", must(store.Info()), sizes)
 	session := attached(t, store, 0)
 	must(session.Update(0, []byte{7, 9}))
 	same(t, "the hash", must(session.MapInfo(0)), nrbpf.MapInfo{Point: 1, Keys: 1, Entries: 16, Kind: nrbpf.Hash, KeyLen: 1, ValueLen: 2})

@@ -37,12 +37,13 @@ var (
 
 // Config has the sizes of a store.
 type Config struct {
-	Nodes  uint32 // 1 to 8: each has a copy of the maps, by which it answers reads
-	Slots  uint32 // 1 to 16: the sessions of a node
-	Window uint32 // 16 to 1048576: the updates that the log keeps
-	Limit  uint32 // the updates of the whole history, behind which there is ErrFull; Endless: no end
-	Spare  uint32 // 0 to 4096: the programs that may be installed later
-	Limits Limits // how large the maps of the manifest and the arguments of its programs may be
+	Nodes     uint32 // 1 to 8: each has a copy of the maps, by which it answers reads
+	Slots     uint32 // 1 to 16: the sessions of a node
+	Window    uint32 // 16 to 1048576: the updates that the log keeps
+	Limit     uint32 // the updates of the whole history, behind which there is ErrFull; Endless: no end
+	Spare     uint32 // 0 to 4096: the programs that may be installed later
+	Limits    Limits // how large the maps of the manifest and the arguments of its programs may be
+	LongBytes uint32 // 0 to 16384: the most bytes of an installed program, and of its argument, if that is more than 192 and 64
 }
 
 // Endless is the limit of a history that has no end.
@@ -52,7 +53,7 @@ const Endless = C.NRBPF_ENDLESS
 func NewConfig(nodes, slots uint32) Config {
 	var config C.nrbpf_config
 	C.nrbpf_config_init(&config, C.NRBPF_VERSION, C.uint32_t(nodes), C.uint32_t(slots))
-	return Config{nodes, slots, uint32(config.window), uint32(config.limit), uint32(config.spare), Limits{}}
+	return Config{nodes, slots, uint32(config.window), uint32(config.limit), uint32(config.spare), Limits{}, uint32(config.long_bytes)}
 }
 
 func (c Config) inC() C.nrbpf_config {
@@ -70,6 +71,7 @@ func (c Config) inC() C.nrbpf_config {
 			bytes:    C.uint64_t(c.Limits.Bytes),
 			argument: C.uint32_t(c.Limits.Argument),
 		},
+		long_bytes: C.uint32_t(c.LongBytes),
 	}
 }
 

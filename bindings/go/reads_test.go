@@ -3,6 +3,7 @@ package nrbpf_test
 import (
 	"bytes"
 	"encoding/binary"
+	"encoding/hex"
 	"errors"
 	"fmt"
 	"io"
@@ -244,6 +245,70 @@ func TestLongArguments(t *testing.T) {
 	refused(t, last(one.TryUpdate(0, argument)), nrbpf.ErrArgumentLength)
 	refused(t, last(one.Read(1, argument)), nrbpf.ErrArgumentLength)
 	refused(t, last(lane.UpdateEach([]nrbpf.Question{{Program: 0, Argument: argument}})), nrbpf.ErrArgumentLength)
+}
+
+// fiveIn is a program of so many slots that replies 5.
+func fiveIn(slots int) []byte {
+	return append(bytes.Repeat(fiveProgram[:8], slots-1), fiveProgram[8:]...)
+}
+
+// A node has what another has installed, and so have stores that go on from its state and from its dump.
+func TestLongPrograms(t *testing.T) {
+	config, counter := nrbpf.NewConfig(2, 1), manifest("counter")
+	config.Window, config.Spare, config.LongBytes = 16, 2, 16_384
+	store := must(nrbpf.Open(config, counter))
+	one, other := must(store.Attach(0)), must(store.Attach(1))
+	argument := append(make([]byte, 16_383), 7)
+	last8 := must(hex.DecodeString(longArguments.Files["last"]))
+	same(t, "an install", must(one.Install(nrbpf.ModeRead, 0, fiveIn(2_048))), nrbpf.Answer{Point: 0, Reply: 2})
+	same(t, "another", must(one.Install(nrbpf.ModeUpdate, 16_384, last8)), nrbpf.Answer{Point: 1, Reply: 3})
+	same(t, "on the other node", must(other.Read(2, nil)), nrbpf.Answer{Point: 2, Reply: 5})
+	same(t, "with an argument", must(other.Update(3, argument)), nrbpf.Answer{Point: 2, Reply: 7 << 56})
+	same(t, "its slots", must(other.ProgramInfo(2)).Facts.Slots, 2_048)
+	same(t, "its argument", must(other.ProgramInfo(3)).Facts.ArgumentLen, 16_384)
+	for turn := uint64(0); turn < 100; turn++ {
+		same(t, "no room", must(one.Install(nrbpf.ModeRead, 0, fiveIn(2_048))), nrbpf.Answer{Point: 3 + 2*turn, Reply: nrbpf.ReplyNoRoom})
+		same(t, "a call", must(other.Update(3, argument)), nrbpf.Answer{Point: 4 + 2*turn, Reply: 7 << 56})
+	}
+	must(0, one.Detach())
+	must(0, other.Detach())
+	state := must(store.CloseInto())
+	defer state.Free()
+	text := "p read 0 " + hex.EncodeToString(fiveIn(2_048)) + "\np update 16384 " + longArguments.Files["last"] + "\n"
+	loaded := must(nrbpf.Load(config, counter, []byte(text)))
+	defer loaded.Free()
+	for _, on := range []*nrbpf.State{state, loaded} {
+		same(t, "the dump", dumpOf(on) == text, true)
+		next := must(nrbpf.OpenOn(config, counter, on))
+		session := must(next.Attach(1))
+		same(t, "the program is there", must(session.Read(2, nil)).Reply, 5)
+		same(t, "the other too", must(session.Update(3, argument)).Reply, 7<<56)
+		must(0, session.Detach())
+		must(0, next.Close())
+	}
+	config.LongBytes = 16_383
+	refused(t, last(nrbpf.OpenOn(config, counter, state)), nrbpf.ErrOtherState)
+	same(t, "its line", refused(t, last(nrbpf.Load(config, counter, []byte(text))), nrbpf.ErrBadDumpLine).Line, 1)
+	config.LongBytes = 16_385
+	refused(t, last(nrbpf.Open(config, counter)), nrbpf.ErrOutOfLimits)
+	refused(t, last(nrbpf.Load(config, counter, nil)), nrbpf.ErrOutOfLimits)
+}
+
+// One slot too many, and one byte too many of an argument, by how much a store allows.
+func TestLongInstalls(t *testing.T) {
+	for _, it := range []struct{ longBytes, slots, argument uint32 }{{0, 24, 64}, {100, 24, 100}, {200, 25, 200}, {16_384, 2_048, 16_384}} {
+		config := nrbpf.NewConfig(1, 1)
+		config.Window, config.Spare, config.LongBytes = 16, 1, it.longBytes
+		store := must(nrbpf.Open(config, manifest("counter")))
+		session := must(store.Attach(0))
+		refused(t, last(session.Install(nrbpf.ModeRead, 0, fiveIn(int(it.slots)+1))), nrbpf.ErrTooLarge)
+		refused(t, last(session.TryInstall(nrbpf.ModeRead, it.argument+1, fiveProgram)), nrbpf.ErrTooLarge)
+		refused(t, last(session.Update(2, make([]byte, it.argument+1))), nrbpf.ErrArgumentLength)
+		same(t, "an install", must(session.Install(nrbpf.ModeRead, it.argument, fiveIn(int(it.slots)))), nrbpf.Answer{Point: 0, Reply: 2})
+		same(t, "a read", must(session.Read(2, make([]byte, it.argument))), nrbpf.Answer{Point: 1, Reply: 5})
+		must(0, session.Detach())
+		must(0, store.Close())
+	}
 }
 
 // full takes some bytes and then no more.

@@ -28,8 +28,8 @@ func (s *State) Free() {
 	s.at = nil
 }
 
-// Load gives the state that a dump says, for stores of this manifest with config.Spare places; an empty text is a new store's. OpenOn takes
-// it. C1 to C6, E0 to E9, O1 of the spare places, O2, H4, H8, of which an *Error says where.
+// Load gives the state that a dump says, for stores of this manifest with config.Spare places for programs of config.LongBytes; an empty
+// text is a new store's. OpenOn takes it. C1 to C6, E0 to E9, O1 of the places and their bytes, O2, H4, H8, of which an *Error says where.
 func Load(config Config, manifest Manifest, dump []byte) (*State, error) {
 	given, c := manifest.inC(), config.inC()
 	defer given.free()

@@ -51,7 +51,7 @@ const (
 const (
 	ErrOutOfLimits Status = C.NRBPF_OUT_OF_LIMITS // O1: a number of the configuration is out of its limits
 	ErrNoMemory    Status = C.NRBPF_NO_MEMORY     // O2: no memory for the store or the state
-	ErrOtherState  Status = C.NRBPF_OTHER_STATE   // O3: the state has other maps, or more programs than there are places
+	ErrOtherState  Status = C.NRBPF_OTHER_STATE   // O3: the state has other maps, or more or longer programs than there is room for
 )
 
 // Of a call on a store.

@@ -163,7 +163,7 @@ static void refuses(void) {
         EXPECT_STATUS(nrbpf_read_each(own, questions, 2, replies, &point, &why), NRBPF_S2);
         EXPECT(why.status == NRBPF_S2 && why.slot == 1);
     }
-    // a program that is installed has at most 64, whatever the manifest may have
+    // a program that is installed has at most 64, whatever the manifest may have: `long_bytes` is 0 here
     EXPECT_STATUS(nrbpf_update(own, PLACE, it.bytes, 65, &answer), NRBPF_S2);
     EXPECT_STATUS(nrbpf_update(own, PLACE, it.bytes, LONG, &answer), NRBPF_S2);
     EXPECT_STATUS(nrbpf_read(own, PLACE, it.bytes, LONG + 1, &answer), NRBPF_S2);

@@ -117,7 +117,7 @@ static void too_many_keys(void) {
 
 static void wrong_calls(void) {
     const nrbpf_config config = config_of(SPARE);
-    const nrbpf_config old = {NRBPF_VERSION - 1000, 2, 2, 4096, 0, SPARE, {0, 0, 0, 0, 0}};
+    const nrbpf_config old = {NRBPF_VERSION - 1000, 2, 2, 4096, 0, SPARE, {0, 0, 0, 0, 0}, 0};
     const char *const manifest = files.manifest;
     const size_t len = strlen(manifest);
     nrbpf_state *state = NULL;

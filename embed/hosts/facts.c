@@ -13,12 +13,13 @@ static const char none[] = "b7000000000000009500000000000000";
 static nrbpf_store *store;
 static nrbpf_session *session, *other;
 
-static void open_store(uint32_t limit) {
+static void open_store(uint32_t limit, uint32_t long_bytes) {
     nrbpf_config config = NRBPF_CONFIG(2, 3);
     const nrbpf_file files[] = {file_of("put.hex", put), file_of("none.hex", none)};
     config.window = 64;
     config.limit = limit;
     config.spare = SPARE;
+    config.long_bytes = long_bytes;
     EXPECT_STATUS(nrbpf_open(&config, manifest, strlen(manifest), files, 2, &store, NULL), NRBPF_OK);
     session = attached(store, 0);
     other = attached(store, 1);
@@ -30,12 +31,12 @@ static void close_store(void) {
     EXPECT_STATUS(nrbpf_close(store), NRBPF_OK);
 }
 
-static void has_sizes(uint32_t limit) {
+static void has_sizes(uint32_t limit, uint32_t long_bytes) {
     nrbpf_store_facts facts;
-    open_store(limit);
+    open_store(limit, long_bytes);
     EXPECT_STATUS(nrbpf_store_info(store, &facts, sizeof facts), NRBPF_OK);
     EXPECT(facts.nodes == 2 && facts.slots == 3 && facts.window == 64 && facts.limit == limit && facts.spare == SPARE);
-    EXPECT(facts.maps == 2 && facts.programs == 2);
+    EXPECT(facts.maps == 2 && facts.programs == 2 && facts.long_bytes == long_bytes);
     close_store();
 }
 
@@ -59,7 +60,7 @@ static void put_byte(uint8_t key) {
 }
 
 static void maps(void) {
-    open_store(NRBPF_ENDLESS);
+    open_store(NRBPF_ENDLESS, 0);
     has_map(session, HASH, (nrbpf_map_facts){0, 0, 16, NRBPF_MAP_HASH, 1, 2});
     has_map(session, ARRAY, (nrbpf_map_facts){0, 4, 4, NRBPF_MAP_ARRAY, 4, 8});
     put_byte(7);
@@ -88,7 +89,7 @@ static void programs_of_store(void) {
     // (a reference to map 1, `mov r0, 0` and `exit`: four slots)
     static const uint8_t names_array[] = {0x18, 0x51, 0, 0, ARRAY, 0, 0, 0, 0, 0, 0, 0, 0, 0, 0, 0, 0xb7, 0, 0, 0, 0, 0, 0, 0, 0x95, 0, 0, 0, 0, 0, 0, 0};
     nrbpf_answer answer;
-    open_store(NRBPF_ENDLESS);
+    open_store(NRBPF_ENDLESS, 0);
     has_program(session, PUT, (nrbpf_program_facts){0, 0, 1, NRBPF_MODE_UPDATE, 2, 7, 1u << HASH, "put"});
     has_program(session, NONE, (nrbpf_program_facts){0, 0, 1, NRBPF_MODE_READ, 3, 2, 0, "none"});
     has_program(session, FIRST_PLACE, (nrbpf_program_facts){0, 1, 0, 0, 0, 0, 0, ""});
@@ -103,10 +104,11 @@ static void programs_of_store(void) {
 // A host with an older header has fewer members, and one with a newer header more.
 static void other_headers(void) {
     struct { nrbpf_map_facts known; uint64_t later; } newer;
+    struct { nrbpf_store_facts known; uint32_t later; } newer_sizes;
     nrbpf_map_facts older;
     nrbpf_program_facts program;
     nrbpf_store_facts sizes;
-    open_store(NRBPF_ENDLESS);
+    open_store(NRBPF_ENDLESS, 200);
     put_byte(3);
     memset(&newer, 0xee, sizeof newer);
     EXPECT_STATUS(nrbpf_map_info(session, HASH, &newer.known, sizeof newer), NRBPF_OK);
@@ -120,6 +122,11 @@ static void other_headers(void) {
     memset(&sizes, 0xee, sizeof sizes);
     EXPECT_STATUS(nrbpf_store_info(store, &sizes, sizeof sizes.nodes), NRBPF_OK);
     EXPECT(sizes.nodes == 2 && sizes.slots == 0xeeeeeeee);
+    EXPECT_STATUS(nrbpf_store_info(store, &sizes, offsetof(nrbpf_store_facts, long_bytes)), NRBPF_OK);  // as the header of version 2005 has it
+    EXPECT(sizes.programs == 2 && sizes.long_bytes == 0xeeeeeeee);
+    memset(&newer_sizes, 0xee, sizeof newer_sizes);
+    EXPECT_STATUS(nrbpf_store_info(store, &newer_sizes.known, sizeof newer_sizes), NRBPF_OK);
+    EXPECT(newer_sizes.known.programs == 2 && newer_sizes.known.long_bytes == 200 && newer_sizes.later == 0);
     close_store();
 }
 
@@ -128,7 +135,7 @@ static void refusals(void) {
     nrbpf_map_facts map, map_before;
     nrbpf_program_facts program, program_before;
     nrbpf_store_facts sizes;
-    open_store(NRBPF_ENDLESS);
+    open_store(NRBPF_ENDLESS, 0);
     memset(&map, 0xee, sizeof map);
     memset(&program, 0xee, sizeof program);
     map_before = map;
@@ -159,8 +166,9 @@ static void refusals(void) {
 }
 
 int main(void) {
-    has_sizes(NRBPF_ENDLESS);
-    has_sizes(100);
+    has_sizes(NRBPF_ENDLESS, 0);
+    has_sizes(100, 1);
+    has_sizes(NRBPF_ENDLESS, 16384);
     maps();
     programs_of_store();
     other_headers();

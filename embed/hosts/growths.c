@@ -204,7 +204,10 @@ static void refused_in_turn(const char *name, nrbpf_status (*call)(long, long)) 
 // All that a store does between its opening and its end, with every growth refused.
 static void calls_without_memory(void) {
     static const uint8_t five[] = {0xb7, 0, 0, 0, 5, 0, 0, 0, 0x95, 0, 0, 0, 0, 0, 0, 0};
+    static uint8_t longest[16384];              // the same in 2,048 slots
     nrbpf_config config = two_by_two();
+    config.long_bytes = sizeof longest;
+    for (size_t at = 0; at < sizeof longest; at += 8) memcpy(longest + at, five + (at + 8 == sizeof longest ? 8 : 0), 8);
     nrbpf_store *store = opened(&config);
     nrbpf_session *session;
     nrbpf_state *state;
@@ -226,10 +229,12 @@ static void calls_without_memory(void) {
     EXPECT_STATUS(nrbpf_read(session, peek, &first, sizeof first, &answer), NRBPF_OK);
     EXPECT_STATUS(nrbpf_install(session, NRBPF_MODE_READ, 0, five, sizeof five, &answer, &why), NRBPF_OK);
     EXPECT_STATUS(nrbpf_install(session, NRBPF_MODE_READ, 0, five, 8, &answer, &why), NRBPF_S8);
+    EXPECT_STATUS(nrbpf_install(session, NRBPF_MODE_READ, 0, longest, sizeof longest, &answer, &why), NRBPF_OK);
+    EXPECT(answer.point == 5001 && answer.reply == programs + 1);
     EXPECT_STATUS(nrbpf_get(session, 0, &first, sizeof first, values, 8, &found), NRBPF_OK);
     EXPECT_STATUS(nrbpf_scan(session, 0, 0, keys, sizeof keys, values, sizeof values, &scanned), NRBPF_OK);
     EXPECT_STATUS(nrbpf_read_each(session, &question, 1, &reply, &point, &why), NRBPF_OK);
-    EXPECT(reply == 5000 && point == 5001);
+    EXPECT(reply == 5000 && point == 5002);
     EXPECT_STATUS(nrbpf_snapshot(session, state, &point), NRBPF_OK);
     EXPECT_STATUS(nrbpf_detach(session), NRBPF_OK);
     EXPECT(growths == 0);

@@ -42,6 +42,7 @@ static void configurations(void) {
     nrbpf_config wrong;
     EXPECT_STATUS(nrbpf_config_init(&wrong, NRBPF_VERSION, 1, 1), NRBPF_OK);
     EXPECT(memcmp(&wrong, &good, offsetof(nrbpf_config, limits.argument) + sizeof good.limits.argument) == 0);
+    EXPECT(wrong.long_bytes == good.long_bytes);
     const uint32_t versions[] = {0, NRBPF_VERSION - 1000, NRBPF_VERSION + 1000, NRBPF_VERSION + 1, UINT32_MAX};
     for (int i = 0; i < 5; i++) {
         wrong.version = versions[i];
@@ -51,7 +52,12 @@ static void configurations(void) {
                                    {1, 1, 15, 1, 0},   {1, 1, 1048577, 1, 0}, {1, 1, 16, 1, 4097}, {UINT32_MAX, UINT32_MAX, 16, 1, 0}};
     for (int i = 0; i < 8; i++) {
         const uint32_t *it = outside[i];
-        refuse_config((nrbpf_config){NRBPF_VERSION, it[0], it[1], it[2], it[3], it[4], {0, 0, 0, 0, 0}}, NRBPF_O1);
+        refuse_config((nrbpf_config){NRBPF_VERSION, it[0], it[1], it[2], it[3], it[4], {0, 0, 0, 0, 0}, 0}, NRBPF_O1);
+    }
+    for (int i = 0; i < 2; i++) {
+        wrong = good;
+        wrong.long_bytes = i == 0 ? 16385 : UINT32_MAX;
+        refuse_config(wrong, NRBPF_O1);
     }
     const nrbpf_limits wider[] = {{65, 0, 0, 0, 0}, {3, 0, 0, 0, 0}, {0, 16385, 0, 0, 0}, {0, 0, 2147483649, 0, 0}, {0, 0, UINT64_MAX, 0, 0},
                                   {0, 0, 0, 1099511627777, 0}, {0, 0, 0, 0, 16385}, {0, 0, 0, 0, UINT32_MAX}};
@@ -121,16 +127,17 @@ static void limits_of_arguments(void) {
 
 // The configuration of an older host ends earlier. Nothing behind its end is read or written.
 static void older_configurations(void) {
-    const uint32_t versions[] = {2000, 2001, 2004};
-    const size_t sizes[] = {24, 48, 48};        // as the headers of these versions have them
-    for (int i = 0; i < 3; i++) {
+    const uint32_t versions[] = {2000, 2001, 2004, 2005};
+    const size_t sizes[] = {24, 48, 48, 56};    // as the headers of these versions have them
+    const size_t ends[] = {24, 48, 48, 52};     // where their last members end
+    for (int i = 0; i < 4; i++) {
         nrbpf_config config = NRBPF_CONFIG(1, 1), behind;
         nrbpf_store *opened = NULL;
         void *const older = malloc(sizes[i]);
         EXPECT(older);
         config.version = versions[i];
         EXPECT_STATUS(nrbpf_config_init(older, versions[i], 1, 1), NRBPF_OK);
-        EXPECT(memcmp(older, &config, sizes[i]) == 0);
+        EXPECT(memcmp(older, &config, ends[i]) == 0);
         EXPECT_STATUS(nrbpf_open(older, files.manifest, strlen(files.manifest), files.files, programs, &opened, NULL), NRBPF_OK);
         EXPECT_STATUS(nrbpf_close(opened), NRBPF_OK);
         free(older);
@@ -468,7 +475,7 @@ static void first_of_several(void) {
     static const uint8_t zeros[200];
     const nrbpf_file no_text = {"other", 5, NULL, 1};
     const nrbpf_question questions[17] = {{NULL, 4, UINT16_MAX}};
-    nrbpf_config other = {NRBPF_VERSION + 1000, 0, 0, 0, 0, 0, {0, 0, 0, 0, 0}};
+    nrbpf_config other = {NRBPF_VERSION + 1000, 0, 0, 0, 0, 0, {0, 0, 0, 0, 0}, 0};
     nrbpf_answer answer = {77, 77};
     uint64_t replies[17], point;
     refuse(&other, NULL, 1, &no_text, 1, (fault){.status = NRBPF_H7});

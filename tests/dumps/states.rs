@@ -1,8 +1,9 @@
-//! A state as text: two maps and a place for one program, the first bad line with the number of its fault, states that are written, and what a watcher is
-//! told while one is loaded.
+//! A state as text: two maps and a place for one program, the first bad line with the number of its fault, states that are written, programs as long as they
+//! may be and longer, and what a watcher is told while one is loaded.
 
 use dumps::{Watcher, dump, load, load_watched};
 use loader::{StoreState, load_manifest};
+use std::alloc::{AllocError, Global};
 use std::cell::Cell;
 
 const MAPS: &str = "map array 2 4\nmap hash 1 1 2\n";
@@ -54,16 +55,20 @@ const WRITTEN: &[&str] = &[
 
 #[test]
 fn loads_a_state(rt: HostRuntime) {
-    let catalogue = load_manifest(rt.alloc(), MAPS, &[]).expect(&rt, "catalogue");
-    let state = load(rt.alloc(), catalogue.shapes(), 1, STATE).expect(&rt, "state");
+    let catalogue = load_manifest(rt.alloc(), MAPS, &[])
+        .expect(&rt, "catalogue")
+        .with_places(1);
+    let state = load(rt.alloc(), &catalogue, STATE).expect(&rt, "state");
     assert_eq!(rt; state.programs().len(), 1);
 }
 
 #[test]
 fn names_the_first_bad_line(rt: HostRuntime) {
-    let catalogue = load_manifest(rt.alloc(), MAPS, &[]).expect(&rt, "catalogue");
+    let catalogue = load_manifest(rt.alloc(), MAPS, &[])
+        .expect(&rt, "catalogue")
+        .with_places(1);
     for &(text, line, number) in BAD {
-        let refused = load(rt.alloc(), catalogue.shapes(), 1, text).err();
+        let refused = load(rt.alloc(), &catalogue, text).err();
         let told = refused.map(|e| (e.line(), e.number()));
         assert_eq!(rt; told, Some((line, number)));
     }
@@ -71,11 +76,50 @@ fn names_the_first_bad_line(rt: HostRuntime) {
 
 #[test]
 fn writes_what_it_loads(rt: HostRuntime) {
-    let catalogue = load_manifest(rt.alloc(), WIDE_MAPS, &[]).expect(&rt, "catalogue");
+    let catalogue = load_manifest(rt.alloc(), WIDE_MAPS, &[])
+        .expect(&rt, "catalogue")
+        .with_places(2);
     for &text in WRITTEN {
-        let state = load(rt.alloc(), catalogue.shapes(), 2, text).expect(&rt, "state");
+        let state = load(rt.alloc(), &catalogue, text).expect(&rt, "state");
         let written = dump(rt.alloc(), &state).expect(&rt, "text");
         assert_eq!(rt; written.as_slice(), text.as_bytes());
+    }
+}
+
+// Of a program its slots, the bytes of its argument, how many both may have, and whether its line is read.
+const LENGTHS: &[(usize, usize, usize, bool)] = &[
+    (24, 64, 0, true),
+    (25, 64, 0, false),
+    (24, 65, 0, false),
+    (25, 64, 199, false),
+    (25, 200, 200, true),
+    (25, 201, 200, false),
+    (2048, 16384, 16384, true),
+];
+
+// The line of a program of so many slots: it writes R0, again and again, and ends.
+fn program_line(alloc: Global, slots: usize, argument: usize) -> Result<String, AllocError> {
+    let mut line = format!(in alloc; "p read {argument} ")?;
+    for _ in 1..slots {
+        line.push_str("b700000005000000")?;
+    }
+    line.push_str("9500000000000000\n")?;
+    Ok(line)
+}
+
+#[test]
+fn reads_programs_as_long_as_they_may_be(rt: HostRuntime) {
+    for &(slots, argument, long, is_read) in LENGTHS {
+        let loaded = load_manifest(rt.alloc(), MAPS, &[]).expect(&rt, "catalogue");
+        let catalogue = loaded.with_long_places(1, long);
+        let line = program_line(rt.alloc(), slots, argument).expect(&rt, "line");
+        match load(rt.alloc(), &catalogue, line.as_str()) {
+            Ok(state) => {
+                let written = dump(rt.alloc(), &state).expect(&rt, "text");
+                assert!(rt; is_read && written.as_slice() == line.as_bytes());
+            }
+            Err(e) => assert!(rt; !is_read && (e.line(), e.number()) == (1, 1)),
+        }
     }
 }
 
@@ -125,7 +169,7 @@ fn tells_a_watcher_of_all_bytes(rt: HostRuntime) {
         text.push_str(line.as_str()).expect(&rt, "room");
     }
     let told = Told::nothing();
-    let state = load_watched(rt.alloc(), catalogue.shapes(), 0, text.as_str(), &told);
+    let state = load_watched(rt.alloc(), &catalogue, text.as_str(), &told);
     assert!(rt; state.is_ok());
     assert_eq!(rt; text.len(), 280_000);
     assert_eq!(rt;
@@ -136,10 +180,12 @@ fn tells_a_watcher_of_all_bytes(rt: HostRuntime) {
 
 #[test]
 fn tells_a_watcher_of_the_end_at_a_bad_line(rt: HostRuntime) {
-    let catalogue = load_manifest(rt.alloc(), MAPS, &[]).expect(&rt, "catalogue");
+    let catalogue = load_manifest(rt.alloc(), MAPS, &[])
+        .expect(&rt, "catalogue")
+        .with_places(1);
     for &(text, _, _) in BAD {
         let told = Told::nothing();
-        let state = load_watched(rt.alloc(), catalogue.shapes(), 1, text, &told);
+        let state = load_watched(rt.alloc(), &catalogue, text, &told);
         assert!(rt; state.is_err());
         assert_eq!(rt;
             (told.calls.get(), told.bytes.get(), told.ends.get()),

@@ -77,6 +77,6 @@ fn wants_memory_alone(rt: HostRuntime) {
 fn copies_a_state(rt: HostRuntime) {
     let catalogue = load_manifest(rt.alloc(), TEXT, FILES).expect(&rt, "catalogue");
     let state = StoreState::open(rt.alloc(), &catalogue).expect(&rt, "state");
-    let copy = StoreState::copy_of(rt.alloc(), &state, 2).expect(&rt, "copy");
+    let copy = StoreState::copy_of(rt.alloc(), &state, 2, 0).expect(&rt, "copy");
     assert_eq!(rt; [state.programs().len(), copy.programs().len()], [0, 0]);
 }

@@ -77,7 +77,7 @@ fn reclaims(rt: HostRuntime) {
     let mut log = opened_log(rt.alloc()).expect(&rt, "log");
     let mut hand = opened_hand(rt.alloc()).expect(&rt, "hand");
     let maps = MapSet::open(rt.alloc(), &SHAPES).expect(&rt, "maps");
-    let programs = Installed::open(rt.alloc(), &SHAPES, 1).expect(&rt, "programs");
+    let programs = Installed::open(rt.alloc(), &SHAPES, 1, 0).expect(&rt, "programs");
     let batch = third_program(rt.alloc(), &[1, 0]).expect(&rt, "batch");
     assert!(&rt; log.append(&batch.lent()).is_ok());
     log.raise_done(2);
@@ -114,7 +114,7 @@ fn copies_nothing_below_the_base(rt: HostRuntime) {
     let mut log = opened_log(rt.alloc()).expect(&rt, "log");
     let mut hand = opened_hand(rt.alloc()).expect(&rt, "hand");
     let maps = MapSet::open(rt.alloc(), &SHAPES).expect(&rt, "maps");
-    let programs = Installed::open(rt.alloc(), &SHAPES, 1).expect(&rt, "programs");
+    let programs = Installed::open(rt.alloc(), &SHAPES, 1, 0).expect(&rt, "programs");
     let batch = third_program(rt.alloc(), &[1]).expect(&rt, "batch");
     assert!(&rt; log.append(&batch.lent()).is_ok());
     log.raise_done(1);
@@ -164,6 +164,7 @@ fn knows_no_end(rt: HostRuntime) {
             window: 4_096,
             limit,
             spare: 0,
+            long: 0,
         };
         assert_eq!(rt; sizes.is_within_limits(), want);
     }
@@ -181,7 +182,7 @@ fn tells_each_refusal(rt: HostRuntime) -> Result<(), Fail> {
         (
             OpenError::OtherState,
             3,
-            "O3: the state has other maps, or more programs than there are places",
+            "O3: the state has other maps, or more or longer programs than there is room for",
         ),
     ] {
         assert_eq!(rt; error.number(), number);

@@ -18,7 +18,7 @@ pub(crate) fn new_state(alloc: Global) -> Option<StoreState> {
     let Ok(maps) = MapSet::open(alloc, &SHAPES) else {
         return None;
     };
-    let Ok(programs) = Installed::open(alloc, &SHAPES, 1) else {
+    let Ok(programs) = Installed::open(alloc, &SHAPES, 1, 0) else {
         return None;
     };
     Some(StoreState::of(maps, programs))

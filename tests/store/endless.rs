@@ -14,6 +14,7 @@ fn sized(limit: u64) -> Sizes {
         window: 16,
         limit,
         spare: 0,
+        long: 0,
     }
 }
 

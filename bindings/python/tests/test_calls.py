@@ -5,7 +5,7 @@ import threading
 import unittest
 
 import nrbpf
-from tests.fixture import FIVE, LONG_ARGUMENTS, NAMES_MAP_0, counter, example, text_of, tried, u32
+from tests.fixture import FIVE, LAST, LONG_ARGUMENTS, NAMES_MAP_0, counter, example, five_in, text_of, tried, u32
 
 
 def run(name, spare=0, state=None):
@@ -127,14 +127,61 @@ class LongArguments(unittest.TestCase):
                 self.assertEqual(other.program_info(0).facts.argument_len, 16_384)
 
 
+class LongPrograms(unittest.TestCase):
+    ARGUMENT = bytes((k + (k >> 8)) & 255 for k in range(16_384))
+    SIZES = {"nodes": 2, "window": 16, "spare": 4, "long_bytes": 16_384}
+
+    def has_all(self, store):
+        """Both nodes have the three programs, each with the slots and the argument that it was installed with."""
+        tail = int.from_bytes(self.ARGUMENT[16_376:], "little")
+        for node in (0, 1):
+            with store.attach(node) as session:
+                for number, slots, argument, reply in ((2, 2048, b"", 5), (3, 2, self.ARGUMENT, tail), (4, 24, b"", 5)):
+                    self.assertEqual(session.read(number, argument).reply, reply)
+                    facts = session.program_info(number).facts
+                    self.assertEqual(facts, nrbpf.ProgramFacts(nrbpf.Mode.READ, len(argument), slots, frozenset()))
+
+    def test_two_nodes(self):
+        with nrbpf.open(example("counter"), **self.SIZES) as store:
+            with store.attach(0) as one, store.attach(1) as other:
+                self.assertEqual(one.install(nrbpf.Mode.READ, 0, five_in(2048)), (0, 2))
+                told = tried(other, lambda: other.try_install(nrbpf.Mode.READ, 16_384, LAST))
+                self.assertEqual(told, (1, 3))
+                self.assertEqual(one.install_within((), nrbpf.Mode.READ, 0, five_in(24)), (2, 4))
+                self.assertEqual(one.install(nrbpf.Mode.UPDATE, 16_384, LAST), (3, 5))
+                tail = int.from_bytes(self.ARGUMENT[16_376:], "little")
+                self.assertEqual(other.update(5, self.ARGUMENT), (4, tail))
+                for index in range(100):
+                    told = tried(one, lambda: one.try_install(nrbpf.Mode.READ, 0, five_in(2048)))
+                    self.assertEqual(told, (5 + 2 * index, nrbpf.REPLY_NO_ROOM))
+                    self.assertEqual(other.update(5, self.ARGUMENT), (6 + 2 * index, tail))
+            self.has_all(store)
+
+    def test_stores_go_on_from_a_state_and_its_dump(self):
+        store = nrbpf.open(example("counter"), **self.SIZES)
+        with store.attach() as session:
+            for length, program in ((0, five_in(2048)), (16_384, LAST), (0, five_in(24))):
+                session.install(nrbpf.Mode.READ, length, program)
+        lines = (f"p read 0 {five_in(2048).hex()}", f"p read 16384 {LAST.hex()}", f"p read 0 {five_in(24).hex()}")
+        text = "".join(f"{line}\n" for line in lines).encode()
+        with store.close_into() as state, nrbpf.State.load(
+            example("counter"), text, spare=4, long_bytes=16_384
+        ) as loaded:
+            for on in (state, loaded):
+                self.assertEqual(on.dump(), text)
+                with nrbpf.open(example("counter"), **self.SIZES, state=on) as other:
+                    self.has_all(other)
+
+
 class Facts(unittest.TestCase):
     # Puts its argument under the argument's first byte, in seven slots.
     PUT = "bf12000000000000bf1300000000000018510000000000000000000000000000b70400000000000085000000020000009500000000000000"
 
     def test_what_a_store_is(self):
         text = "map hash 1 2 16\nmap array 8 4\nprogram put update 2 put.hex\n"
-        with nrbpf.open(nrbpf.Manifest(text, {"put.hex": self.PUT}), slots=2, window=64, spare=1) as store:
-            self.assertEqual(store.info(), nrbpf.StoreInfo(1, 2, 64, nrbpf.ENDLESS, 1, 2, 1))
+        sizes = {"slots": 2, "window": 64, "spare": 1, "long_bytes": 200}
+        with nrbpf.open(nrbpf.Manifest(text, {"put.hex": self.PUT}), **sizes) as store:
+            self.assertEqual(store.info(), nrbpf.StoreInfo(1, 2, 64, nrbpf.ENDLESS, 1, 2, 1, 200))
             shapes = (nrbpf.MapShape("hash", 1, 2, 16), nrbpf.MapShape("array", 4, 8, 4))
             self.assertEqual(store.maps, shapes)
             with store.attach() as session:

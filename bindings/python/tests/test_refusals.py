@@ -6,7 +6,7 @@ import warnings
 
 import nrbpf
 from nrbpf import Status
-from tests.fixture import FIVE, LONG_ARGUMENTS, NAMES_MAP_0, NOTHING_IN_R0, counter, example, u32
+from tests.fixture import FIVE, LONG_ARGUMENTS, NAMES_MAP_0, NOTHING_IN_R0, counter, example, five_in, u32
 
 BUMP, PEEK = "examples/counter/bump.hex", "examples/counter/peek.hex"
 ARRAY = "map array 8 16\n"
@@ -50,6 +50,7 @@ class Openings(Refusals):
 
     def test_sizes(self):
         outside = {"nodes": (0, 9), "slots": (0, 17), "window": (15, 1048577), "spare": (4097,)}
+        outside["long_bytes"] = (16_385, (1 << 32) - 1)
         for name, number in ((name, number) for name, numbers in outside.items() for number in numbers):
             with self.subTest(name, number=number):
                 self.refuses(Status.OUT_OF_LIMITS, nrbpf.open, example("counter"), **{name: number})
@@ -58,7 +59,8 @@ class Openings(Refusals):
             with self.subTest(limits=limits):
                 self.refuses(Status.OUT_OF_LIMITS, nrbpf.open, example("counter"), limits=nrbpf.LARGE._replace(**limits))
         numbers = [nrbpf.Limits(key=0), nrbpf.Limits(argument=0), nrbpf.Limits(argument=1 << 32)]
-        for sizes in ({"nodes": -1}, {"limit": 1 << 32}, *({"limits": limits} for limits in numbers)):
+        others = [{"nodes": -1}, {"limit": 1 << 32}, {"long_bytes": -1}, {"long_bytes": 1 << 32}]
+        for sizes in (*others, *({"limits": limits} for limits in numbers)):
             with self.assertRaises(ValueError):
                 nrbpf.open(example("counter"), **sizes)
 
@@ -91,6 +93,18 @@ class Openings(Refusals):
             self.refuses(Status.BAD_LINE, nrbpf.open, nrbpf.Manifest("", {}), state=state, line=1)
             nrbpf.open(example("counter"), state=state, spare=1).close()
 
+    def test_states_of_long_programs(self):
+        """The first program has one slot more than each may have, the second one byte more of an argument."""
+        for line, long_bytes in ((f"p read 0 {five_in(25).hex()}\n", 200), (f"p read 65 {FIVE.hex()}\n", 65)):
+            sizes = {"spare": 1, "long_bytes": long_bytes}
+            with self.subTest(long_bytes), nrbpf.State.load(example("counter"), line.encode(), **sizes) as state:
+                for fewer in (0, long_bytes - 1):
+                    named = {"spare": 1, "long_bytes": fewer}
+                    self.refuses(Status.OTHER_STATE, nrbpf.open, example("counter"), state=state, **named)
+                    load = nrbpf.State.load, example("counter"), line.encode()
+                    self.refuses(Status.BAD_DUMP_LINE, *load, line=1, **named)
+                nrbpf.open(example("counter"), state=state, **sizes).close()
+
 
 class Dumps(Refusals):
     def test_dumps(self):
@@ -118,6 +132,7 @@ class Dumps(Refusals):
 
     def test_what_else_is_loaded(self):
         self.refuses(Status.OUT_OF_LIMITS, nrbpf.State.load, example("counter"), b"", spare=4097)
+        self.refuses(Status.OUT_OF_LIMITS, nrbpf.State.load, example("counter"), b"", long_bytes=16_385)
         self.refuses(Status.BAD_LINE, nrbpf.State.load, nrbpf.Manifest("", {}), b"", line=1)
         self.refuses(Status.NOT_UTF8, nrbpf.State.load, example("counter"), b"\xff\n")
 
@@ -166,6 +181,19 @@ class Calls(Refusals):
                 self.refuses(Status.NOT_ACCEPTED, call, nrbpf.Mode.READ, 0, NOTHING_IN_R0, inner="V6")
                 self.refuses(Status.BAD_CALL, call, 2, 0, FIVE)
             self.assertEqual(session.read(peek, u32(3)), (0, 0))
+
+    def test_long_installs(self):
+        """One slot too many, and one byte too many of an argument, by how much a store allows."""
+        for long_bytes, slots, argument in ((0, 24, 64), (100, 24, 100), (200, 25, 200), (16_384, 2048, 16_384)):
+            sizes = {"window": 16, "spare": 1, "long_bytes": long_bytes}
+            with self.subTest(long_bytes=long_bytes), counter(**sizes) as (_, session, _, _):
+                for call in (session.install, session.try_install):
+                    self.refuses(Status.TOO_LARGE, call, nrbpf.Mode.READ, 0, five_in(slots + 1))
+                    self.refuses(Status.TOO_LARGE, call, nrbpf.Mode.READ, argument + 1, FIVE)
+                for call in (session.update, session.try_update, session.read, session.try_read):
+                    self.refuses(Status.ARGUMENT_LENGTH, call, 2, bytes(argument + 1))
+                self.assertEqual(session.install(nrbpf.Mode.READ, argument, five_in(slots)), (0, 2))
+                self.assertEqual(session.read(2, bytes(argument)), (1, 5))
 
     def test_installs_within(self):
         with counter(spare=1) as (_, session, _, peek):

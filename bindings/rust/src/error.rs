@@ -116,7 +116,7 @@ errors! {
         NoMemoryForDump = 'E' 0: "E0: no memory for a dump, or for what it says",
         OutOfLimits = 'O' 1: "O1: a number of the configuration is out of its limits",
         NoMemory = 'O' 2: "O2: no memory for the store or the state",
-        OtherState = 'O' 3: "O3: the state has other maps, or more programs than there are places",
+        OtherState = 'O' 3: "O3: the state has other maps, or more or longer programs than there is room for",
         UnknownProgram = 'S' 1: "S1: unknown program",
         ArgumentLength = 'S' 2: "S2: the argument has another length",
         OtherMode = 'S' 3: "S3: the program has the other mode",

@@ -108,6 +108,8 @@ pub struct StoreInfo {
     pub maps: u32,
     /// The programs of its manifest. The numbers of the places come after theirs.
     pub programs: u32,
+    /// The most bytes of an installed program, and of its argument, if that is more than the 192 and 64 that each may have.
+    pub long_bytes: u32,
 }
 
 /// What a store has done, how far the session's node has come, and what the session was asked for.
@@ -152,8 +154,8 @@ impl Store {
         // SAFETY: the store is open as long as this value, and the struct is as long as the call is told.
         let status = unsafe { sys::nrbpf_store_info(self.as_ptr(), &mut out, size_of::<sys::nrbpf_store_facts>()) };
         assert_eq!(status, sys::NRBPF_OK, "no pointer is null");
-        let sys::nrbpf_store_facts { nodes, slots, window, limit, spare, maps, programs } = out;
-        StoreInfo { nodes, slots, window, limit, spare, maps, programs }
+        let sys::nrbpf_store_facts { nodes, slots, window, limit, spare, maps, programs, long_bytes } = out;
+        StoreInfo { nodes, slots, window, limit, spare, maps, programs, long_bytes }
     }
 }
 

@@ -42,7 +42,7 @@ impl State {
     ///
     /// C1 to C6 and H4 of the manifest, E0 to E9 and H4 of the dump, O1 of `spare`.
     pub fn load(manifest: &Manifest, spare: u32, dump: &[u8]) -> Result<State, Error> {
-        State::load_within(manifest, Limits::STANDARD, spare, dump)
+        State::load_with(manifest, Config::new(1, 1).spare(spare), dump)
     }
 
     /// The same of a manifest that is read by these limits.
@@ -51,7 +51,16 @@ impl State {
     ///
     /// As [`State::load`]; O1 of the limits too.
     pub fn load_within(manifest: &Manifest, limits: Limits, spare: u32, dump: &[u8]) -> Result<State, Error> {
-        let config = Config::new(1, 1).spare(spare).limits(limits).told();
+        State::load_with(manifest, Config::new(1, 1).spare(spare).limits(limits), dump)
+    }
+
+    /// The same for stores that are opened with the `spare`, the `limits` and the `long_bytes` of this configuration. Its other numbers say nothing.
+    ///
+    /// # Errors
+    ///
+    /// As [`State::load`]; O1 of the limits and of `long_bytes` too.
+    pub fn load_with(manifest: &Manifest, config: Config, dump: &[u8]) -> Result<State, Error> {
+        let config = config.told();
         let (mut out, mut why) = (null_mut(), sys::nrbpf_error::default());
         // SAFETY: each pointer has as many bytes behind it as the call is told.
         let status = manifest.with(|text, files| unsafe {

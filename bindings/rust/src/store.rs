@@ -55,12 +55,15 @@ pub struct Config {
     pub spare: u32,
     /// How large the maps of the manifest and the arguments of its programs may be.
     pub limits: Limits,
+    /// 0 to 16,384: the most bytes of an installed program, and of its argument, if that is more than 192 and 64. The log and each node keep so many
+    /// bytes for each update of the window.
+    pub long_bytes: u32,
 }
 
 impl Config {
     /// So many nodes, so many sessions of each, a window of 4,096, no end, and no spare place.
     pub const fn new(nodes: u32, slots: u32) -> Config {
-        Config { nodes, slots, window: 4_096, limit: ENDLESS, spare: 0, limits: Limits::STANDARD }
+        Config { nodes, slots, window: 4_096, limit: ENDLESS, spare: 0, limits: Limits::STANDARD, long_bytes: 0 }
     }
 
     /// The same with another window.
@@ -87,14 +90,20 @@ impl Config {
         Config { limits, ..self }
     }
 
+    /// The same for installed programs, and arguments of these, of up to so many bytes.
+    #[must_use]
+    pub const fn long_bytes(self, long_bytes: u32) -> Config {
+        Config { long_bytes, ..self }
+    }
+
     pub(crate) fn told(self) -> sys::nrbpf_config {
-        let Config { nodes, slots, window, limit, spare, limits } = self;
+        let Config { nodes, slots, window, limit, spare, limits, long_bytes } = self;
         let Limits { key, value, entries, bytes, argument } = limits;
         let limits = sys::nrbpf_limits { key, value, entries, bytes, argument };
         let mut told = sys::nrbpf_config::default();
         // SAFETY: it writes what it is lent.
         unsafe { sys::nrbpf_config_init(&mut told, sys::NRBPF_VERSION, nodes, slots) };
-        sys::nrbpf_config { window, limit, spare, limits, ..told }
+        sys::nrbpf_config { window, limit, spare, limits, long_bytes, ..told }
     }
 }
 
@@ -129,7 +138,7 @@ impl Store {
     ///
     /// # Errors
     ///
-    /// O3 besides: the manifest has other maps than the state, or there are fewer spare places than it has installed programs.
+    /// O3 besides: the manifest has other maps than the state, or there are fewer spare places than it has installed programs, or one of these is too long.
     pub fn open_on(config: Config, manifest: &Manifest, state: &State) -> Result<Store, Error> {
         let config = config.told();
         let (mut out, mut why) = (null_mut(), sys::nrbpf_error::default());

@@ -1,10 +1,10 @@
-//! The functions and structs of `nrbpf.h`, version 2.5, as they stand there.
+//! The functions and structs of `nrbpf.h`, version 2.6, as they stand there.
 
 #![allow(missing_docs, non_camel_case_types)]
 
 use std::ffi::{c_char, c_int, c_void};
 
-pub const NRBPF_VERSION: u32 = 2_005;
+pub const NRBPF_VERSION: u32 = 2_006;
 pub const NRBPF_OK: u32 = 0;
 pub const NRBPF_BUSY: u32 = 1;
 pub const NRBPF_POSTED: u32 = 2;
@@ -61,6 +61,7 @@ pub struct nrbpf_config {
     pub limit: u32,
     pub spare: u32,
     pub limits: nrbpf_limits,
+    pub long_bytes: u32,
 }
 
 #[repr(C)]
@@ -160,6 +161,7 @@ pub struct nrbpf_store_facts {
     pub spare: u32,
     pub maps: u32,
     pub programs: u32,
+    pub long_bytes: u32,
 }
 
 #[repr(C)]

@@ -264,10 +264,10 @@ const PUT: &str = "bf12000000000000bf1300000000000018510000000000000000000000000
 #[test]
 fn a_store_tells_what_it_is() -> Result<(), Error> {
     let manifest = Manifest::new("map hash 1 2 16\nmap array 8 4\nprogram put update 2 put.hex\n").file("put.hex", PUT);
-    let store = Store::open(Config::new(1, 2).window(64).spare(1), &manifest)?;
+    let store = Store::open(Config::new(1, 2).window(64).spare(1).long_bytes(200), &manifest)?;
     let info = store.info();
     assert_eq!((info.nodes, info.slots, info.window, info.limit, info.spare), (1, 2, 64, ENDLESS, 1));
-    assert_eq!((info.maps, info.programs), (2, 1));
+    assert_eq!((info.maps, info.programs, info.long_bytes), (2, 1, 200));
     let shapes = [(false, 1, 2, 16), (true, 4, 8, 4)].map(|(is_array, key, value, entries)| MapShape { is_array, key, value, entries });
     assert_eq!(store.maps(), shapes);
 

@@ -2,7 +2,7 @@
 
 mod fixture;
 
-use fixture::{answer, counter, example, hex_of, key, BUMP, FIVE, LAST_HEX, NAMES_MAP_0, NOTHING_IN_R0, PEEK, PUT_HEX};
+use fixture::{answer, counter, example, five_in, hex_of, key, BUMP, FIVE, LAST_HEX, NAMES_MAP_0, NOTHING_IN_R0, PEEK, PUT_HEX};
 use nrbpf::{Config, Error, Limits, Manifest, Mode, Question, QuestionRefused, Session, State, Store};
 use std::mem;
 
@@ -79,6 +79,8 @@ fn sizes() {
         good.spare(4_097),
         good.limits(wider),
         good.limits(longer),
+        good.long_bytes(16_385),
+        good.long_bytes(u32::MAX),
     ];
     for config in wrong {
         assert_eq!(Store::open(config, &example("counter")).err(), Some(Error::OutOfLimits), "{config:?}");
@@ -155,6 +157,22 @@ fn states() -> Result<(), Error> {
     assert_eq!(Store::open_on(none, &example("counter"), &state).err(), Some(Error::OtherState));
     assert_eq!(Store::open_on(one, &Manifest::new(""), &state).err(), Some(Error::BadLine { line: 1 }));
     Store::open_on(one, &example("counter"), &state)?;
+    Ok(())
+}
+
+/// The first program has one slot more than each may have, the second one byte more of an argument.
+#[test]
+fn states_of_long_programs() -> Result<(), Error> {
+    let (counter, one) = (example("counter"), Config::new(1, 1).spare(1));
+    for (line, long) in [(format!("p read 0 {}\n", hex_of(&five_in(25))), 200), (format!("p read 65 {}\n", hex_of(&FIVE)), 65)] {
+        let state = State::load_with(&counter, one.long_bytes(long), line.as_bytes())?;
+        for config in [one, one.long_bytes(long - 1)] {
+            assert_eq!(Store::open_on(config, &counter, &state).err(), Some(Error::OtherState));
+            assert_eq!(State::load_with(&counter, config, line.as_bytes()).err(), Some(Error::BadDumpLine { line: 1 }));
+        }
+        Store::open_on(one.long_bytes(long), &counter, &state)?;
+    }
+    assert_eq!(State::load_with(&counter, one.long_bytes(16_385), b"").err(), Some(Error::OutOfLimits));
     Ok(())
 }
 
@@ -244,6 +262,23 @@ fn installs() -> Result<(), Error> {
         assert_eq!(session.try_install(mode, argument, code).map_err(parts), Err(wanted));
     }
     assert_eq!(session.read(PEEK, &key(3))?, answer(0, 0));
+    Ok(())
+}
+
+/// One slot too many, and one byte too many of an argument, by how much a store allows.
+#[test]
+fn long_installs() -> Result<(), Error> {
+    for (long, slots, argument) in [(0, 24, 64), (100, 24, 100), (200, 25, 200), (16_384, 2_048, 16_384)] {
+        let store = counter(Config::new(1, 1).window(16).spare(1).long_bytes(long));
+        let (mut session, given) = (store.attach(0)?, vec![0; argument + 1]);
+        assert_eq!(session.install(Mode::Read, 0, &five_in(slots + 1)), Err(Error::TooLarge));
+        assert_eq!(session.try_install(Mode::Read, argument as u32 + 1, &FIVE), Err(Error::TooLarge));
+        assert_eq!(session.install_within(&[], Mode::Read, 0, &five_in(slots + 1)), Err(Error::TooLarge));
+        assert_eq!(session.update(2, &given), Err(Error::ArgumentLength));
+        assert_eq!(session.read(2, &given), Err(Error::ArgumentLength));
+        assert_eq!(session.install(Mode::Read, argument as u32, &five_in(slots))?, answer(0, 2));
+        assert_eq!(session.read(2, &given[1..])?, answer(1, 5));
+    }
     Ok(())
 }
 

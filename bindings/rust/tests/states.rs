@@ -2,8 +2,8 @@
 
 mod fixture;
 
-use fixture::{answer, answered, counter, example, hex_of, key, text_of, BUMP, FIVE, PEEK};
-use nrbpf::{Config, Error, Manifest, Mode, State, Store};
+use fixture::{answer, answered, bytes_of, counter, example, five_in, hex_of, key, text_of, tried, BUMP, FIVE, LAST_HEX, PEEK};
+use nrbpf::{Config, Error, Manifest, Mode, State, Store, REPLY_NO_ROOM};
 use std::io::{self, Write};
 use std::panic::{catch_unwind, AssertUnwindSafe};
 use std::thread;
@@ -150,6 +150,40 @@ fn stores_go_on_from_what_another_ended_in() -> Result<(), Error> {
         assert_eq!(session.read(PEEK, &key(3))?, answer(0, 1));
         assert_eq!(session.read(2, &[])?, answer(0, 5));
         assert_eq!(session.update(BUMP, &key(3))?, answer(0, 2));
+    }
+    Ok(())
+}
+
+/// A node has what another has installed, and so have stores that go on from its state and from its dump.
+#[test]
+fn states_have_long_programs() -> Result<(), Error> {
+    let config = Config::new(2, 1).window(16).spare(2).long_bytes(16_384);
+    let store = counter(config);
+    let (mut one, mut other) = (store.attach(0)?, store.attach(1)?);
+    let argument: Vec<u8> = (0..16_384_u32).map(|k| (k + (k >> 8)) as u8).collect();
+    let tail = u64::from_le_bytes([55, 56, 57, 58, 59, 60, 61, 62]);
+    assert_eq!(one.install(Mode::Read, 0, &five_in(2_048))?, answer(0, 2));
+    assert_eq!(tried(&mut other, |it| it.try_install(Mode::Update, 16_384, &bytes_of(LAST_HEX)))?, answer(1, 3));
+    for turn in 0..100 {
+        assert_eq!(other.read(2, &[])?, answer(2 + 2 * turn, 5));
+        assert_eq!(one.update(3, &argument)?, answer(2 + 2 * turn, tail));
+        assert_eq!(tried(&mut one, |it| it.try_install(Mode::Read, 0, &five_in(2_048)))?, answer(3 + 2 * turn, REPLY_NO_ROOM));
+    }
+    let facts = [one.program_info(2)?.facts, other.program_info(3)?.facts].map(|it| it.expect("it is installed"));
+    assert_eq!(facts.map(|it| (it.mode, it.argument_len, it.slots)), [(Mode::Read, 0, 2_048), (Mode::Update, 16_384, 2)]);
+    drop((one, other));
+
+    let text = format!("p read 0 {}\np update 16384 {LAST_HEX}\n", hex_of(&five_in(2_048)));
+    let state = store.close_into().map_err(|it| it.why)?;
+    let loaded = State::load_with(&example("counter"), config, text.as_bytes())?;
+    for state in [state, loaded] {
+        assert!(dump_of(&state) == text);
+        let store = Store::open_on(config, &example("counter"), &state)?;
+        for node in [0, 1] {
+            let mut session = store.attach(node)?;
+            assert_eq!(session.read(2, &[])?.reply, 5);
+            assert_eq!(session.update(3, &argument)?.reply, tail);
+        }
     }
     Ok(())
 }

@@ -1,4 +1,4 @@
--- The slot that is in a place, with long arguments among bytes. No public clause cites this module.
+-- The slot that is in a place, with what is too long for a record among bytes. No public clause cites this module.
 use Rattle.std.specs.Prelude.{ℕ, suc, ◌+◌, ◌*◌, Bool, List, [], ◌∷◌, Option, Some, None, if◌then◌else◌}
 use Rattle.maps.specs.declared.shapes.TheConstants.{MOST_ARG_LEN}
 use Rattle.oplog.specs.Operations.{Operation}
@@ -22,7 +22,7 @@ stage_in Answered op reply = stages.Answered reply
 abbrev pub slot_in : List ℕ → Place → Slot
 slot_in beside p = slot (stage_in p.stage (op_in beside p.op) p.reply) p.count
 
--- the k-th place has its long argument in the k-th room among the first n bytes
+-- the k-th place has what is too long for a record in the k-th room among the first n bytes
 abbrev pub IsPlaced : ℕ → ℕ → Place → Type 0
 IsPlaced n k p = IsFrom (k * MOST_ARG_LEN) p.op × IsWithin n p.op
 

@@ -52,7 +52,7 @@ impl Default for Place {
 }
 
 impl Place {
-    // The slot that lies here, with a long argument among these bytes.
+    // The slot that lies here, with what is too long for a record among these bytes.
     pub(crate) fn slot<'a>(&'a self, beside: &'a [u8]) -> Slot<'a>
         requires within { IsWithin (length beside.now) self.now.op }
         ensures slot { result ≡ slot_in beside.now self.now }
@@ -67,8 +67,8 @@ impl Place {
         Slot { stage, count }
     }
 
-    // Posts an operation, where there is no request. A long argument is written among the bytes, from a place on. There is room for the
-    // longest.
+    // Posts an operation, where there is no request. What is too long for a record is written among the bytes, from a place on. There is
+    // room for the longest.
     pub(crate) fn post(
         &mut self,
         op: &OpRef<'_>,
@@ -96,7 +96,7 @@ impl Place {
     }
 
     // Claims the request in the place, if one is posted: the request goes into the batch, as that of session `author`. Answers
-    // how many it claimed: 1 or 0. A long argument is among these bytes.
+    // how many it claimed: 1 or 0. What is too long for a record is among these bytes.
     pub(crate) fn claim(&mut self, author: u16, beside: &[u8], batch: &mut Batch) -> u16
         requires room { length batch.old.records < MAX_NODE_SLOTS }
         requires within { IsWithin (length beside.now) self.old.op }

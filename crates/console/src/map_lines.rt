@@ -7,6 +7,7 @@ ghost use Rattle.loader.specs.Spelling.{mode_word};
 ghost use Rattle.console.specs.MapsAnswer.{AddsLineAt, AddsLineOf, AreMapsLines, IsMapsChecked, counts_text, field_of, map_fields, maps_line};
 ghost use Rattle.engine.specs.Reading.{texts_in};
 ghost use Rattle.engine.specs.Report.{answer_of};
+ghost use Rattle.verifier.specs.Accepted.{checked_in};
 
 use engine::texts::put_numbered;
 use engine::{Command, Gathered, Loaded, Notes, Reply, load_texts, not_text};
@@ -64,7 +65,7 @@ fn mode_word(mode: Mode) -> &'static str
 
 // Adds a program's name and its counts.
 fn put_counts(out: &mut Vec<u8>, name: &str, program: &Accepted) -> Result<(), AllocError>
-    ensures { OnOk result (out.new.items ≡ out.old.items ++ counts_text (record { name = name.now; checked = program.now })) }
+    ensures { OnOk result (out.new.items ≡ out.old.items ++ counts_text (record { name = name.now; checked = checked_in program.now })) }
 {
     out.extend_from_slice(name.as_bytes())?;
     put_numbered(out, b" ok ", program.slots() as u64)?;
@@ -79,7 +80,7 @@ fn put_fields(
     program: &Accepted,
     maps: u16,
 ) -> Result<(), AllocError>
-    ensures { OnOk result (out.new.items ≡ out.old.items ++ maps_line (record { name = name.now; checked = program.now }) maps) }
+    ensures { OnOk result (out.new.items ≡ out.old.items ++ maps_line (record { name = name.now; checked = checked_in program.now }) maps) }
 {
     put_counts(out, name, program)?;
     out.extend_from_slice(mode_word(program.mode()).as_bytes())?;
@@ -89,7 +90,7 @@ fn put_fields(
 
 // Adds a program's line, with the numbers of the maps that it names.
 fn put_line(out: &mut Vec<u8>, name: &str, program: &Accepted) -> Result<(), AllocError>
-    ensures { OnOk result (AddsLineOf (record { name = name.now; checked = program.now }) out.old.items out.new.items) }
+    ensures { OnOk result (AddsLineOf (record { name = name.now; checked = checked_in program.now }) out.old.items out.new.items) }
 {
     put_fields(out, name, program, named_maps(program))?;
     Ok(())

@@ -19,7 +19,7 @@ use Rattle.verifier.specs.declared.refusal.Refused.{Refused}
 use Rattle.text.specs.Lines.{next_line}
 use Rattle.loader.specs.declared.installed.InstallRefusal.{InstallRefusal}
 use Rattle.loader.specs.Installed.{installed_program, accepted_program, unless_unsafe}
-use Rattle.loader.specs.StoreState.{StoreState}
+use Rattle.loader.specs.StoreState.{StoreState, StateSizes}
 use Rattle.dumps.specs.declared.refusals.DumpFault.{DumpFault}
 use Rattle.dumps.specs.declared.refusals.DumpFault.TheVariants as faults
 use Rattle.dumps.specs.Grammar.{EntryLine, ProgramLine, Meaning, Entry, Program, ended_lines, line_meaning}
@@ -100,12 +100,12 @@ accepted_ok : (shapes : List Shape) (mode : Mode) (len : ℕ) (r : Result (List 
 accepted_ok shapes mode len (Err e) c h = absurd cc
 accepted_ok shapes mode len (Ok p) c h = (p, refl, unsafe_ok (checked p shapes len mode) c (verdict p (signature shapes len mode)) h)
 
-program_grows : (shapes : List Shape) (so after : Loading) (p : ProgramLine) → IsBytes p.bytes → IsRising so → after_program shapes so p ≡ Ok after → Grows so after (Program p)
-program_grows shapes so after p bytes rising h =
-    let taken = in_place_ok so after (installed_program shapes p.mode p.arg_len p.bytes) h in
-    let read = accepted_ok shapes p.mode p.arg_len (decoded p.bytes) taken.0 taken.1 in
+program_grows : (z : StateSizes) (so after : Loading) (p : ProgramLine) → IsBytes p.bytes → IsRising so → after_program z so p ≡ Ok after → Grows so after (Program p)
+program_grows z so after p bytes rising h =
+    let taken = in_place_ok so after (installed_program z.shapes p.mode p.arg_len p.bytes) h in
+    let read = accepted_ok z.shapes p.mode p.arg_len (decoded p.bytes) taken.0 taken.1 in
     let spelled : p.bytes ≡ program_bytes read.0 = (read_is_spelled p.bytes read.0 (are_bytes p.bytes bytes) read.1).spelled in
-    let c = checked read.0 shapes p.arg_len p.mode in
+    let c = checked read.0 z.shapes p.arg_len p.mode in
     let same : program_line c ≡ p = λ i. record { mode = p.mode; arg_len = p.arg_len; bytes = sym spelled i } in
     let line : Program (program_line taken.0) ≡ Program p = ap (λ (d : Checked). Program (program_line d)) (sym read.2) ∙ ap Program same in
     let lines : lines_of (with_program so taken.0).state ≡ lines_of so.state ++ Program p ∷ [] =
@@ -113,9 +113,9 @@ program_grows shapes so after p bytes rising h =
     ∙ sym (append_assoc (map Entry (entries_of so.state.maps)) (map (λ (d : Checked). Program (program_line d)) so.state.programs) (Program p ∷ [])) in
     subst (λ a. Grows so a (Program p)) taken.2 (record { lines = lines; rising = rising })
 
-pub grows : (shapes : List Shape) (so after : Loading) (m : Meaning) → IsBound m → IsRising so → after_meaning shapes so (Some m) ≡ Ok after → Grows so after m
-grows shapes so after (Entry e) bound rising h = entry_grows so after e rising h
-grows shapes so after (Program p) bound rising h = program_grows shapes so after p bound.1 rising h
+pub grows : (z : StateSizes) (so after : Loading) (m : Meaning) → IsBound z.long m → IsRising so → after_meaning z so (Some m) ≡ Ok after → Grows so after m
+grows z so after (Entry e) bound rising h = entry_grows so after e rising h
+grows z so after (Program p) bound rising h = program_grows z so after p bound.1 rising h
 
 -- ---- the lines
 
@@ -125,9 +125,9 @@ record Taken (so : Loading) (lines : List (Option (List ℕ))) (s : StoreState) 
   spelled : lines ≡ map Some (map text_of said)
   listed : lines_of s ≡ lines_of so.state ++ said
 
-pub meant : (shapes : List Shape) (so after : Loading) (o : Option Meaning) → after_meaning shapes so o ≡ Ok after → (m : Meaning) × (o ≡ Some m)
-meant shapes so after None h = absurd cc
-meant shapes so after (Some m) h = (m, refl)
+pub meant : (z : StateSizes) (so after : Loading) (o : Option Meaning) → after_meaning z so o ≡ Ok after → (m : Meaning) × (o ≡ Some m)
+meant z so after None h = absurd cc
+meant z so after (Some m) h = (m, refl)
 
 one_more : (so after : Loading) (m : Meaning) (text : List ℕ) (lines : List (Option (List ℕ))) (s : StoreState) → text ≡ text_of m → Grows so after m → Taken after lines s → Taken so (Some text ∷ lines) s
 one_more so after m text lines s spelled grown taken =
@@ -137,37 +137,37 @@ one_more so after m text lines s spelled grown taken =
       listed = taken.listed ∙ ap (λ u. u ++ taken.said) grown.lines ∙ append_assoc (lines_of so.state) (m ∷ []) taken.said;
     }
 
-all_taken : (shapes : List Shape) (n : ℕ) (so : Loading) (lines : List (Option (List ℕ))) (s : StoreState) → IsRising so → after_lines shapes n so lines ≡ Ok s → Taken so lines s
+all_taken : (z : StateSizes) (n : ℕ) (so : Loading) (lines : List (Option (List ℕ))) (s : StoreState) → IsRising so → after_lines z n so lines ≡ Ok s → Taken so lines s
 unfolding after_lines after_line
-all_taken shapes n so [] s rising h =
+all_taken z n so [] s rising h =
     let same : so.state ≡ s = cc in
     record { said = []; spelled = refl; listed = ap lines_of (sym same) ∙ sym (append-nil (lines_of so.state)) }
-all_taken shapes n so (None ∷ lines) s rising h = absurd cc
-all_taken shapes n so (Some text ∷ lines) s rising h = by (after_meaning shapes so (line_meaning text)) refl h (λ after up g. all_taken shapes (next_line n) after lines s up g)
+all_taken z n so (None ∷ lines) s rising h = absurd cc
+all_taken z n so (Some text ∷ lines) s rising h = by (after_meaning z so (line_meaning z.long text)) refl h (λ after up g. all_taken z (next_line n) after lines s up g)
   where
-    by : (r : Result Loading DumpFault) → after_meaning shapes so (line_meaning text) ≡ r
-        → either (λ why. Err (record { line = n; why = why })) (λ after. after_lines shapes (next_line n) after lines) r ≡ Ok s
-        → ((after : Loading) → IsRising after → after_lines shapes (next_line n) after lines ≡ Ok s → Taken after lines s) → Taken so (Some text ∷ lines) s
+    by : (r : Result Loading DumpFault) → after_meaning z so (line_meaning z.long text) ≡ r
+        → either (λ why. Err (record { line = n; why = why })) (λ after. after_lines z (next_line n) after lines) r ≡ Ok s
+        → ((after : Loading) → IsRising after → after_lines z (next_line n) after lines ≡ Ok s → Taken after lines s) → Taken so (Some text ∷ lines) s
     by (Err why) is h rest = absurd cc
     by (Ok after) is h rest =
-        let means = meant shapes so after (line_meaning text) is in
-        let spelled = said text means.0 means.1 in
-        let grown = grows shapes so after means.0 spelled.1 rising (ap (after_meaning shapes so) (sym means.1) ∙ is) in
+        let means = meant z so after (line_meaning z.long text) is in
+        let spelled = said z.long text means.0 means.1 in
+        let grown = grows z so after means.0 spelled.1 rising (ap (after_meaning z so) (sym means.1) ∙ is) in
         one_more so after means.0 text lines s spelled.0 grown (rest after grown.rising h)
 
-pub opening_rising : (shapes : List Shape) (places : ℕ) → IsRising (opening shapes places)
-opening_rising shapes places m k h = subst (λ es. AllBefore es m k) (sym (all_empty 0 shapes)) tt
+pub opening_rising : (z : StateSizes) → IsRising (opening z)
+opening_rising z m k h = subst (λ es. AllBefore es m k) (sym (all_empty 0 z.shapes)) tt
 
-pub no_lines : (shapes : List Shape) (places : ℕ) → lines_of (opening shapes places).state ≡ []
-no_lines shapes places = ap (λ es. map Entry es ++ []) (all_empty 0 shapes)
+pub no_lines : (z : StateSizes) → lines_of (opening z).state ≡ []
+no_lines z = ap (λ es. map Entry es ++ []) (all_empty 0 z.shapes)
 
 pub texts : (ms : List Meaning) → flat_map (λ l. text_of l ++ codes "\n") ms ≡ joined (map text_of ms)
 texts [] = refl
 texts (m ∷ ms) = ap (λ u. (text_of m ++ 10 ∷ []) ++ u) (texts ms)
 
-pub text_is_dumped : (shapes : List Shape) (places : ℕ) (text : List ℕ) (s : StoreState) → loaded_state shapes places text ≡ Ok s → dump s ≡ text
+pub text_is_dumped : (z : StateSizes) (text : List ℕ) (s : StoreState) → loaded_state z text ≡ Ok s → dump s ≡ text
 unfolding loaded_state dump
-text_is_dumped shapes places text s h =
-    let taken = all_taken shapes 1 (opening shapes places) (ended_lines text) s (opening_rising shapes places) h in
-    let said : lines_of s ≡ taken.said = taken.listed ∙ ap (λ u. u ++ taken.said) (no_lines shapes places) in
+text_is_dumped z text s h =
+    let taken = all_taken z 1 (opening z) (ended_lines text) s (opening_rising z) h in
+    let said : lines_of s ≡ taken.said = taken.listed ∙ ap (λ u. u ++ taken.said) (no_lines z) in
     ap (flat_map (λ l. text_of l ++ codes "\n")) said ∙ texts taken.said ∙ sym (text_is_lines text (map text_of taken.said) taken.spelled)

@@ -3,10 +3,9 @@ use Rattle.std.proofs.Common.{append_assoc, append-nil, ◌≡◌, ℕ, ◌+◌,
 use Rattle.std.proofs.lemmas.List.{length-map}
 use Rattle.std.specs.Prelude.{slice_get}
 use Rattle.insn.proofs.Export.{are_bytes}
-use Rattle.maps.specs.declared.shapes.Shape.{Shape}
 use Rattle.maps.specs.Shapes.{AreShapesSupported}
 use Rattle.text.specs.Lines.{next_line}
-use Rattle.loader.specs.declared.installed.TheConstants.{MOST_SPARE}
+use Rattle.loader.specs.declared.installed.TheConstants.{MOST_LONG, MOST_SPARE}
 use Rattle.loader.specs.Installed.{installed_program}
 use Rattle.loader.specs.StoreState.{StoreState, StateSizes, IsState}
 use Rattle.loader.proofs.Export.{number_behind, numbered, opened_is_state}
@@ -29,9 +28,9 @@ use Rattle.dumps.proofs.TextLines.{joined}
 -- ---- line by line
 
 -- these lines are taken, one after the other
-abbrev pub Goes : List Shape → List (Option (List ℕ)) → Loading → Loading → Type 0
-Goes shapes [] so after = so ≡ after
-Goes shapes (l ∷ ls) so after = (mid : Loading) × (after_ended shapes so l ≡ Ok mid) × Goes shapes ls mid after
+abbrev pub Goes : StateSizes → List (Option (List ℕ)) → Loading → Loading → Type 0
+Goes z [] so after = so ≡ after
+Goes z (l ∷ ls) so after = (mid : Loading) × (after_ended z so l ≡ Ok mid) × Goes z ls mid after
 
 -- the number of the line behind these, from that of the first
 abbrev number_after : ℕ → List (Option (List ℕ)) → ℕ
@@ -52,19 +51,19 @@ number_is ls =
     ∙ numbered 1 (map blank ls) (omega arith)
     ∙ ap (λ n. min n (2 ^ 32 - 1)) (let e : length (map blank ls) ≡ length ls = length-map ls blank in let same : 1 + length (map blank ls) ≡ length ls + 1 = omega arith in same)
 
-through : (shapes : List Shape) (front back : List (Option (List ℕ))) (n : ℕ) (so after : Loading) → Goes shapes front so after → after_lines shapes n so (front ++ back) ≡ after_lines shapes (number_after n front) after back
+through : (z : StateSizes) (front back : List (Option (List ℕ))) (n : ℕ) (so after : Loading) → Goes z front so after → after_lines z n so (front ++ back) ≡ after_lines z (number_after n front) after back
 unfolding after_lines
-through shapes [] back n so after g = ap (λ x. after_lines shapes n x back) g
-through shapes (l ∷ front) back n so after (mid, step, g) = rw step (through shapes front back (next_line n) mid after g)
+through z [] back n so after g = ap (λ x. after_lines z n x back) g
+through z (l ∷ front) back n so after (mid, step, g) = rw step (through z front back (next_line n) mid after g)
 
 -- what leads to a state
-goes_from : (shapes : List Shape) (ls : List (Option (List ℕ))) (n : ℕ) (so : Loading) (s : StoreState) → after_lines shapes n so ls ≡ Ok s → (after : Loading) × Goes shapes ls so after × (after.state ≡ s)
+goes_from : (z : StateSizes) (ls : List (Option (List ℕ))) (n : ℕ) (so : Loading) (s : StoreState) → after_lines z n so ls ≡ Ok s → (after : Loading) × Goes z ls so after × (after.state ≡ s)
 unfolding after_lines
-goes_from shapes [] n so s h = (so, refl, cc)
-goes_from shapes (l ∷ ls) n so s h = by (after_ended shapes so l) refl h (λ mid k. goes_from shapes ls (next_line n) mid s k)
+goes_from z [] n so s h = (so, refl, cc)
+goes_from z (l ∷ ls) n so s h = by (after_ended z so l) refl h (λ mid k. goes_from z ls (next_line n) mid s k)
   where
-    by : (r : Result Loading DumpFault) → after_ended shapes so l ≡ r → either (λ why. Err (record { line = n; why = why })) (λ after. after_lines shapes (next_line n) after ls) r ≡ Ok s
-        → ((mid : Loading) → after_lines shapes (next_line n) mid ls ≡ Ok s → (after : Loading) × Goes shapes ls mid after × (after.state ≡ s)) → (after : Loading) × Goes shapes (l ∷ ls) so after × (after.state ≡ s)
+    by : (r : Result Loading DumpFault) → after_ended z so l ≡ r → either (λ why. Err (record { line = n; why = why })) (λ after. after_lines z (next_line n) after ls) r ≡ Ok s
+        → ((mid : Loading) → after_lines z (next_line n) mid ls ≡ Ok s → (after : Loading) × Goes z ls mid after × (after.state ≡ s)) → (after : Loading) × Goes z (l ∷ ls) so after × (after.state ≡ s)
     by (Err why) is h rest = absurd cc
     by (Ok mid) is h rest = let r = rest mid h in (r.0, (mid, is, r.1), r.2)
 
@@ -72,23 +71,23 @@ goes_from shapes (l ∷ ls) n so s h = by (after_ended shapes so l) refl h (λ m
 abbrev refusal : ℕ → DumpFault → DumpRefusal
 refusal n why = record { line = n; why = why }
 
-record BadAt (shapes : List Shape) (ls : List (Option (List ℕ))) (n : ℕ) (so : Loading) (e : DumpRefusal) : Type 0 where
+record BadAt (z : StateSizes) (ls : List (Option (List ℕ))) (n : ℕ) (so : Loading) (e : DumpRefusal) : Type 0 where
   before : List (Option (List ℕ))
   line : Option (List ℕ)
   rest : List (Option (List ℕ))
   split : ls ≡ before ++ line ∷ rest
   so_far : Loading
-  good : Goes shapes before so so_far
-  bad : after_ended shapes so_far line ≡ Err e.why
+  good : Goes z before so so_far
+  bad : after_ended z so_far line ≡ Err e.why
   number : e.line ≡ number_after n before
 
-bad_from : (shapes : List Shape) (ls : List (Option (List ℕ))) (n : ℕ) (so : Loading) (e : DumpRefusal) → after_lines shapes n so ls ≡ Err e → BadAt shapes ls n so e
+bad_from : (z : StateSizes) (ls : List (Option (List ℕ))) (n : ℕ) (so : Loading) (e : DumpRefusal) → after_lines z n so ls ≡ Err e → BadAt z ls n so e
 unfolding after_lines
-bad_from shapes [] n so e h = absurd cc
-bad_from shapes (l ∷ ls) n so e h = by (after_ended shapes so l) refl h (λ mid k. bad_from shapes ls (next_line n) mid e k)
+bad_from z [] n so e h = absurd cc
+bad_from z (l ∷ ls) n so e h = by (after_ended z so l) refl h (λ mid k. bad_from z ls (next_line n) mid e k)
   where
-    by : (r : Result Loading DumpFault) → after_ended shapes so l ≡ r → either (λ why. Err (record { line = n; why = why })) (λ after. after_lines shapes (next_line n) after ls) r ≡ Err e
-        → ((mid : Loading) → after_lines shapes (next_line n) mid ls ≡ Err e → BadAt shapes ls (next_line n) mid e) → BadAt shapes (l ∷ ls) n so e
+    by : (r : Result Loading DumpFault) → after_ended z so l ≡ r → either (λ why. Err (record { line = n; why = why })) (λ after. after_lines z (next_line n) after ls) r ≡ Err e
+        → ((mid : Loading) → after_lines z (next_line n) mid ls ≡ Err e → BadAt z ls (next_line n) mid e) → BadAt z (l ∷ ls) n so e
     by (Err why) is h rest =
         let same : refusal n why ≡ e = cc in
         record { before = []; line = l; rest = ls; split = refl; so_far = so; good = refl; bad = is ∙ ap (λ (x : DumpRefusal). Err x.why) same; number = ap (λ (x : DumpRefusal). x.line) (sym same) }
@@ -102,20 +101,20 @@ bad_from shapes (l ∷ ls) n so e h = by (after_ended shapes so l) refl h (λ mi
 abbrev IsLast : Loading → Type 0
 IsLast so = (m : ℕ) (k : List ℕ) → AllBefore (entries_of so.state.maps) m k → is_behind so.last m k ≡ true
 
-record Kept (shapes : List Shape) (places : ℕ) (so : Loading) : Type 0 where
-  state : IsState (record { shapes = shapes; places = places }) so.state
+record Kept (z : StateSizes) (so : Loading) : Type 0 where
+  state : IsState z so.state
   rising : IsRising so
   last : IsLast so
 
-last_kept : (shapes : List Shape) (so after : Loading) (m : Meaning) → IsRising so → IsLast so → after_meaning shapes so (Some m) ≡ Ok after → IsLast after
-last_kept shapes so after (Entry e) rising kept h =
+last_kept : (z : StateSizes) (so after : Loading) (m : Meaning) → IsRising so → IsLast so → after_meaning z so (Some m) ≡ Ok after → IsLast after
+last_kept z so after (Entry e) rising kept h =
     let taken = in_map_ok so after e (slice_get so.state.maps e.map) h in
     let p = passes so e taken.0 (sym taken.2) in
     let listed = entry_listed so e taken.0 rising taken.1 p in
     let is : IsLast (with_entry so e) = λ m k all. behind e m k (all_parts (λ (d : EntryLine). IsBefore d m k) (entries_of so.state.maps) (e ∷ []) (subst (λ es. AllBefore es m k) listed all)).1.0 in
     subst IsLast taken.3 is
-last_kept shapes so after (Program p) rising kept h =
-    let taken = in_place_ok so after (installed_program shapes p.mode p.arg_len p.bytes) h in
+last_kept z so after (Program p) rising kept h =
+    let taken = in_place_ok so after (installed_program z.shapes p.mode p.arg_len p.bytes) h in
     let is : IsLast (with_program so taken.0) = kept in
     subst IsLast taken.2 is
 
@@ -125,23 +124,23 @@ record Said (so : Loading) (lines : List (Option (List ℕ))) (after : Loading) 
   spelled : lines ≡ map Some (map text_of said_by)
   listed : lines_of after.state ≡ lines_of so.state ++ said_by
 
-module _ (shapes : List Shape) (places : ℕ) (ok : AreShapesSupported shapes) where
-  one_line : (so after : Loading) (l : Option (List ℕ)) → Kept shapes places so → after_ended shapes so l ≡ Ok after → Kept shapes places after × Said so (l ∷ []) after
+module _ (z : StateSizes) (ok : AreShapesSupported z.shapes) (limit : z.long ≤ MOST_LONG) where
+  one_line : (so after : Loading) (l : Option (List ℕ)) → Kept z so → after_ended z so l ≡ Ok after → Kept z after × Said so (l ∷ []) after
   unfolding after_line
   one_line so after None kept h = absurd cc
   one_line so after (Some text) kept h =
-      let means = meant shapes so after (line_meaning text) h in
+      let means = meant z so after (line_meaning z.long text) h in
       let m = means.0 in
-      let step : after_meaning shapes so (Some m) ≡ Ok after = ap (after_meaning shapes so) (sym means.1) ∙ h in
-      let spelled = said text m means.1 in
-      let grown = grows shapes so after m spelled.1 kept.rising step in (
-        record { state = line_is shapes places ok so after kept.state (Some text) h; rising = grown.rising; last = last_kept shapes so after m kept.rising kept.last step },
+      let step : after_meaning z so (Some m) ≡ Ok after = ap (after_meaning z so) (sym means.1) ∙ h in
+      let spelled = said z.long text m means.1 in
+      let grown = grows z so after m spelled.1 kept.rising step in (
+        record { state = line_is z ok limit so after kept.state (Some text) h; rising = grown.rising; last = last_kept z so after m kept.rising kept.last step },
         record { said_by = m ∷ []; spelled = ap (λ u. Some u ∷ []) spelled.0; listed = grown.lines },
       )
 
-  all_lines : (lines : List (Option (List ℕ))) (so after : Loading) → Kept shapes places so → Goes shapes lines so after → Kept shapes places after × Said so lines after
+  all_lines : (lines : List (Option (List ℕ))) (so after : Loading) → Kept z so → Goes z lines so after → Kept z after × Said so lines after
   all_lines [] so after kept g =
-      (subst (Kept shapes places) g kept, record { said_by = []; spelled = refl; listed = ap (λ (x : Loading). lines_of x.state) (sym g) ∙ sym (append-nil (lines_of so.state)) })
+      (subst (Kept z) g kept, record { said_by = []; spelled = refl; listed = ap (λ (x : Loading). lines_of x.state) (sym g) ∙ sym (append-nil (lines_of so.state)) })
   all_lines (l ∷ lines) so after kept (mid, step, g) =
       let first = one_line so mid l kept step in
       let rest = all_lines lines mid after first.0 g in (
@@ -157,34 +156,34 @@ module _ (shapes : List Shape) (places : ℕ) (ok : AreShapesSupported shapes) w
       both [] ys = refl
       both (x ∷ xs) ys = ap (λ u. Some (text_of x) ∷ u) (both xs ys)
 
-  opened : places ≤ MOST_SPARE → Kept shapes places (opening shapes places)
-  opened few = record { state = opened_is_state (record { shapes = shapes; places = places }) ok few; rising = opening_rising shapes places; last = λ m k all. refl }
+  opened : z.places ≤ MOST_SPARE → Kept z (opening z)
+  opened few = record { state = opened_is_state z ok few limit; rising = opening_rising z; last = λ m k all. refl }
 
   -- what a line is answered, behind these
-  line_answered : (so : Loading) (l : Option (List ℕ)) → Kept shapes places so → Answers so.state (meaning_of l) (after_ended shapes so l)
+  line_answered : (so : Loading) (l : Option (List ℕ)) → Kept z so → Answers so.state (meaning_of z.long l) (after_ended z so l)
   unfolding after_line
-  line_answered so None kept = answered shapes so None (sym kept.state.maps.same) kept.state.maps.each kept.rising kept.last (λ e none. absurd cc)
+  line_answered so None kept = answered z so None (sym kept.state.maps.same) kept.state.maps.each kept.rising kept.last (λ e none. absurd cc)
   line_answered so (Some text) kept =
-      answered shapes so (line_meaning text) (sym kept.state.maps.same) kept.state.maps.each kept.rising kept.last (λ e means. are_bytes e.key (said text (Entry e) means).1.0)
+      answered z so (line_meaning z.long text) (sym kept.state.maps.same) kept.state.maps.each kept.rising kept.last (λ e means. are_bytes e.key (said z.long text (Entry e) means).1.0)
 
-lowest_of : (s : StoreState) (l : Option (List ℕ)) (r : Result Loading DumpFault) (why : DumpFault) → Answers s (meaning_of l) r → r ≡ Err why → IsLowestFault s (meaning_of l) why
-lowest_of s l (Ok after) why a e = absurd cc
-lowest_of s l (Err other) why a e = let same : other ≡ why = cc in subst (IsLowestFault s (meaning_of l)) same a
+lowest_of : (s : StoreState) (m : Option Meaning) (r : Result Loading DumpFault) (why : DumpFault) → Answers s m r → r ≡ Err why → IsLowestFault s m why
+lowest_of s m (Ok after) why a e = absurd cc
+lowest_of s m (Err other) why a e = let same : other ≡ why = cc in subst (IsLowestFault s m) same a
 
-refused_of : (s : StoreState) (l : Option (List ℕ)) (r : Result Loading DumpFault) (why : DumpFault) → Answers s (meaning_of l) r → IsLowestFault s (meaning_of l) why → r ≡ Err why
-refused_of s l (Ok after) why a low = absurd (a why low.has)
-refused_of s l (Err other) why a low = ap Err (one_lowest s (meaning_of l) other why a low)
+refused_of : (s : StoreState) (m : Option Meaning) (r : Result Loading DumpFault) (why : DumpFault) → Answers s m r → IsLowestFault s m why → r ≡ Err why
+refused_of s m (Ok after) why a low = absurd (a why low.has)
+refused_of s m (Err other) why a low = ap Err (one_lowest s m other why a low)
 
 -- ---- the text
 
-from_refusal : (z : StateSizes) (text : List ℕ) (e : DumpRefusal) → AreShapesSupported z.shapes → z.places ≤ MOST_SPARE → loaded_state z.shapes z.places text ≡ Err e → IsFirstBad z text e
+from_refusal : (z : StateSizes) (text : List ℕ) (e : DumpRefusal) → AreShapesSupported z.shapes → z.places ≤ MOST_SPARE → z.long ≤ MOST_LONG → loaded_state z text ≡ Err e → IsFirstBad z text e
 unfolding loaded_state dump
-from_refusal z text e ok few h =
-    let b = bad_from z.shapes (ended_lines text) 1 (opening z.shapes z.places) e h in
-    let read = all_lines z.shapes z.places ok b.before (opening z.shapes z.places) b.so_far (opened z.shapes z.places ok few) b.good in
+from_refusal z text e ok few limit h =
+    let b = bad_from z (ended_lines text) 1 (opening z) e h in
+    let read = all_lines z ok limit b.before (opening z) b.so_far (opened z ok limit few) b.good in
     let kept = read.0 in
     let said_by = read.1.said_by in
-    let lines : lines_of b.so_far.state ≡ said_by = read.1.listed ∙ ap (λ u. u ++ said_by) (no_lines z.shapes z.places) in
+    let lines : lines_of b.so_far.state ≡ said_by = read.1.listed ∙ ap (λ u. u ++ said_by) (no_lines z) in
     let at = cut text (map text_of said_by) (b.line ∷ b.rest) (b.split ∙ ap (λ u. u ++ b.line ∷ b.rest) read.1.spelled) in
     let text_before : dump b.so_far.state ≡ joined (map text_of said_by) = texts (lines_of b.so_far.state) ∙ ap (λ u. joined (map text_of u)) lines in
     let count : length b.before ≡ length (lines_of b.so_far.state) = ap length read.1.spelled ∙ length-map (map text_of said_by) Some ∙ length-map said_by text_of ∙ ap length (sym lines) in
@@ -196,31 +195,31 @@ from_refusal z text e ok few h =
       line = b.line;
       behind = b.rest;
       first = at.first;
-      fault = lowest_of b.so_far.state b.line (after_ended z.shapes b.so_far b.line) e.why (line_answered z.shapes z.places ok b.so_far b.line kept) b.bad;
+      fault = lowest_of b.so_far.state (meaning_of z.long b.line) (after_ended z b.so_far b.line) e.why (line_answered z ok limit b.so_far b.line kept) b.bad;
       number = b.number ∙ number_is b.before ∙ ap next_line count;
     }
 
-at_bad : (shapes : List Shape) (n : ℕ) (so : Loading) (l : Option (List ℕ)) (ls : List (Option (List ℕ))) (e : DumpRefusal) → after_ended shapes so l ≡ Err e.why → n ≡ e.line → after_lines shapes n so (l ∷ ls) ≡ Err e
+at_bad : (z : StateSizes) (n : ℕ) (so : Loading) (l : Option (List ℕ)) (ls : List (Option (List ℕ))) (e : DumpRefusal) → after_ended z so l ≡ Err e.why → n ≡ e.line → after_lines z n so (l ∷ ls) ≡ Err e
 unfolding after_lines
-at_bad shapes n so l ls e bad number = rw (bad, number) refl
+at_bad z n so l ls e bad number = rw (bad, number) refl
 
-to_refusal : (z : StateSizes) (text : List ℕ) (e : DumpRefusal) → AreShapesSupported z.shapes → z.places ≤ MOST_SPARE → IsFirstBad z text e → loaded_state z.shapes z.places text ≡ Err e
+to_refusal : (z : StateSizes) (text : List ℕ) (e : DumpRefusal) → AreShapesSupported z.shapes → z.places ≤ MOST_SPARE → z.long ≤ MOST_LONG → IsFirstBad z text e → loaded_state z text ≡ Err e
 unfolding loaded_state
-to_refusal z text e ok few b =
-    let good = goes_from z.shapes (ended_lines (dump b.before)) 1 (opening z.shapes z.places) b.before (dump_is_read z.shapes z.places b.before b.state) in
+to_refusal z text e ok few limit b =
+    let good = goes_from z (ended_lines (dump b.before)) 1 (opening z) b.before (dump_is_read z b.before b.state) in
     let so = good.0 in
-    let read = all_lines z.shapes z.places ok (ended_lines (dump b.before)) (opening z.shapes z.places) so (opened z.shapes z.places ok few) good.1 in
+    let read = all_lines z ok limit (ended_lines (dump b.before)) (opening z) so (opened z ok limit few) good.1 in
     let said_by = read.1.said_by in
-    let listed : lines_of b.before ≡ said_by = ap lines_of (sym good.2) ∙ read.1.listed ∙ ap (λ u. u ++ said_by) (no_lines z.shapes z.places) in
+    let listed : lines_of b.before ≡ said_by = ap lines_of (sym good.2) ∙ read.1.listed ∙ ap (λ u. u ++ said_by) (no_lines z) in
     let lines : ended_lines text ≡ ended_lines (dump b.before) ++ b.line ∷ b.behind =
     ap ended_lines b.split ∙ appended (dump b.before) b.rest (map text_of said_by) read.1.spelled ∙ ap₂ (λ u v. u ++ v) (sym read.1.spelled) b.first in
-    let low : IsLowestFault so.state (meaning_of b.line) e.why = subst (λ s. IsLowestFault s (meaning_of b.line) e.why) (sym good.2) b.fault in
-    let bad = refused_of so.state b.line (after_ended z.shapes so b.line) e.why (line_answered z.shapes z.places ok so b.line read.0) low in
+    let low : IsLowestFault so.state (meaning_of z.long b.line) e.why = subst (λ s. IsLowestFault s (meaning_of z.long b.line) e.why) (sym good.2) b.fault in
+    let bad = refused_of so.state (meaning_of z.long b.line) (after_ended z so b.line) e.why (line_answered z ok limit so b.line read.0) low in
     let count : length (ended_lines (dump b.before)) ≡ length (lines_of b.before) = ap length read.1.spelled ∙ length-map (map text_of said_by) Some ∙ length-map said_by text_of ∙ ap length (sym listed) in
     let number : number_after 1 (ended_lines (dump b.before)) ≡ e.line = number_is (ended_lines (dump b.before)) ∙ ap next_line count ∙ sym b.number in
-    ap (after_lines z.shapes 1 (opening z.shapes z.places)) lines
-    ∙ through z.shapes (ended_lines (dump b.before)) (b.line ∷ b.behind) 1 (opening z.shapes z.places) so good.1
-    ∙ at_bad z.shapes (number_after 1 (ended_lines (dump b.before))) so b.line b.behind e bad number
+    ap (after_lines z 1 (opening z)) lines
+    ∙ through z (ended_lines (dump b.before)) (b.line ∷ b.behind) 1 (opening z) so good.1
+    ∙ at_bad z (number_after 1 (ended_lines (dump b.before))) so b.line b.behind e bad number
 
 pub refused_is_first_bad : RefusedIsFirstBad
-refused_is_first_bad z text e ok few = (from_refusal z text e ok few, to_refusal z text e ok few)
+refused_is_first_bad z text e ok few limit = (from_refusal z text e ok few limit, to_refusal z text e ok few limit)

@@ -22,5 +22,6 @@ pub mod LoadedState
 pub mod CutLines
 pub mod LowestFaults
 pub mod FirstBad
+pub mod Longer
 pub mod Widened
 pub mod Export

@@ -2,7 +2,7 @@
 use Rattle.std.proofs.Common.{◌≡◌, ℕ, zero, suc, ◌+◌, ◌*◌, ◌/◌, ◌%◌, ◌<◌, ◌≤◌, inl, inr, Bool, true, false, cond, eqb, ltb, leb, ◌&&◌, List, [], ◌∷◌, length, get_or, codes, bytes_eq, Option, Some, None, Result, Ok, Err, refl, sym, ap, ap₂, ◌∙◌, arith}
 use Rattle.std.specs.List.{list_all}
 use Rattle.std.specs.Result.{result_unwrap_or}
-use Rattle.std.proofs.lemmas.Bool.{and_parts, cases_lt, eqb-true, le-leb, ne_eqb}
+use Rattle.std.proofs.lemmas.Bool.{and_parts, cases_lt, eqb-true, le-leb, leb-true, ne_eqb}
 use Rattle.std.proofs.lemmas.Bool.Decides.{nat_tests}
 use Rattle.std.proofs.lemmas.Slice.Eq.{bytes_eq-Decides}
 use Rattle.hex.specs.declared.error.FromHexError.{FromHexError}
@@ -119,14 +119,16 @@ some_left true field o bytes never h = absurd (never refl)
 some_left false [] o bytes never h = absurd cc
 some_left false (x ∷ xs) o bytes never h = sym (long false (x ∷ xs) o never (omega arith)) ∙ h
 
-pub lower_from : (most : ℕ) (field bytes : List ℕ) → lower_bytes most field ≡ Some bytes → (field ≡ encode_lower bytes) × IsBytes bytes
+pub lower_from : (most : ℕ) (field bytes : List ℕ) → lower_bytes most field ≡ Some bytes → (field ≡ encode_lower bytes) × IsBytes bytes × (length bytes ≤ most)
 unfolding lower_bytes field_bytes
 lower_from most field bytes h =
     let first = if_true (leb (length field) (2 * most) && list_all is_lower_digit field) (field_bytes field) bytes h in
     let lower = and_parts (leb (length field) (2 * most)) (list_all is_lower_digit field) first.0 in
     let read = good_ok (decode_of field) bytes (some_left (bytes_eq field (codes "-")) field (good (decode_of field)) bytes (no_dash field lower.1) first.1) in
     let ok = decode_of-ok field bytes read in
-    (pairs_back 0 field bytes lower.1 (sym (decode_of-even field ok.0) ∙ read), ok.3)
+    let spelled = pairs_back 0 field bytes lower.1 (sym (decode_of-even field ok.0) ∙ read) in
+    let few = leb-true (length field) (2 * most) lower.0 in
+    (spelled, ok.3, omega (arith, few, ap length spelled, length-encode_with lower_digits bytes))
 
 pub lower_to : (most : ℕ) (bytes : List ℕ) → IsBytes bytes → 0 < length bytes → length bytes ≤ most → lower_bytes most (encode_lower bytes) ≡ Some bytes
 unfolding lower_bytes field_bytes

@@ -13,7 +13,7 @@ use Rattle.maps.specs.MapSets.{HasRoom}
 use Rattle.verifier.specs.Accepted.{Checked}
 use Rattle.loader.specs.declared.installed.InstallRefusal.{InstallRefusal}
 use Rattle.loader.specs.Installed.{installed_program}
-use Rattle.loader.specs.StoreState.{StoreState}
+use Rattle.loader.specs.StoreState.{StoreState, StateSizes}
 use Rattle.dumps.specs.declared.refusals.DumpFault.{DumpFault}
 use Rattle.dumps.specs.declared.refusals.DumpFault.TheVariants as faults
 use Rattle.dumps.specs.FirstBad.{HasFault, IsLowestFault, OfEntry, OfProgram, StandsBehind}
@@ -375,14 +375,14 @@ each_there P (y ∷ xs) zero x all at = let same : y ≡ x = cc in subst P same 
 each_there P (y ∷ xs) (suc n) x all at = each_there P xs n x all.1 at
 
 -- what a line is answered
-pub answered : (shapes : List Shape) (so : Loading) (m : Option Meaning) → shapes ≡ shapes_of so.state.maps → AreMaps so.state.maps → IsRising so
+pub answered : (z : StateSizes) (so : Loading) (m : Option Meaning) → z.shapes ≡ shapes_of so.state.maps → AreMaps so.state.maps → IsRising so
     → ((n : ℕ) (k : List ℕ) → AllBefore (entries_of so.state.maps) n k → is_behind so.last n k ≡ true)
-    → ((e : EntryLine) → m ≡ Some (Entry e) → AreBytes e.key) → Answers so.state m (after_meaning shapes so m)
-answered shapes so None same maps rising last bytes = says_nothing so.state
-answered shapes so (Some (Entry e)) same maps rising last bytes = by (slice_get so.state.maps e.map) refl
+    → ((e : EntryLine) → m ≡ Some (Entry e) → AreBytes e.key) → Answers so.state m (after_meaning z so m)
+answered z so None same maps rising last bytes = says_nothing so.state
+answered z so (Some (Entry e)) same maps rising last bytes = by (slice_get so.state.maps e.map) refl
   where
     by : (o : Option MapState) → slice_get so.state.maps e.map ≡ o → Answers so.state (Some (Entry e)) (in_map so e o)
     by None at = without_map so rising last e at
     by (Some t) at = in_its_map so rising last e t at (each_there IsMapState so.state.maps e.map t maps at) (bytes e refl)
-answered shapes so (Some (Program p)) same maps rising last bytes =
+answered z so (Some (Program p)) same maps rising last bytes =
     subst (λ x. Answers so.state (Some (Program p)) (in_place so (installed_program x p.mode p.arg_len p.bytes))) (sym same) (installed so p (installed_program (shapes_of so.state.maps) p.mode p.arg_len p.bytes) refl)

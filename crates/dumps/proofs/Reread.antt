@@ -26,9 +26,10 @@ use Rattle.verifier.specs.Signature.{signature}
 use Rattle.verifier.specs.Verdict.{verdict}
 use Rattle.verifier.proofs.Export.{accepted_iff}
 use Rattle.loader.specs.declared.installed.InstallRefusal.{InstallRefusal}
+use Rattle.loader.specs.declared.installed.TheConstants.{MOST_LONG}
 use Rattle.loader.specs.Spelling.{mode_word}
 use Rattle.loader.specs.Installed.{installed_program, accepted_program, unless_unsafe, IsShort}
-use Rattle.loader.specs.StoreState.{StoreState, IsState}
+use Rattle.loader.specs.StoreState.{StoreState, StateSizes, IsState}
 use Rattle.dumps.specs.declared.refusals.DumpFault.TheVariants as faults
 use Rattle.dumps.specs.Grammar.{is_lower_digit, EntryLine, Meaning, Entry, Program, ended_lines}
 use Rattle.dumps.specs.Loading.{Loading, is_behind, is_hash, is_key_for, is_in_order, is_left_out, has_room, with_entry, with_program, after_entry, after_program, after_meaning, after_line, after_ended, after_lines, in_place, opening, loaded_state}
@@ -39,7 +40,7 @@ use Rattle.dumps.proofs.Faults.{hash_key, array_key, known_key, hash_room, none}
 use Rattle.dumps.proofs.Kept.{maps_keep}
 use Rattle.dumps.proofs.Loop.{one_on}
 use Rattle.dumps.proofs.LowerHex.{lower_all}
-use Rattle.dumps.proofs.SpelledLines.{ProgramFits, Fits, spelled_says}
+use Rattle.dumps.proofs.SpelledLines.{ProgramFits, Fits, argument_small, spelled_says}
 use Rattle.dumps.proofs.TextLines.{joined}
 use Rattle.dumps.proofs.Placing.{IsBefore, behind, key_of, all_joined, all_mapped, map_joined, all_empty}
 use Rattle.dumps.proofs.Dumped.{IsRising, entry_listed, entry_rising, opening_rising, texts}
@@ -174,21 +175,22 @@ abbrev pub spelled : List Meaning → List (Option (List ℕ))
 spelled ms = map Some (map text_of ms)
 
 -- the lines of the entries leave these maps
-record EntriesRead (shapes : List Shape) (maps : Maps) (n : ℕ) (so : Loading) (es : List EntryLine) (rest : List (Option (List ℕ))) : Type 0 where
+record EntriesRead (z : StateSizes) (maps : Maps) (n : ℕ) (so : Loading) (es : List EntryLine) (rest : List (Option (List ℕ))) : Type 0 where
   number : ℕ
   after : Loading
   are : after.state.maps ≡ maps
   empty : after.state.programs ≡ []
   places : after.state.places ≡ so.state.places
-  read : after_lines shapes n so (spelled (map Entry es) ++ rest) ≡ after_lines shapes number after rest
+  long : after.state.long ≡ so.state.long
+  read : after_lines z n so (spelled (map Entry es) ++ rest) ≡ after_lines z number after rest
 
-said_by : (shapes : List Shape) (so after : Loading) (m : Meaning) → Fits m → after_meaning shapes so (Some m) ≡ Ok after → after_ended shapes so (Some (text_of m)) ≡ Ok after
+said_by : (z : StateSizes) (so after : Loading) (m : Meaning) → Fits z.long m → after_meaning z so (Some m) ≡ Ok after → after_ended z so (Some (text_of m)) ≡ Ok after
 unfolding after_line
-said_by shapes so after m fits h = ap (after_meaning shapes so) (spelled_says m fits) ∙ h
+said_by z so after m fits h = ap (after_meaning z so) (spelled_says z.long m fits) ∙ h
 
-entries_read : (shapes : List Shape) (maps : Maps) (n : ℕ) (so : Loading) (es : List EntryLine) (rest : List (Option (List ℕ))) → AreShapesSupported shapes → HasShapes shapes maps → Midway shapes maps so es
-    → EntriesRead shapes maps n so es rest
-entries_read shapes maps n so [] rest ok has mid =
+entries_read : (z : StateSizes) (maps : Maps) (n : ℕ) (so : Loading) (es : List EntryLine) (rest : List (Option (List ℕ))) → AreShapesSupported z.shapes → HasShapes z.shapes maps → Midway z.shapes maps so es
+    → EntriesRead z maps n so es rest
+entries_read z maps n so [] rest ok has mid =
     let listed : entries_of so.state.maps ≡ entries_of maps = sym (append-nil (entries_of so.state.maps)) ∙ mid.listed in
     record {
       number = n;
@@ -196,28 +198,30 @@ entries_read shapes maps n so [] rest ok has mid =
       are = same_maps 0 so.state.maps maps (mid.has.same ∙ sym has.same) mid.has.each has.each listed;
       empty = mid.empty;
       places = refl;
+      long = refl;
       read = refl;
     }
-entries_read shapes maps n so (e ∷ es) rest ok has mid =
-    let put = one_entry shapes maps so e es has mid in
-    let fits = entry_fits shapes maps e ok has mid.belongs.0 in
-    let behind = entries_read shapes maps (next_line n) (with_entry so e) es rest ok has put.next in
-    let step = said_by shapes so (with_entry so e) (Entry e) fits put.taken in
+entries_read z maps n so (e ∷ es) rest ok has mid =
+    let put = one_entry z.shapes maps so e es has mid in
+    let fits = entry_fits z.shapes maps e ok has mid.belongs.0 in
+    let behind = entries_read z maps (next_line n) (with_entry so e) es rest ok has put.next in
+    let step = said_by z so (with_entry so e) (Entry e) fits put.taken in
     record {
       number = behind.number;
       after = behind.after;
       are = behind.are;
       empty = behind.empty;
       places = behind.places;
-      read = one_on shapes n (next_line n) so (with_entry so e) (spelled (map Entry (e ∷ es)) ++ rest) (spelled (map Entry es) ++ rest) (Some (text_of (Entry e))) refl refl step ∙ behind.read;
+      long = behind.long;
+      read = one_on z n (next_line n) so (with_entry so e) (spelled (map Entry (e ∷ es)) ++ rest) (spelled (map Entry es) ++ rest) (Some (text_of (Entry e))) refl refl step ∙ behind.read;
     }
 
 -- ---- the programs
 
-record IsGood (shapes : List Shape) (c : Checked) : Type 0 where
-  for_maps : c.shapes ≡ shapes
+record IsGood (z : StateSizes) (c : Checked) : Type 0 where
+  for_maps : c.shapes ≡ z.shapes
   accepted : IsAccepted c
-  short : IsShort c
+  short : IsShort z.long c
 
 abbrev pub as_line : Checked → Meaning
 as_line c = Program (program_line c)
@@ -225,16 +229,16 @@ as_line c = Program (program_line c)
 decodes : (c : Checked) → IsAccepted c → Decodes (program_bytes c.program) c.program
 decodes c ok = record { each = ok.instructions; spelled = refl; some = ok.typable.0.size_good.some; few = ok.typable.0.size_good.few }
 
-installs : (shapes : List Shape) (c : Checked) → IsGood shapes c → installed_program shapes c.mode c.arg_len (program_bytes c.program) ≡ Ok c
-installs shapes c good =
-    let same : checked c.program shapes c.arg_len c.mode ≡ c = λ i. record { program = c.program; shapes = sym good.for_maps i; arg_len = c.arg_len; mode = c.mode } in
+installs : (z : StateSizes) (c : Checked) → IsGood z c → installed_program z.shapes c.mode c.arg_len (program_bytes c.program) ≡ Ok c
+installs z c good =
+    let same : checked c.program z.shapes c.arg_len c.mode ≡ c = λ i. record { program = c.program; shapes = sym good.for_maps i; arg_len = c.arg_len; mode = c.mode } in
     let typable = subst (λ s. IsTypable c.program (signature s c.arg_len c.mode)) good.for_maps good.accepted.typable in
-    let safe : verdict c.program (signature shapes c.arg_len c.mode) ≡ None = (accepted_iff c.program (signature shapes c.arg_len c.mode) good.accepted.instructions).1 typable in
-    ap (accepted_program shapes c.mode c.arg_len) (spelled_is_read (program_bytes c.program) c.program (decodes c good.accepted))
-    ∙ ap (unless_unsafe (checked c.program shapes c.arg_len c.mode)) safe ∙ ap Ok same
+    let safe : verdict c.program (signature z.shapes c.arg_len c.mode) ≡ None = (accepted_iff c.program (signature z.shapes c.arg_len c.mode) good.accepted.instructions).1 typable in
+    ap (accepted_program z.shapes c.mode c.arg_len) (spelled_is_read (program_bytes c.program) c.program (decodes c good.accepted))
+    ∙ ap (unless_unsafe (checked c.program z.shapes c.arg_len c.mode)) safe ∙ ap Ok same
 
-program_fits : (shapes : List Shape) (c : Checked) → IsGood shapes c → ProgramFits (program_line c)
-program_fits shapes c good =
+program_fits : (z : StateSizes) (c : Checked) → z.long ≤ MOST_LONG → IsGood z c → ProgramFits z.long (program_line c)
+program_fits z c limit good =
     let bytes = slot_bytes_length (program_slots c.program) in
     let slots = size_is c.program in
     let some = good.accepted.typable.0.size_good.some in
@@ -244,6 +248,7 @@ program_fits shapes c good =
       bytes = at_each (program_bytes c.program) (program_are_bytes c.program good.accepted.instructions);
       some = omega (arith, bytes, slots, some);
       few = omega (arith, bytes, slots, short);
+      limit = limit;
     }
 
 placed : (so : Loading) (c : Checked) (r : Result Checked InstallRefusal) → r ≡ Ok c → length so.state.programs < so.state.places → in_place so r ≡ Ok (with_program so c)
@@ -251,20 +256,20 @@ placed so c r is lt =
     let free : ltb (length so.state.programs) so.state.places ≡ true = lt-ltb _ _ lt in
     ap (in_place so) is ∙ ap (λ b. cond b (Ok (with_program so c)) (Err faults.TooManyPrograms)) free
 
-programs_read : (shapes : List Shape) (s : StoreState) (n : ℕ) (so : Loading) (cs : List Checked) → so.state.maps ≡ s.maps → so.state.programs ++ cs ≡ s.programs → so.state.places ≡ s.places
-    → length s.programs ≤ s.places → AllByRecursion (IsGood shapes) cs → after_lines shapes n so (spelled (map as_line cs)) ≡ Ok s
+programs_read : (z : StateSizes) (s : StoreState) (n : ℕ) (so : Loading) (cs : List Checked) → so.state.maps ≡ s.maps → so.state.programs ++ cs ≡ s.programs → so.state.places ≡ s.places → so.state.long ≡ s.long
+    → length s.programs ≤ s.places → z.long ≤ MOST_LONG → AllByRecursion (IsGood z) cs → after_lines z n so (spelled (map as_line cs)) ≡ Ok s
 unfolding after_lines
-programs_read shapes s n so [] maps programs places few good =
+programs_read z s n so [] maps programs places long few limit good =
     let whole : so.state.programs ≡ s.programs = sym (append-nil so.state.programs) ∙ programs in
-    ap Ok (λ i. record { maps = maps i; programs = whole i; places = places i })
-programs_read shapes s n so (c ∷ cs) maps programs places few good =
+    ap Ok (λ i. record { maps = maps i; programs = whole i; places = places i; long = long i })
+programs_read z s n so (c ∷ cs) maps programs places long few limit good =
     let count = ap length programs in
     let both = length-append so.state.programs (c ∷ cs) in
     let free : length so.state.programs < so.state.places = omega (arith, count, both, few, places) in
-    let taken : after_program shapes so (program_line c) ≡ Ok (with_program so c) = placed so c _ (installs shapes c good.0) free in
-    let step = said_by shapes so (with_program so c) (as_line c) (program_fits shapes c good.0) taken in
-    let rest = programs_read shapes s (next_line n) (with_program so c) cs maps (append_assoc so.state.programs (c ∷ []) cs ∙ programs) places few good.1 in
-    one_on shapes n (next_line n) so (with_program so c) (spelled (map as_line (c ∷ cs))) (spelled (map as_line cs)) (Some (text_of (as_line c))) refl refl step ∙ rest
+    let taken : after_program z so (program_line c) ≡ Ok (with_program so c) = placed so c _ (installs z c good.0) free in
+    let step = said_by z so (with_program so c) (as_line c) (program_fits z c limit good.0) taken in
+    let rest = programs_read z s (next_line n) (with_program so c) cs maps (append_assoc so.state.programs (c ∷ []) cs ∙ programs) places long few limit good.1 in
+    one_on z n (next_line n) so (with_program so c) (spelled (map as_line (c ∷ cs))) (spelled (map as_line cs)) (Some (text_of (as_line c))) refl refl step ∙ rest
 
 -- ---- the text
 
@@ -306,60 +311,60 @@ plain_mode : (m : Mode) → list_all is_plain (mode_word m) ≡ true
 plain_mode Update = refl
 plain_mode Read = refl
 
-plain_text : (m : Meaning) → Fits m → list_all is_plain (text_of m) ≡ true
-plain_text (Entry e) f =
+plain_text : (long : ℕ) (m : Meaning) → Fits long m → list_all is_plain (text_of m) ≡ true
+plain_text long (Entry e) f =
     plain_joined (decimal e.map) (32 ∷ (encode_lower e.key ++ 32 ∷ encode_lower e.value)) (plain_number e.map f.map) (plain_joined (encode_lower e.key) (32 ∷ encode_lower e.value) (plain_hex e.key f.key) (plain_hex e.value f.value))
-plain_text (Program p) f =
-    let argument = f.argument in
-    let number = plain_number p.arg_len (omega (arith, argument)) in
+plain_text long (Program p) f =
+    let number = plain_number p.arg_len (argument_small long p f) in
     plain_joined (mode_word p.mode) (32 ∷ (decimal p.arg_len ++ 32 ∷ encode_lower p.bytes)) (plain_mode p.mode) (plain_joined (decimal p.arg_len) (32 ∷ encode_lower p.bytes) number (plain_hex p.bytes f.bytes))
 
-ended_texts : (ms : List Meaning) → AllByRecursion Fits ms → ended_lines (joined (map text_of ms)) ≡ spelled ms
-ended_texts [] fits = refl
-ended_texts (m ∷ ms) fits =
+ended_texts : (long : ℕ) (ms : List Meaning) → AllByRecursion (Fits long) ms → ended_lines (joined (map text_of ms)) ≡ spelled ms
+ended_texts long [] fits = refl
+ended_texts long (m ∷ ms) fits =
     ap ended_lines (append_assoc (text_of m) (10 ∷ []) (joined (map text_of ms)))
-    ∙ ended_lines-cut (text_of m) (joined (map text_of ms)) (no_feed (text_of m) (plain_text m fits.0)) ∙ ap (λ u. Some (text_of m) ∷ u) (ended_texts ms fits.1)
+    ∙ ended_lines-cut (text_of m) (joined (map text_of ms)) (no_feed (text_of m) (plain_text long m fits.0)) ∙ ap (λ u. Some (text_of m) ∷ u) (ended_texts long ms fits.1)
 
 -- ---- a state
 
-entries_fit : (shapes : List Shape) (maps : Maps) (es : List EntryLine) → AreShapesSupported shapes → HasShapes shapes maps → AllByRecursion (Belongs 0 maps) es → AllByRecursion Fits (map Entry es)
-entries_fit shapes maps [] ok has all = tt
-entries_fit shapes maps (e ∷ es) ok has all = (entry_fits shapes maps e ok has all.0, entries_fit shapes maps es ok has all.1)
+entries_fit : (z : StateSizes) (maps : Maps) (es : List EntryLine) → AreShapesSupported z.shapes → HasShapes z.shapes maps → AllByRecursion (Belongs 0 maps) es → AllByRecursion (Fits z.long) (map Entry es)
+entries_fit z maps [] ok has all = tt
+entries_fit z maps (e ∷ es) ok has all = (entry_fits z.shapes maps e ok has all.0, entries_fit z maps es ok has all.1)
 
-programs_fit : (shapes : List Shape) (cs : List Checked) → AllByRecursion (IsGood shapes) cs → AllByRecursion Fits (map as_line cs)
-programs_fit shapes [] all = tt
-programs_fit shapes (c ∷ cs) all = (program_fits shapes c all.0, programs_fit shapes cs all.1)
+programs_fit : (z : StateSizes) (cs : List Checked) → z.long ≤ MOST_LONG → AllByRecursion (IsGood z) cs → AllByRecursion (Fits z.long) (map as_line cs)
+programs_fit z [] limit all = tt
+programs_fit z (c ∷ cs) limit all = (program_fits z c limit all.0, programs_fit z cs limit all.1)
 
-all_good : (shapes : List Shape) (cs : List Checked) → AllByRecursion (λ (c : Checked). c.shapes ≡ shapes) cs → AllByRecursion IsAccepted cs → AllByRecursion IsShort cs → AllByRecursion (IsGood shapes) cs
-all_good shapes [] a b c = tt
-all_good shapes (x ∷ cs) a b c = (record { for_maps = a.0; accepted = b.0; short = c.0 }, all_good shapes cs a.1 b.1 c.1)
+all_good : (z : StateSizes) (cs : List Checked) → AllByRecursion (λ (c : Checked). c.shapes ≡ z.shapes) cs → AllByRecursion IsAccepted cs → AllByRecursion (IsShort z.long) cs → AllByRecursion (IsGood z) cs
+all_good z [] a b c = tt
+all_good z (x ∷ cs) a b c = (record { for_maps = a.0; accepted = b.0; short = c.0 }, all_good z cs a.1 b.1 c.1)
 
 none_before : (es : List EntryLine) → AllByRecursion (λ (e : EntryLine). is_behind None e.map e.key ≡ true) es
 none_before [] = tt
 none_before (e ∷ es) = (refl, none_before es)
 
-at_first : (shapes : List Shape) (places : ℕ) (maps : Maps) → AreShapesSupported shapes → Midway shapes maps (opening shapes places) (entries_of maps)
-at_first shapes places maps ok = record {
-  has = opening_shapes shapes ok;
+at_first : (z : StateSizes) (maps : Maps) → AreShapesSupported z.shapes → Midway z.shapes maps (opening z) (entries_of maps)
+at_first z maps ok = record {
+  has = opening_shapes z.shapes ok;
   empty = refl;
-  rising = opening_rising shapes places;
-  listed = ap (λ u. u ++ entries_of maps) (all_empty 0 shapes);
+  rising = opening_rising z;
+  listed = ap (λ u. u ++ entries_of maps) (all_empty 0 z.shapes);
   belongs = all_belong 0 maps;
   behind = none_before (entries_of maps);
   rises = all_rise 0 maps;
 }
 
-pub dump_is_read : (shapes : List Shape) (places : ℕ) (s : StoreState) → IsState (record { shapes = shapes; places = places }) s → loaded_state shapes places (dump s) ≡ Ok s
+pub dump_is_read : (z : StateSizes) (s : StoreState) → IsState z s → loaded_state z (dump s) ≡ Ok s
 unfolding loaded_state dump
-dump_is_read shapes places s is =
+dump_is_read z s is =
     let ok = is.programs.shapes in
-    let good = all_good shapes s.programs (all_list (λ (c : Checked). c.shapes ≡ shapes) s.programs is.programs.accepted) (all_list IsAccepted s.programs is.programs.checked) (all_list IsShort s.programs is.programs.short) in
-    let fits = all_joined Fits (map Entry (entries_of s.maps)) (map as_line s.programs) (entries_fit shapes s.maps (entries_of s.maps) ok is.maps (all_belong 0 s.maps)) (programs_fit shapes s.programs good) in
-    let read = entries_read shapes s.maps 1 (opening shapes places) (entries_of s.maps) (spelled (map as_line s.programs)) ok is.maps (at_first shapes places s.maps ok) in
+    let limit = is.programs.long_limit in
+    let good = all_good z s.programs (all_list (λ (c : Checked). c.shapes ≡ z.shapes) s.programs is.programs.accepted) (all_list IsAccepted s.programs is.programs.checked) (all_list (IsShort z.long) s.programs is.programs.short) in
+    let fits = all_joined (Fits z.long) (map Entry (entries_of s.maps)) (map as_line s.programs) (entries_fit z s.maps (entries_of s.maps) ok is.maps (all_belong 0 s.maps)) (programs_fit z s.programs limit good) in
+    let read = entries_read z s.maps 1 (opening z) (entries_of s.maps) (spelled (map as_line s.programs)) ok is.maps (at_first z s.maps ok) in
     let few : length s.programs ≤ s.places = (let a = is.programs.few in let b = is.places in omega (arith, a, b)) in
     let lines : spelled (lines_of s) ≡ spelled (map Entry (entries_of s.maps)) ++ spelled (map as_line s.programs) =
     ap (map Some) (map_joined text_of (map Entry (entries_of s.maps)) (map as_line s.programs)) ∙ map_joined Some (map text_of (map Entry (entries_of s.maps))) (map text_of (map as_line s.programs)) in
-    ap (λ t. after_lines shapes 1 (opening shapes places) (ended_lines t)) (texts (lines_of s))
-    ∙ ap (after_lines shapes 1 (opening shapes places)) (ended_texts (lines_of s) fits ∙ lines)
+    ap (λ t. after_lines z 1 (opening z) (ended_lines t)) (texts (lines_of s))
+    ∙ ap (after_lines z 1 (opening z)) (ended_texts z.long (lines_of s) fits ∙ lines)
     ∙ read.read
-    ∙ programs_read shapes s read.number read.after s.programs read.are (ap (λ u. u ++ s.programs) read.empty) (read.places ∙ sym is.places) few good
+    ∙ programs_read z s read.number read.after s.programs read.are (ap (λ u. u ++ s.programs) read.empty) (read.places ∙ sym is.places) (read.long ∙ sym is.long) few limit good

@@ -1,4 +1,4 @@
--- A line that is taken is taken where there is more: more entries in the maps, more maps after them, more places.
+-- A line that is taken is taken where there is more: more entries in the maps, more maps after them, more places, longer programs.
 use Rattle.std.proofs.Common.{◌≡◌, ◌≢◌, ℕ, zero, suc, ◌≤◌, Bool, true, false, cond, List, [], ◌∷◌, ◌++◌, map, length, Option, Some, None, Result, Ok, Err, refl, sym, ap, ◌∙◌, ⊎_elim, arith, subst}
 use Rattle.std.specs.Prelude.{slice_get, slice_set, replicate, is_some, nat_lt, not, ◌&&◌, ◌||◌, ◌==◌}
 use Rattle.std.specs.List.{list_all}
@@ -30,14 +30,15 @@ use Rattle.verifier.specs.MoreAllowed.{ComeFirst}
 use Rattle.verifier.proofs.Export.{first_maps, accepted_iff}
 use Rattle.text.specs.Lines.{next_line}
 use Rattle.loader.specs.Installed.{installed_program, accepted_program, unless_unsafe}
-use Rattle.loader.specs.StoreState.{StoreState}
+use Rattle.loader.specs.StoreState.{StoreState, StateSizes}
 use Rattle.dumps.specs.declared.refusals.DumpFault.{DumpFault}
 use Rattle.dumps.specs.declared.refusals.DumpFault.TheVariants as faults
 use Rattle.dumps.specs.Grammar.{EntryLine, ProgramLine, Meaning, Entry, Program, ended_lines, line_meaning}
 use Rattle.dumps.specs.Loading.{Loading, is_hash, is_key_for, is_in_order, is_left_out, is_zero, is_behind, has_room, with_entry, with_program, after_entry, in_place, after_program, after_meaning, after_line, either, after_lines, opening, loaded_state}
-use Rattle.dumps.specs.WiderLaws.{Extends, AllExtend, HasAllOf, for_maps, IsWidened, DumpFitsMore}
+use Rattle.dumps.specs.WiderLaws.{Extends, HasAllOf, for_maps, HasMore, IsWidened, DumpFitsMore}
 use Rattle.dumps.proofs.Entries.{Passes, passes, put_in}
 use Rattle.dumps.proofs.Faults.{none}
+use Rattle.dumps.proofs.Longer.{line_more}
 use Rattle.dumps.proofs.Placing.{map_joined}
 use Rattle.dumps.proofs.SpelledLines.{IsBound, said}
 use Rattle.dumps.proofs.Dumped.{in_map_ok, meant}
@@ -160,28 +161,28 @@ module _ (s t : MapState) (all : HasAllOf s t) (extends : Extends s.shape t.shap
 
 -- ---- a program that is taken
 
-record TakenProgram (shapes : List Shape) (so after : Loading) (p : ProgramLine) : Type 0 where
+record TakenProgram (z : StateSizes) (so after : Loading) (p : ProgramLine) : Type 0 where
   program : List Form
   spelled : decoded p.bytes ≡ Ok program
-  fine : verdict program (signature shapes p.arg_len p.mode) ≡ None
+  fine : verdict program (signature z.shapes p.arg_len p.mode) ≡ None
   room : nat_lt (length so.state.programs) so.state.places ≡ true
-  is : with_program so (checked program shapes p.arg_len p.mode) ≡ after
+  is : with_program so (checked program z.shapes p.arg_len p.mode) ≡ after
 
-taken_program : (shapes : List Shape) (so after : Loading) (p : ProgramLine) → after_program shapes so p ≡ Ok after → TakenProgram shapes so after p
-taken_program shapes so after p h = by (decoded p.bytes) refl h
+taken_program : (z : StateSizes) (so after : Loading) (p : ProgramLine) → after_program z so p ≡ Ok after → TakenProgram z so after p
+taken_program z so after p h = by (decoded p.bytes) refl h
   where
-    by_room : (f : List Form) (b : Bool) → decoded p.bytes ≡ Ok f → verdict f (signature shapes p.arg_len p.mode) ≡ None → nat_lt (length so.state.programs) so.state.places ≡ b
-        → cond b (Ok (with_program so (checked f shapes p.arg_len p.mode))) (Err faults.TooManyPrograms) ≡ Ok after → TakenProgram shapes so after p
+    by_room : (f : List Form) (b : Bool) → decoded p.bytes ≡ Ok f → verdict f (signature z.shapes p.arg_len p.mode) ≡ None → nat_lt (length so.state.programs) so.state.places ≡ b
+        → cond b (Ok (with_program so (checked f z.shapes p.arg_len p.mode))) (Err faults.TooManyPrograms) ≡ Ok after → TakenProgram z so after p
     by_room f true e v r g = record { program = f; spelled = e; fine = v; room = r; is = cc }
     by_room f false e v r g = absurd cc
 
-    by_verdict : (f : List Form) (o : Option Refused) → decoded p.bytes ≡ Ok f → verdict f (signature shapes p.arg_len p.mode) ≡ o → in_place so (unless_unsafe (checked f shapes p.arg_len p.mode) o) ≡ Ok after → TakenProgram shapes so after p
+    by_verdict : (f : List Form) (o : Option Refused) → decoded p.bytes ≡ Ok f → verdict f (signature z.shapes p.arg_len p.mode) ≡ o → in_place so (unless_unsafe (checked f z.shapes p.arg_len p.mode) o) ≡ Ok after → TakenProgram z so after p
     by_verdict f None e v g = by_room f (nat_lt (length so.state.programs) so.state.places) e v refl g
     by_verdict f (Some why) e v g = absurd cc
 
-    by : (r : Result (List Form) DecodeRefusal) → decoded p.bytes ≡ r → in_place so (accepted_program shapes p.mode p.arg_len r) ≡ Ok after → TakenProgram shapes so after p
+    by : (r : Result (List Form) DecodeRefusal) → decoded p.bytes ≡ r → in_place so (accepted_program z.shapes p.mode p.arg_len r) ≡ Ok after → TakenProgram z so after p
     by (Err why) e g = absurd cc
-    by (Ok f) e g = by_verdict f (verdict f (signature shapes p.arg_len p.mode)) e refl g
+    by (Ok f) e g = by_verdict f (verdict f (signature z.shapes p.arg_len p.mode)) e refl g
 
 -- ---- all that is loaded
 
@@ -199,7 +200,7 @@ get_map f [] m x e = absurd cc
 get_map f (z ∷ xs) zero x e = let same : z ≡ x = cc in ap (λ y. Some (f y)) same
 get_map f (z ∷ xs) (suc m) x e = get_map f xs m x e
 
-module _ (shapes wider : List Shape) (places more : ℕ) (limits : AreShapesSupported wider) (extend : AllExtend shapes wider) (le : places ≤ more) where
+module _ (old new : StateSizes) (limits : AreShapesSupported new.shapes) (has : HasMore old new) where
   -- the map in the other maps that has all of a map
   record Twin (others : Maps) (m : ℕ) (a : MapState) : Type 0 where
     wide : MapState
@@ -208,17 +209,18 @@ module _ (shapes wider : List Shape) (places more : ℕ) (limits : AreShapesSupp
     extends : Extends a.shape wide.shape
 
   abbrev widened : Checked → Checked
-  widened = for_maps wider
+  widened = for_maps new.shapes
 
   -- what the lines so far say, and what they say where there is more
   record Wide (so on : Loading) : Type 0 where
-    shapes_are : shapes_of on.state.maps ≡ wider
+    shapes_are : shapes_of on.state.maps ≡ new.shapes
     maps : (m : ℕ) (a : MapState) → slice_get so.state.maps m ≡ Some a → Twin on.state.maps m a
-    others : (m : ℕ) → length so.state.maps ≤ m → slice_get on.state.maps m ≡ slice_get (opening_maps wider) m
+    others : (m : ℕ) → length so.state.maps ≤ m → slice_get on.state.maps m ≡ slice_get (opening_maps new.shapes) m
     programs : on.state.programs ≡ map widened so.state.programs
     last : on.last ≡ so.last
-    places_are : on.state.places ≡ more
-    few : so.state.places ≡ places
+    places_are : on.state.places ≡ new.places
+    long_is : on.state.long ≡ new.long
+    few : so.state.places ≡ old.places
 
   as_many : (so on : Loading) → Wide so on → length on.state.programs ≡ length so.state.programs
   as_many so on w = ap (λ ps. length ps) w.programs ∙ same_length widened so.state.programs
@@ -234,16 +236,16 @@ module _ (shapes wider : List Shape) (places more : ℕ) (limits : AreShapesSupp
     twin : Twin on.state.maps e.map s
     twin = w.maps e.map s at
 
-    abbrev new : MapState → MapState
-    new a = record { shape = a.shape; entries = finite_map.insert a.entries e.key e.value }
+    abbrev with_it : MapState → MapState
+    with_it a = record { shape = a.shape; entries = finite_map.insert a.entries e.key e.value }
 
-    put : (maps : Maps) (a : MapState) → slice_get maps e.map ≡ Some a → put_value maps e.map e.key e.value ≡ slice_set maps e.map (new a)
+    put : (maps : Maps) (a : MapState) → slice_get maps e.map ≡ Some a → put_value maps e.map e.key e.value ≡ slice_set maps e.map (with_it a)
     put maps a there = put_value_at maps e.map a e.key e.value there
 
-    here : Twin (put_value on.state.maps e.map e.key e.value) e.map (new s)
+    here : Twin (put_value on.state.maps e.map e.key e.value) e.map (with_it s)
     here = record {
-      wide = new twin.wide;
-      at = ap (λ (x : Maps). slice_get x e.map) (put on.state.maps twin.wide twin.at) ∙ get_set_same on.state.maps e.map twin.wide (new twin.wide) twin.at;
+      wide = with_it twin.wide;
+      at = ap (λ (x : Maps). slice_get x e.map) (put on.state.maps twin.wide twin.at) ∙ get_set_same on.state.maps e.map twin.wide (with_it twin.wide) twin.at;
       all = put_all s twin.wide e.key e.value twin.all;
       extends = twin.extends;
     }
@@ -253,31 +255,32 @@ module _ (shapes wider : List Shape) (places more : ℕ) (limits : AreShapesSupp
         let t = w.maps m a there in
         record {
           wide = t.wide;
-          at = ap (λ (x : Maps). slice_get x m) (put on.state.maps twin.wide twin.at) ∙ get_set_other on.state.maps e.map m (new twin.wide) ne ∙ t.at;
+          at = ap (λ (x : Maps). slice_get x m) (put on.state.maps twin.wide twin.at) ∙ get_set_other on.state.maps e.map m (with_it twin.wide) ne ∙ t.at;
           all = t.all;
           extends = t.extends;
         }
 
     entered : Wide (with_entry so e) (with_entry on e)
     entered = record {
-      shapes_are = ap shapes_of (put on.state.maps twin.wide twin.at) ∙ map_set (λ (x : MapState). x.shape) on.state.maps e.map twin.wide (new twin.wide) twin.at refl ∙ w.shapes_are;
+      shapes_are = ap shapes_of (put on.state.maps twin.wide twin.at) ∙ map_set (λ (x : MapState). x.shape) on.state.maps e.map twin.wide (with_it twin.wide) twin.at refl ∙ w.shapes_are;
       maps = λ m a there.
-          let set : slice_get (slice_set so.state.maps e.map (new s)) m ≡ Some a = ap (λ (x : Maps). slice_get x m) (sym (put so.state.maps s at)) ∙ there in
+          let set : slice_get (slice_set so.state.maps e.map (with_it s)) m ≡ Some a = ap (λ (x : Maps). slice_get x m) (sym (put so.state.maps s at)) ∙ there in
           ⊎_elim
           (λ same.
-          let first : slice_get (slice_set so.state.maps e.map (new s)) m ≡ Some (new s) = ap (λ n. slice_get (slice_set so.state.maps e.map (new s)) n) same ∙ get_set_same so.state.maps e.map s (new s) at in
-          let is : new s ≡ a = cc in
+          let first : slice_get (slice_set so.state.maps e.map (with_it s)) m ≡ Some (with_it s) = ap (λ n. slice_get (slice_set so.state.maps e.map (with_it s)) n) same ∙ get_set_same so.state.maps e.map s (with_it s) at in
+          let is : with_it s ≡ a = cc in
           subst (λ n. Twin (put_value on.state.maps e.map e.key e.value) n a) (sym same) (subst (λ (x : MapState). Twin (put_value on.state.maps e.map e.key e.value) e.map x) is here))
-          (λ ne. elsewhere m a ne (sym (get_set_other so.state.maps e.map m (new s) ne) ∙ set))
+          (λ ne. elsewhere m a ne (sym (get_set_other so.state.maps e.map m (with_it s) ne) ∙ set))
           (cases_eq m e.map);
       others = λ m past.
-          let size : length (put_value so.state.maps e.map e.key e.value) ≡ length so.state.maps = ap (λ xs. length xs) (put so.state.maps s at) ∙ length-set so.state.maps e.map (new s) in
+          let size : length (put_value so.state.maps e.map e.key e.value) ≡ length so.state.maps = ap (λ xs. length xs) (put so.state.maps s at) ∙ length-set so.state.maps e.map (with_it s) in
           let within = slice_get_within so.state.maps e.map s at in
           let ne : m ≢ e.map = omega arith in
-          ap (λ (x : Maps). slice_get x m) (put on.state.maps twin.wide twin.at) ∙ get_set_other on.state.maps e.map m (new twin.wide) ne ∙ w.others m (omega arith);
+          ap (λ (x : Maps). slice_get x m) (put on.state.maps twin.wide twin.at) ∙ get_set_other on.state.maps e.map m (with_it twin.wide) ne ∙ w.others m (omega arith);
       programs = w.programs;
       last = refl;
       places_are = w.places_are;
+      long_is = w.long_is;
       few = w.few;
     }
 
@@ -302,23 +305,24 @@ module _ (shapes wider : List Shape) (places more : ℕ) (limits : AreShapesSupp
 
   -- ---- a program
 
-  first : ComeFirst shapes wider
-  first m s at = let t = extend m s at in (t.0, t.1, same_key_size s t.0 t.2, same_value_size s t.0 t.2)
+  first : ComeFirst old.shapes new.shapes
+  first m s at = let t = has.shapes m s at in (t.0, t.1, same_key_size s t.0 t.2, same_value_size s t.0 t.2)
 
-  program_too : (so on after : Loading) (p : ProgramLine) → IsBytes p.bytes → Wide so on → after_program shapes so p ≡ Ok after → Leads (after_program wider on p) after
+  program_too : (so on after : Loading) (p : ProgramLine) → IsBytes p.bytes → Wide so on → after_program old so p ≡ Ok after → Leads (after_program new on p) after
   unfolding Leads
   program_too so on after p bytes w h =
-      let taken = taken_program shapes so after p h in
+      let taken = taken_program old so after p h in
       let f = taken.program in
       let each = (read_is_spelled p.bytes f (are_bytes p.bytes bytes) taken.spelled).each in
-      let typable = (accepted_iff f (signature shapes p.arg_len p.mode) each).0 taken.fine in
-      let fine : verdict f (signature wider p.arg_len p.mode) ≡ None = (accepted_iff f (signature wider p.arg_len p.mode) each).1 (first_maps f shapes wider p.arg_len p.mode first typable) in
-      let c : Checked = checked f wider p.arg_len p.mode in
-      let installed : installed_program wider p.mode p.arg_len p.bytes ≡ Ok c = ap (accepted_program wider p.mode p.arg_len) taken.spelled ∙ ap (unless_unsafe c) fine in
+      let typable = (accepted_iff f (signature old.shapes p.arg_len p.mode) each).0 taken.fine in
+      let fine : verdict f (signature new.shapes p.arg_len p.mode) ≡ None = (accepted_iff f (signature new.shapes p.arg_len p.mode) each).1 (first_maps f old.shapes new.shapes p.arg_len p.mode first typable) in
+      let c : Checked = checked f new.shapes p.arg_len p.mode in
+      let installed : installed_program new.shapes p.mode p.arg_len p.bytes ≡ Ok c = ap (accepted_program new.shapes p.mode p.arg_len) taken.spelled ∙ ap (unless_unsafe c) fine in
       let low = ltb-true (length so.state.programs) so.state.places taken.room in
       let count = as_many so on w in
       let few = w.few in
       let most = w.places_are in
+      let le = has.places in
       let room : nat_lt (length on.state.programs) on.state.places ≡ true = lt-ltb (length on.state.programs) on.state.places (omega arith) in (
         with_program on c,
         ap (in_place on) installed ∙ ap (λ b. cond b (Ok (with_program on c)) (Err faults.TooManyPrograms)) room,
@@ -326,60 +330,66 @@ module _ (shapes wider : List Shape) (places more : ℕ) (limits : AreShapesSupp
           shapes_are = w.shapes_are;
           maps = w.maps;
           others = w.others;
-          programs = ap (λ ps. ps ++ c ∷ []) w.programs ∙ sym (map_joined widened so.state.programs (checked f shapes p.arg_len p.mode ∷ []));
+          programs = ap (λ ps. ps ++ c ∷ []) w.programs ∙ sym (map_joined widened so.state.programs (checked f old.shapes p.arg_len p.mode ∷ []));
           last = w.last;
           places_are = w.places_are;
+          long_is = w.long_is;
           few = w.few;
         }),
       )
 
   -- ---- all lines
 
-  meaning_too : (so on after : Loading) (m : Meaning) → IsBound m → Wide so on → after_meaning shapes so (Some m) ≡ Ok after → Leads (after_meaning wider on (Some m)) after
+  meaning_too : (so on after : Loading) (m : Meaning) → IsBound old.long m → Wide so on → after_meaning old so (Some m) ≡ Ok after → Leads (after_meaning new on (Some m)) after
   meaning_too so on after (Entry e) bound w h = entry_too so on after e w h
   meaning_too so on after (Program p) bound w h = program_too so on after p bound.1 w h
 
-  lines_too : (n : ℕ) (so on : Loading) (lines : List (Option (List ℕ))) (s : StoreState) → Wide so on → after_lines shapes n so lines ≡ Ok s → (t : StoreState) × (after_lines wider n on lines ≡ Ok t) × IsWidened wider more s t
+  -- a line says what it said
+  says_too : (text : List ℕ) (m : Meaning) → line_meaning old.long text ≡ Some m → line_meaning new.long text ≡ Some m
+  says_too text m means = line_more old.long new.long has.long text m means
+
+  lines_too : (n : ℕ) (so on : Loading) (lines : List (Option (List ℕ))) (s : StoreState) → Wide so on → after_lines old n so lines ≡ Ok s → (t : StoreState) × (after_lines new n on lines ≡ Ok t) × IsWidened new s t
   unfolding after_lines after_line Leads
   lines_too n so on [] s w h =
       let same : so.state ≡ s = cc in (
         on.state,
         refl,
-        subst (λ (x : StoreState). IsWidened wider more x on.state) same (record {
+        subst (λ (x : StoreState). IsWidened new x on.state) same (record {
           shapes = w.shapes_are;
           maps = λ m a at. let t = w.maps m a at in (t.wide, t.at, t.all);
           others = w.others;
           programs = w.programs;
           places = w.places_are;
+          long = w.long_is;
         }),
       )
   lines_too n so on (None ∷ lines) s w h = absurd cc
-  lines_too n so on (Some text ∷ lines) s w h = by (after_meaning shapes so (line_meaning text)) refl h (λ after next v g. lines_too (next_line n) after next lines s v g)
+  lines_too n so on (Some text ∷ lines) s w h = by (after_meaning old so (line_meaning old.long text)) refl h (λ after next v g. lines_too (next_line n) after next lines s v g)
     where
-      by : (r : Result Loading DumpFault) → after_meaning shapes so (line_meaning text) ≡ r
-          → either (λ why. Err (record { line = n; why = why })) (λ after. after_lines shapes (next_line n) after lines) r ≡ Ok s
-          → ((after next : Loading) → Wide after next → after_lines shapes (next_line n) after lines ≡ Ok s → (t : StoreState) × (after_lines wider (next_line n) next lines ≡ Ok t) × IsWidened wider more s t)
-          → (t : StoreState) × (either (λ why. Err (record { line = n; why = why })) (λ after. after_lines wider (next_line n) after lines) (after_meaning wider on (line_meaning text)) ≡ Ok t) × IsWidened wider more s t
+      by : (r : Result Loading DumpFault) → after_meaning old so (line_meaning old.long text) ≡ r
+          → either (λ why. Err (record { line = n; why = why })) (λ after. after_lines old (next_line n) after lines) r ≡ Ok s
+          → ((after next : Loading) → Wide after next → after_lines old (next_line n) after lines ≡ Ok s → (t : StoreState) × (after_lines new (next_line n) next lines ≡ Ok t) × IsWidened new s t)
+          → (t : StoreState) × (either (λ why. Err (record { line = n; why = why })) (λ after. after_lines new (next_line n) after lines) (after_meaning new on (line_meaning new.long text)) ≡ Ok t) × IsWidened new s t
       by (Err why) is g rest = absurd cc
       by (Ok after) is g rest =
-          let means = meant shapes so after (line_meaning text) is in
-          let leads = meaning_too so on after means.0 (said text means.0 means.1).1 w (ap (after_meaning shapes so) (sym means.1) ∙ is) in
+          let means = meant old so after (line_meaning old.long text) is in
+          let leads = meaning_too so on after means.0 (said old.long text means.0 means.1).1 w (ap (after_meaning old so) (sym means.1) ∙ is) in
           let last = rest after leads.0 leads.2 g in (
             last.0,
-            ap (either (λ why. Err (record { line = n; why = why })) (λ after. after_lines wider (next_line n) after lines)) (ap (after_meaning wider on) means.1 ∙ leads.1) ∙ last.1,
+            ap (either (λ why. Err (record { line = n; why = why })) (λ after. after_lines new (next_line n) after lines)) (ap (after_meaning new on) (says_too text means.0 means.1) ∙ leads.1) ∙ last.1,
             last.2,
           )
 
-  opened : Wide (opening shapes places) (opening wider more)
+  opened : Wide (opening old) (opening new)
   opened = record {
-    shapes_are = (opening_shapes wider limits).same;
+    shapes_are = (opening_shapes new.shapes limits).same;
     maps = λ m a at.
-        let s = got_map opening_map shapes m a at in
-        let t = extend m s.0 s.1 in
-        let ok : IsShapeSupported t.0 = subst IsShapeSupported (get_or_from_slice_get wider m t.0 t.0 t.1) (limits.each m t.0 (slice_get_within wider m t.0 t.1)) in
-        subst (λ (x : MapState). Twin (opening_maps wider) m x) s.2 (record {
+        let s = got_map opening_map old.shapes m a at in
+        let t = has.shapes m s.0 s.1 in
+        let ok : IsShapeSupported t.0 = subst IsShapeSupported (get_or_from_slice_get new.shapes m t.0 t.0 t.1) (limits.each m t.0 (slice_get_within new.shapes m t.0 t.1)) in
+        subst (λ (x : MapState). Twin (opening_maps new.shapes) m x) s.2 (record {
           wide = opening_map t.0;
-          at = get_map opening_map wider m t.0 t.1;
+          at = get_map opening_map new.shapes m t.0 t.1;
           all = opening_all s.0 t.0 t.2 ok.entries.1;
           extends = t.2;
         });
@@ -387,10 +397,10 @@ module _ (shapes wider : List Shape) (places more : ℕ) (limits : AreShapesSupp
     programs = refl;
     last = refl;
     places_are = refl;
+    long_is = refl;
     few = refl;
   }
 
 pub dump_fits_more : DumpFitsMore
 unfolding loaded_state
-dump_fits_more shapes wider places more text s limits extend le h =
-    lines_too shapes wider places more limits extend le 1 (opening shapes places) (opening wider more) (ended_lines text) s (opened shapes wider places more limits extend le) h
+dump_fits_more old new text s limits has h = lines_too old new limits has 1 (opening old) (opening new) (ended_lines text) s (opened old new limits has) h

@@ -8,7 +8,7 @@ use Rattle.maps.specs.Shapes.{AreShapesSupported, IsHash, value_size}
 use Rattle.maps.specs.Maps.{MapState, IsKeyOf, shapes_of}
 use Rattle.maps.specs.MapSets.{HasRoom}
 use Rattle.text.specs.Lines.{next_line}
-use Rattle.loader.specs.declared.installed.TheConstants.{MOST_SPARE}
+use Rattle.loader.specs.declared.installed.TheConstants.{MOST_LONG, MOST_SPARE}
 use Rattle.loader.specs.Installed.{installed_program}
 use Rattle.loader.specs.StoreState.{StoreState, StateSizes, IsState}
 use Rattle.dumps.specs.declared.refusals.DumpFault.{DumpFault}
@@ -19,9 +19,9 @@ use Rattle.dumps.specs.Grammar.{EntryLine, ProgramLine, Meaning, Entry, Program,
 use Rattle.dumps.specs.Dumping.{entries_of, lines_of, dump}
 use Rattle.dumps.specs.Loading.{loaded_state}
 
--- what a line says; a last one that lacks its line feed says nothing
-abbrev pub meaning_of : Option (List ℕ) → Option Meaning
-meaning_of line = option_and_then line_meaning line
+-- what a line says, where a program may have `long` bytes; a last one that lacks its line feed says nothing
+abbrev pub meaning_of : ℕ → Option (List ℕ) → Option Meaning
+meaning_of long line = option_and_then (line_meaning long) line
 
 -- by the number of the map, and then by the bytes of the key
 abbrev pub StandsBefore : EntryLine → EntryLine → Type 0
@@ -65,10 +65,11 @@ pub record IsFirstBad (z : StateSizes) (text : List ℕ) (e : DumpRefusal) : Typ
   pub line : Option (List ℕ)
   pub behind : List (Option (List ℕ))
   pub first : ended_lines rest ≡ line ∷ behind
-  pub fault : IsLowestFault before (meaning_of line) e.why
+  pub fault : IsLowestFault before (meaning_of z.long line) e.why
   pub number : e.line ≡ next_line (length (lines_of before))
 
 -- what is refused is refused at the first bad line
 abbrev pub RefusedIsFirstBad : Type 0
 RefusedIsFirstBad =
-    (z : StateSizes) (text : List ℕ) (e : DumpRefusal) → AreShapesSupported z.shapes → z.places ≤ MOST_SPARE → (loaded_state z.shapes z.places text ≡ Err e) ↔ IsFirstBad z text e
+    (z : StateSizes) (text : List ℕ) (e : DumpRefusal) → AreShapesSupported z.shapes → z.places ≤ MOST_SPARE → z.long ≤ MOST_LONG
+    → (loaded_state z text ≡ Err e) ↔ IsFirstBad z text e

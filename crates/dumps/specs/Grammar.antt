@@ -1,8 +1,7 @@
 -- What one line of a dump says.
 use Rattle.std.specs.Prelude.{◌≡◌, ℕ, ◌*◌, Bool, ◌&&◌, ◌||◌, List, [], ◌∷◌, length, Option, Some, None, nat_lt, nat_le, ◌==◌, if◌then◌else◌, codes, bytes_eq}
 use Rattle.std.specs.List.{list_all}
-use Rattle.insn.specs.declared.decoding.TheConstants.{MAX_INSTALLED_SLOTS}
-use Rattle.maps.specs.declared.shapes.TheConstants.{MAX_ARG_LEN, MOST_VALUE_BYTES}
+use Rattle.maps.specs.declared.shapes.TheConstants.{MOST_VALUE_BYTES}
 use Rattle.verifier.specs.declared.refusal.Mode.{Mode}
 use Rattle.text.specs.declared.digits.TheConstants.{FIELD_BYTES}
 use Rattle.text.specs.Lines.{next_line}
@@ -10,6 +9,7 @@ use Rattle.text.specs.Fields.{split_at_space}
 use Rattle.text.specs.Words.{◌>>=◌, number_of, number_within}
 use Rattle.text.specs.Digits.{field_bytes}
 use Rattle.loader.specs.Grammar.{mode_of}
+use Rattle.loader.specs.Installed.{most_argument, most_bytes}
 use Rattle.dumps.specs.declared.lines.TheConstants.{DUMP_LINE_BYTES}
 
 -- each line ends at a line feed; of a last one that lacks it nothing is told
@@ -65,22 +65,22 @@ entry_meaning map text = do
   value ← lower_bytes MOST_VALUE_BYTES field.1
   Some (Entry (record { map = m; key = key; value = value }))
 
--- MODE ARGLEN HEX, where HEX has at most 192 bytes
-unfoldable pub program_meaning : List ℕ → Option Meaning
-program_meaning text = do
+-- MODE ARGLEN HEX: ARGLEN is at most 64, and HEX has at most 192 bytes, or `long` where that is more
+unfoldable pub program_meaning : ℕ → List ℕ → Option Meaning
+program_meaning long text = do
   first ← split_at_space text
   second ← split_at_space first.1
   mode ← mode_of first.0
-  arg_len ← number_within 0 MAX_ARG_LEN second.0
-  bytes ← lower_bytes FIELD_BYTES second.1
-  if nat_le (length bytes) (8 * MAX_INSTALLED_SLOTS) then Some (Program (record { mode = mode; arg_len = arg_len; bytes = bytes })) else None
+  arg_len ← number_within 0 (most_argument long) second.0
+  bytes ← lower_bytes (most_bytes long) second.1
+  Some (Program (record { mode = mode; arg_len = arg_len; bytes = bytes }))
 
 -- p MODE ARGLEN HEX, or MAP KEYHEX VALUEHEX
-unfoldable pub words_meaning : List ℕ → Option Meaning
-words_meaning line = do
+unfoldable pub words_meaning : ℕ → List ℕ → Option Meaning
+words_meaning long line = do
   field ← split_at_space line
-  if bytes_eq field.0 (codes "p") then program_meaning field.1 else entry_meaning field.0 field.1
+  if bytes_eq field.0 (codes "p") then program_meaning long field.1 else entry_meaning field.0 field.1
 
 -- a line over 32,931 bytes is bad whatever it holds
-unfoldable pub line_meaning : List ℕ → Option Meaning
-line_meaning line = if nat_lt DUMP_LINE_BYTES (length line) then None else words_meaning line
+unfoldable pub line_meaning : ℕ → List ℕ → Option Meaning
+line_meaning long line = if nat_lt DUMP_LINE_BYTES (length line) then None else words_meaning long line

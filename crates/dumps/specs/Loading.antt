@@ -13,7 +13,7 @@ use Rattle.verifier.specs.Accepted.{Checked}
 use Rattle.text.specs.Lines.{next_line}
 use Rattle.loader.specs.declared.installed.InstallRefusal.{InstallRefusal}
 use Rattle.loader.specs.Installed.{installed_program}
-use Rattle.loader.specs.StoreState.{StoreState, opened_state}
+use Rattle.loader.specs.StoreState.{StoreState, StateSizes, opened_state}
 use Rattle.dumps.specs.declared.refusals.DumpFault.{DumpFault}
 use Rattle.dumps.specs.declared.refusals.DumpFault.TheVariants as faults
 use Rattle.dumps.specs.declared.refusals.DumpRefusal.{DumpRefusal}
@@ -98,24 +98,28 @@ abbrev pub in_place : Loading → Result Checked InstallRefusal → Result Loadi
 in_place so_far (Err e) = Err (faults.Program e)
 in_place so_far (Ok c) = if nat_lt (length so_far.state.programs) so_far.state.places then Ok (with_program so_far c) else Err faults.TooManyPrograms
 
-abbrev pub after_program : List Shape → Loading → ProgramLine → Result Loading DumpFault
-after_program shapes so_far p = in_place so_far (installed_program shapes p.mode p.arg_len p.bytes)
+-- the program that a line says, if its bytes may be installed
+abbrev pub said_program : StateSizes → ProgramLine → Result Checked InstallRefusal
+said_program z p = installed_program z.shapes p.mode p.arg_len p.bytes
+
+abbrev pub after_program : StateSizes → Loading → ProgramLine → Result Loading DumpFault
+after_program z so_far p = in_place so_far (said_program z p)
 
 -- ---- the lines
 
-abbrev pub after_meaning : List Shape → Loading → Option Meaning → Result Loading DumpFault
-after_meaning shapes so_far None = Err faults.BadLine
-after_meaning shapes so_far (Some (Entry e)) = after_entry so_far e
-after_meaning shapes so_far (Some (Program p)) = after_program shapes so_far p
+abbrev pub after_meaning : StateSizes → Loading → Option Meaning → Result Loading DumpFault
+after_meaning z so_far None = Err faults.BadLine
+after_meaning z so_far (Some (Entry e)) = after_entry so_far e
+after_meaning z so_far (Some (Program p)) = after_program z so_far p
 
 -- what one more line makes, or what is wrong with it: of several faults the lowest number
-unfoldable pub after_line : List Shape → Loading → List ℕ → Result Loading DumpFault
-after_line shapes so_far line = after_meaning shapes so_far (line_meaning line)
+unfoldable pub after_line : StateSizes → Loading → List ℕ → Result Loading DumpFault
+after_line z so_far line = after_meaning z so_far (line_meaning z.long line)
 
 -- a last line that lacks its line feed is bad
-abbrev pub after_ended : List Shape → Loading → Option (List ℕ) → Result Loading DumpFault
-after_ended shapes so_far None = Err faults.BadLine
-after_ended shapes so_far (Some line) = after_line shapes so_far line
+abbrev pub after_ended : StateSizes → Loading → Option (List ℕ) → Result Loading DumpFault
+after_ended z so_far None = Err faults.BadLine
+after_ended z so_far (Some line) = after_line z so_far line
 
 abbrev pub Outcome : Type 0
 Outcome = Result StoreState DumpRefusal
@@ -125,15 +129,15 @@ either bad good (Ok so_far) = good so_far
 either bad good (Err why) = bad why
 
 -- the state that the lines from number n on leave, or the first bad line
-unfoldable pub after_lines : List Shape → ℕ → Loading → List (Option (List ℕ)) → Outcome
-after_lines shapes n so_far [] = Ok so_far.state
-after_lines shapes n so_far (l ∷ ls) =
-    either (λ why. Err (record { line = n; why = why })) (λ after. after_lines shapes (next_line n) after ls) (after_ended shapes so_far l)
+unfoldable pub after_lines : StateSizes → ℕ → Loading → List (Option (List ℕ)) → Outcome
+after_lines z n so_far [] = Ok so_far.state
+after_lines z n so_far (l ∷ ls) =
+    either (λ why. Err (record { line = n; why = why })) (λ after. after_lines z (next_line n) after ls) (after_ended z so_far l)
 
 -- maps as they are opened, and no program is installed
-abbrev pub opening : List Shape → ℕ → Loading
-opening shapes places = record { state = opened_state (record { shapes = shapes; places = places }); last = None }
+abbrev pub opening : StateSizes → Loading
+opening z = record { state = opened_state z; last = None }
 
--- the state that a dump says, on maps of these shapes and with so many places for programs
-unfoldable pub loaded_state : List Shape → ℕ → List ℕ → Outcome
-loaded_state shapes places text = after_lines shapes 1 (opening shapes places) (ended_lines text)
+-- the state of these sizes that a dump says
+unfoldable pub loaded_state : StateSizes → List ℕ → Outcome
+loaded_state z text = after_lines z 1 (opening z) (ended_lines text)

@@ -1,4 +1,5 @@
--- A dump is loaded where a manifest has more than the one that it was made under: more entries in its maps, more maps after them, more places.
+-- A dump is loaded where a store has more than the one that it was made under: more entries in its maps, more maps after them, more places,
+-- longer programs.
 use Rattle.std.specs.Prelude.{◌≡◌, ℕ, ◌≤◌, List, length, map, Some, Ok, slice_get}
 use Rattle.std.specs.Option.{option_or}
 use Rattle.std.specs.FinMap as finite_map
@@ -8,7 +9,7 @@ use Rattle.maps.specs.Shapes.{AreShapesSupported}
 use Rattle.maps.specs.Maps.{MapState, shapes_of}
 use Rattle.maps.specs.MapSets.{opening_map, opening_maps}
 use Rattle.verifier.specs.Accepted.{Checked}
-use Rattle.loader.specs.StoreState.{StoreState}
+use Rattle.loader.specs.StoreState.{StoreState, StateSizes}
 use Rattle.dumps.specs.Loading.{loaded_state}
 
 -- A map of the second shape may have all that one of the first has. Both are arrays or both hashes, with keys and values of the same sizes, and
@@ -31,16 +32,23 @@ HasAllOf s t =
 abbrev pub for_maps : List Shape → Checked → Checked
 for_maps shapes c = record c { shapes = shapes }
 
--- A state on maps of these shapes, with so many places, has all that another has. Else it has what a new one has
-pub record IsWidened (wider : List Shape) (more : ℕ) (s t : StoreState) : Type 0 where
-  pub shapes : shapes_of t.maps ≡ wider
-  pub maps : (m : ℕ) (a : MapState) → slice_get s.maps m ≡ Some a → (b : MapState) × (slice_get t.maps m ≡ Some b) × HasAllOf a b
-  pub others : (m : ℕ) → length s.maps ≤ m → slice_get t.maps m ≡ slice_get (opening_maps wider) m
-  pub programs : t.programs ≡ map (for_maps wider) s.programs
-  pub places : t.places ≡ more
+-- a state of the new sizes may have all that one of the old sizes has: as much in its maps, as many programs, programs as long
+pub record HasMore (old new : StateSizes) : Type 0 where
+  pub shapes : AllExtend old.shapes new.shapes
+  pub places : old.places ≤ new.places
+  pub long : old.long ≤ new.long
 
--- what is loaded for some maps and places is loaded for more
+-- A state of these sizes has all that another has. Else it has what a new one has
+pub record IsWidened (z : StateSizes) (s t : StoreState) : Type 0 where
+  pub shapes : shapes_of t.maps ≡ z.shapes
+  pub maps : (m : ℕ) (a : MapState) → slice_get s.maps m ≡ Some a → (b : MapState) × (slice_get t.maps m ≡ Some b) × HasAllOf a b
+  pub others : (m : ℕ) → length s.maps ≤ m → slice_get t.maps m ≡ slice_get (opening_maps z.shapes) m
+  pub programs : t.programs ≡ map (for_maps z.shapes) s.programs
+  pub places : t.places ≡ z.places
+  pub long : t.long ≡ z.long
+
+-- what is loaded for some sizes is loaded for more
 abbrev pub DumpFitsMore : Type 0
 DumpFitsMore =
-    (shapes wider : List Shape) (places more : ℕ) (text : List ℕ) (s : StoreState) → AreShapesSupported wider → AllExtend shapes wider → places ≤ more
-    → loaded_state shapes places text ≡ Ok s → (t : StoreState) × (loaded_state wider more text ≡ Ok t) × IsWidened wider more s t
+    (old new : StateSizes) (text : List ℕ) (s : StoreState) → AreShapesSupported new.shapes → HasMore old new → loaded_state old text ≡ Ok s
+    → (t : StoreState) × (loaded_state new text ≡ Ok t) × IsWidened new s t

@@ -4,7 +4,7 @@ ghost use Rattle.std.specs.Prelude.{◌≡◌, ◌++◌, ◌<◌, slice_get, Som
 ghost use Rattle.std.specs.List.{flat_map};
 ghost use Rattle.hex.specs.Hex.{encode_lower};
 ghost use Rattle.insn.specs.Encoding.{program_bytes};
-ghost use Rattle.verifier.specs.Accepted.{Checked};
+ghost use Rattle.verifier.specs.Accepted.{Checked, checked_in};
 ghost use Rattle.loader.specs.Spelling.{mode_word};
 ghost use Rattle.dumps.specs.Dumping.{dump};
 ghost use Rattle.dumps.specs.Written.{program_line_text};
@@ -55,7 +55,7 @@ fn put_bytes(alloc: Global, out: &mut Vec<u8>, program: &[Insn]) -> Result<(), A
 
 // Adds the line of a program.
 fn put_program(alloc: Global, out: &mut Vec<u8>, program: &Accepted) -> Result<(), AllocError>
-    ensures { OnOk result (out.new.items ≡ out.old.items ++ program_line_text program.now) }
+    ensures { OnOk result (out.new.items ≡ out.old.items ++ program_line_text (checked_in program.now)) }
 {
     out.extend_from_slice(b"p ")?;
     out.extend_from_slice(mode_word(program.mode()))?;

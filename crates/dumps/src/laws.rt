@@ -11,7 +11,7 @@ pub fn limits()
     ensures bytes_of_a_line { DUMP_LINE_BYTES ≡ 32931 }
 {}
 
-/// What a state is dumped as is text, and is loaded as that state, on maps of its shapes and with as many places.
+/// What a state is dumped as is text, and is loaded as that state, for its sizes.
 pub fn dump_is_read()
     ensures text { DumpIsText }
     ensures read { DumpIsRead }
@@ -27,7 +27,7 @@ pub fn empty_is_new()
     ensures { EmptyIsNew }
 {}
 
-/// A text that is loaded says a state of the maps and the places that it was read for.
+/// A text that is loaded says a state of the sizes that it was read for.
 pub fn loaded_is_state()
     ensures { LoadedIsState }
 {}
@@ -38,8 +38,8 @@ pub fn refused_is_first_bad()
     ensures { RefusedIsFirstBad }
 {}
 
-/// A text that is loaded is loaded where there is more: more entries in the maps, more maps after them, more places for programs. The state has
-/// all that the text says, its new entries of arrays are zeros, and its new maps are as they are opened.
+/// A text that is loaded is loaded where there is more: more entries in the maps, more maps after them, more places for programs, and for longer
+/// ones. The state has all that the text says, its new entries of arrays are zeros, and its new maps are as they are opened.
 pub fn dump_fits_more()
     ensures { DumpFitsMore }
 {}

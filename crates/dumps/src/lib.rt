@@ -16,7 +16,7 @@ pub use laws::{
     text_is_dumped,
 };
 pub use lines::DUMP_LINE_BYTES;
-pub use loading::{load, load_for, load_watched};
+pub use loading::{load, load_watched};
 pub use pieces::{Dumping, Pieces, StateText};
 pub use refusals::{DumpError, DumpFault, DumpRefusal};
 pub use watching::{Unwatched, Watcher};

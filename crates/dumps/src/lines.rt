@@ -1,17 +1,15 @@
 // The lines of a dump.
 
-ghost use Rattle.std.specs.Prelude.{◌≡◌, ◌*◌, ◌∷◌, ◌<◌, ◌≤◌, Some, None, [], length, option_map, take, IfSome, MatchOption};
+ghost use Rattle.std.specs.Prelude.{ℕ, ◌≡◌, ◌∷◌, ◌<◌, ◌≤◌, Some, None, [], length, option_map, take, IfSome, MatchOption};
 ghost use Rattle.std.specs.List.{list_all};
-ghost use Rattle.insn.specs.declared.decoding.TheConstants.{MAX_INSTALLED_SLOTS};
-ghost use Rattle.maps.specs.declared.shapes.TheConstants.{MAX_ARG_LEN, MOST_VALUE_BYTES};
 ghost use Rattle.text.specs.declared.digits.TheConstants.{FIELD_BYTES};
+ghost use Rattle.loader.specs.declared.installed.TheConstants.{MOST_LONG};
 ghost use Rattle.dumps.specs.Grammar.{ended_lines, Takes, is_lower_digit, lower_bytes, entry_meaning, program_meaning, words_meaning, line_meaning};
 ghost use Rattle.dumps.specs.Shown.{meaning_of, LineFits};
 
 use arrayvec::ArrayVec;
-use insn::MAX_INSTALLED_SLOTS;
-use loader::mode;
-use maps::{MAX_ARG_LEN, MOST_VALUE_BYTES};
+use loader::{MOST_LONG, mode, most_argument, most_bytes};
+use maps::MOST_VALUE_BYTES;
 use std::marker::Model;
 use text::{FIELD_BYTES, hex_field, number, number_within, split_at_space};
 use verifier::Mode;
@@ -19,7 +17,7 @@ use verifier::Mode;
 /// How many bytes a line of a dump has at most, its line feed not counted.
 pub const DUMP_LINE_BYTES: usize = 32_931;
 
-// Room for any value.
+// Room for any value, and for any program.
 pub(crate) const VALUE_ROOM: usize = MOST_VALUE_BYTES as usize;
 
 // An entry: the number of its map, its key, and its value in a room that is lent.
@@ -30,19 +28,19 @@ pub(crate) struct EntryLine<'a> {
     pub value: &'a [u8],
 }
 
-// A program that was installed.
+// A program that was installed, and its bytes in a room that is lent.
 #[derive(Drop)]
-pub(crate) struct ProgramLine {
+pub(crate) struct ProgramLine<'a> {
     pub mode: Mode,
     pub arg_len: u64,
-    pub bytes: ArrayVec<u8, FIELD_BYTES>,
+    pub bytes: &'a [u8],
 }
 
 // What a line says.
 #[derive(Drop)]
 pub(crate) enum Line<'a> {
     Entry(EntryLine<'a>),
-    Program(ProgramLine),
+    Program(ProgramLine<'a>),
 }
 
 // The first line of a text that is not empty, without its line feed, and what stands behind that; `None` where it lacks it.
@@ -131,13 +129,14 @@ fn lower_hex(field: &str) -> Option<ArrayVec<u8, FIELD_BYTES>>
     }
 }
 
-// The bytes of a field of digits in lower case, put at the front of a room: how many.
+// The bytes of a field of digits in lower case, at most so many, put at the front of a room: how many.
 #[tactic(auto, unfolding(crate::specs::Grammar::lower_bytes, text::specs::Digits::field_bytes))]
-fn fill_room(field: &str, room: &mut [u8; VALUE_ROOM]) -> Option<usize>
-    ensures bytes { option_map (λ n. take n room.new) result ≡ lower_bytes MOST_VALUE_BYTES field.now }
-    ensures few { IfSome result (λ n. n ≤ VALUE_ROOM) }
+fn fill_room(field: &str, most: usize, room: &mut [u8; VALUE_ROOM]) -> Option<usize>
+    requires most { most ≤ VALUE_ROOM }
+    ensures bytes { option_map (λ n. take n room.new) result ≡ lower_bytes most field.now }
+    ensures few { IfSome result (λ n. n ≤ most) }
 {
-    if field.len() > 2 * VALUE_ROOM || !are_lower_digits(field.as_bytes()) || field.is_empty() {
+    if field.len() > 2 * most || !are_lower_digits(field.as_bytes()) || field.is_empty() {
         return None;
     }
     let count = field.len() / 2;
@@ -149,30 +148,29 @@ fn fill_room(field: &str, room: &mut [u8; VALUE_ROOM]) -> Option<usize>
 #[tactic(auto, unfolding(crate::specs::Grammar::entry_meaning))]
 fn entry_line<'a>(map: &str, text: &str, room: &'a mut [u8; VALUE_ROOM]) -> Option<Line<'a>>
     ensures meaning { option_map meaning_of result ≡ entry_meaning map.now text.now }
-    ensures fits { IfSome result LineFits }
+    ensures fits { (long : ℕ) → IfSome result (LineFits long) }
 {
     let (key, value) = split_at_space(text)?;
     let map = number(map)?;
     let key = lower_hex(key)?;
-    let count = fill_room(value, room)?;
+    let count = fill_room(value, VALUE_ROOM, room)?;
     let value = &room[..count];
     Some(Line::Entry(EntryLine { map, key, value }))
 }
 
-// A program, behind the letter that begins its line.
+// A program that may have `long` bytes, behind the letter that begins its line.
 #[tactic(auto, unfolding(crate::specs::Grammar::program_meaning))]
-fn program_line<'a>(text: &str) -> Option<Line<'a>>
-    ensures meaning { option_map meaning_of result ≡ program_meaning text.now }
-    ensures fits { IfSome result LineFits }
+fn program_line<'a>(text: &str, long: usize, room: &'a mut [u8; VALUE_ROOM]) -> Option<Line<'a>>
+    requires long { long ≤ MOST_LONG }
+    ensures meaning { option_map meaning_of result ≡ program_meaning long text.now }
+    ensures fits { IfSome result (LineFits long) }
 {
     let (word, rest) = split_at_space(text)?;
     let (len, digits) = split_at_space(rest)?;
     let mode = mode(word)?;
-    let arg_len = number_within(0, MAX_ARG_LEN as u64, len)?;
-    let bytes = lower_hex(digits)?;
-    if bytes.len() > 8 * MAX_INSTALLED_SLOTS {
-        return None;
-    }
+    let arg_len = number_within(0, most_argument(long) as u64, len)?;
+    let count = fill_room(digits, most_bytes(long), room)?;
+    let bytes = &room[..count];
     Some(Line::Program(ProgramLine {
         mode,
         arg_len,
@@ -181,27 +179,34 @@ fn program_line<'a>(text: &str) -> Option<Line<'a>>
 }
 
 #[tactic(auto, unfolding(crate::specs::Grammar::words_meaning))]
-fn words_line<'a>(line: &str, room: &'a mut [u8; VALUE_ROOM]) -> Option<Line<'a>>
-    ensures meaning { option_map meaning_of result ≡ words_meaning line.now }
-    ensures fits { IfSome result LineFits }
+fn words_line<'a>(line: &str, long: usize, room: &'a mut [u8; VALUE_ROOM]) -> Option<Line<'a>>
+    requires long { long ≤ MOST_LONG }
+    ensures meaning { option_map meaning_of result ≡ words_meaning long line.now }
+    ensures fits { IfSome result (LineFits long) }
 {
     let (word, rest) = split_at_space(line)?;
     if word == "p" {
-        program_line(rest)
+        program_line(rest, long, room)
     } else {
         entry_line(word, rest, room)
     }
 }
 
-// What a line of a dump says, whatever stands before it; `None` where it is bad. The value of an entry is in the room.
+// What a line of a dump says, whatever stands before it, where a program may have `long` bytes; `None` where it is bad. The value of an
+// entry, or the bytes of a program, are in the room.
 #[tactic(auto, unfolding(crate::specs::Grammar::line_meaning))]
-pub(crate) fn read_line<'a>(line: &str, room: &'a mut [u8; VALUE_ROOM]) -> Option<Line<'a>>
-    ensures meaning { option_map meaning_of result ≡ line_meaning line.now }
-    ensures fits { IfSome result LineFits }
+pub(crate) fn read_line<'a>(
+    line: &str,
+    long: usize,
+    room: &'a mut [u8; VALUE_ROOM],
+) -> Option<Line<'a>>
+    requires long { long ≤ MOST_LONG }
+    ensures meaning { option_map meaning_of result ≡ line_meaning long line.now }
+    ensures fits { IfSome result (LineFits long) }
 {
     if line.len() > DUMP_LINE_BYTES {
         None
     } else {
-        words_line(line, room)
+        words_line(line, long, room)
     }
 }

@@ -2,13 +2,11 @@
 
 ghost use Rattle.std.specs.Prelude.{◌≡◌, ◌≤◌, ◌<◌, MatchResult, IfOk, IfErr, IfSome, IsErr, Ok, length, slice_get, Some, option_map};
 ghost use Rattle.std.specs.List.{list_all};
-ghost use Rattle.maps.specs.Shapes.{AreShapesSupported, key_size, value_size};
+ghost use Rattle.maps.specs.Shapes.{key_size, value_size};
 ghost use Rattle.maps.specs.Maps.{MapState, AreMaps};
 ghost use Rattle.maps.specs.MapSets.{HasRoom, maps_of, put_value, stored_shapes};
-ghost use Rattle.loader.specs.declared.installed.TheConstants.{MOST_SPARE};
-ghost use Rattle.loader.specs.CatalogueView.{MayOpenOn};
-ghost use Rattle.loader.specs.Installed.{installed_program};
-ghost use Rattle.dumps.specs.Loading.{is_hash, is_zero, is_behind, is_in_order, is_key_for, is_left_out, has_room, entry_fault, without_place, after_entry, after_program, after_line, after_ended, opening, loaded_state};
+ghost use Rattle.loader.specs.CatalogueView.{MayOpenOn, sizes_for};
+ghost use Rattle.dumps.specs.Loading.{is_hash, is_zero, is_behind, is_in_order, is_key_for, is_left_out, has_room, entry_fault, said_program, without_place, after_entry, after_program, after_line, after_ended, opening, loaded_state};
 ghost use Rattle.dumps.specs.declared.refusals.DumpError.TheVariants.{NoMemory};
 ghost use Rattle.dumps.specs.Refusal.{Fails, Makes, IsLoadAnswer};
 ghost use Rattle.dumps.specs.Shown.{entry_of, program_of, key_of, view_of, ProgramFits, IsFor};
@@ -140,15 +138,15 @@ fn put_entry(maps: &mut MapSet, m: usize, key: &[u8], value: &[u8])
 
 // One more entry.
 fn take_entry(
-    shapes: &[Shape],
+    catalogue: &Catalogue,
     so_far: &mut PartialState,
     entry: EntryLine<'_>,
 ) -> Result<(), LineError>
-    requires so_far { IsFor shapes.now so_far.old }
+    requires so_far { IsFor (sizes_for catalogue.now) so_far.old }
     ensures made { Makes (view_of so_far.new) result (after_entry (view_of so_far.old) (entry_of entry.entry)) }
-    ensures same { IsFor shapes.now so_far.new }
+    ensures same { IsFor (sizes_for catalogue.now) so_far.new }
 {
-    if entry.map >= shapes.len() as u64 {
+    if entry.map >= catalogue.shapes().len() as u64 {
         return Err(LineError::Refused(DumpFault::NoMap));
     }
     let m = entry.map as usize;
@@ -166,18 +164,17 @@ fn take_entry(
 }
 
 // A program for which there is no place: it is refused, and if its bytes are, for that.
-fn refuse_program(alloc: Global, shapes: &[Shape], program: &ProgramLine) -> Result<(), LineError>
-    requires shapes { AreShapesSupported shapes.now }
-    requires program { ProgramFits program.now }
-    ensures fails { IfErr result (λ e. Fails e (without_place (installed_program shapes.now program.now.mode program.now.arg_len program.now.bytes.items))) }
+fn refuse_program(
+    alloc: Global,
+    catalogue: &Catalogue,
+    program: &ProgramLine<'_>,
+) -> Result<(), LineError>
+    requires program { ProgramFits catalogue.now.long program.now }
+    ensures fails { IfErr result (λ e. Fails e (without_place (said_program (sizes_for catalogue.now) (program_of program.now)))) }
     ensures never { IsErr result }
 {
-    let mut room = Installed::open(alloc, shapes, 1)?;
-    match room.install(
-        program.mode,
-        program.arg_len as usize,
-        program.bytes.as_slice(),
-    ) {
+    let mut room = Installed::open(alloc, catalogue.shapes(), 1, catalogue.long())?;
+    match room.install(program.mode, program.arg_len as usize, program.bytes) {
         Ok(()) => Err(LineError::Refused(DumpFault::TooManyPrograms)),
         Err(e) => Err(LineError::Refused(DumpFault::Program(e))),
     }
@@ -186,78 +183,74 @@ fn refuse_program(alloc: Global, shapes: &[Shape], program: &ProgramLine) -> Res
 // One more program.
 fn take_program(
     alloc: Global,
-    shapes: &[Shape],
+    catalogue: &Catalogue,
     so_far: &mut PartialState,
-    program: ProgramLine,
+    program: ProgramLine<'_>,
 ) -> Result<(), LineError>
-    requires shapes { AreShapesSupported shapes.now }
-    requires so_far { IsFor shapes.now so_far.old }
-    requires program { ProgramFits program }
-    ensures made { Makes (view_of so_far.new) result (after_program shapes.now (view_of so_far.old) (program_of program)) }
-    ensures same { IsFor shapes.now so_far.new }
+    requires so_far { IsFor (sizes_for catalogue.now) so_far.old }
+    requires program { ProgramFits catalogue.now.long program }
+    ensures made { Makes (view_of so_far.new) result (after_program (sizes_for catalogue.now) (view_of so_far.old) (program_of program.entry)) }
+    ensures same { IsFor (sizes_for catalogue.now) so_far.new }
 {
     if so_far.installed.len() >= so_far.installed.places() {
-        return refuse_program(alloc, shapes, &program);
+        return refuse_program(alloc, catalogue, &program);
     }
     let arg_len = program.arg_len as usize;
     match so_far
         .installed
-        .install(program.mode, arg_len, program.bytes.as_slice())
+        .install(program.mode, arg_len, program.bytes)
     {
         Ok(()) => Ok(()),
         Err(e) => Err(LineError::Refused(DumpFault::Program(e))),
     }
 }
 
-// One more line, with room for its value.
+// One more line, with room for its value or its program.
 #[tactic(auto, unfolding(crate::specs::Loading::after_line))]
 fn take_line(
     alloc: Global,
-    shapes: &[Shape],
+    catalogue: &Catalogue,
     so_far: &mut PartialState,
     line: &str,
     room: &mut [u8; VALUE_ROOM],
 ) -> Result<(), LineError>
-    requires shapes { AreShapesSupported shapes.now }
-    requires so_far { IsFor shapes.now so_far.old }
-    ensures made { Makes (view_of so_far.new) result (after_line shapes.now (view_of so_far.old) line.now) }
-    ensures same { IsFor shapes.now so_far.new }
+    requires so_far { IsFor (sizes_for catalogue.now) so_far.old }
+    ensures made { Makes (view_of so_far.new) result (after_line (sizes_for catalogue.now) (view_of so_far.old) line.now) }
+    ensures same { IsFor (sizes_for catalogue.now) so_far.new }
 {
-    match read_line(line, room) {
+    match read_line(line, catalogue.long(), room) {
         None => Err(LineError::Refused(DumpFault::BadLine)),
-        Some(Line::Entry(entry)) => take_entry(shapes, so_far, entry),
-        Some(Line::Program(program)) => take_program(alloc, shapes, so_far, program),
+        Some(Line::Entry(entry)) => take_entry(catalogue, so_far, entry),
+        Some(Line::Program(program)) => take_program(alloc, catalogue, so_far, program),
     }
 }
 
 // One more line, which the last may be without a line feed.
 fn take_ended(
     alloc: Global,
-    shapes: &[Shape],
+    catalogue: &Catalogue,
     so_far: &mut PartialState,
     line: Option<&str>,
     room: &mut [u8; VALUE_ROOM],
 ) -> Result<(), LineError>
-    requires shapes { AreShapesSupported shapes.now }
-    requires so_far { IsFor shapes.now so_far.old }
-    ensures made { Makes (view_of so_far.new) result (after_ended shapes.now (view_of so_far.old) (option_map (λ t. t.now) line.entry)) }
-    ensures same { IsFor shapes.now so_far.new }
+    requires so_far { IsFor (sizes_for catalogue.now) so_far.old }
+    ensures made { Makes (view_of so_far.new) result (after_ended (sizes_for catalogue.now) (view_of so_far.old) (option_map (λ t. t.now) line.entry)) }
+    ensures same { IsFor (sizes_for catalogue.now) so_far.new }
 {
     match line {
         None => Err(LineError::Refused(DumpFault::BadLine)),
-        Some(line) => take_line(alloc, shapes, so_far, line, room),
+        Some(line) => take_line(alloc, catalogue, so_far, line, room),
     }
 }
 
-// Maps of these shapes as they are opened, and no program.
-fn opened(alloc: Global, shapes: &[Shape], places: usize) -> Result<PartialState, DumpError>
-    requires shapes { AreShapesSupported shapes.now }
-    requires places { places ≤ MOST_SPARE }
-    ensures opened { MatchResult result (λ s. view_of s ≡ opening shapes.now places) (λ e. e ≡ NoMemory) }
-    ensures for_shapes { IfOk result (λ s. IsFor shapes.now s) }
+// The catalogue's maps as they are opened, and no program.
+fn opened(alloc: Global, catalogue: &Catalogue) -> Result<PartialState, DumpError>
+    ensures opened { MatchResult result (λ s. view_of s ≡ opening (sizes_for catalogue.now)) (λ e. e ≡ NoMemory) }
+    ensures sizes { IfOk result (IsFor (sizes_for catalogue.now)) }
 {
+    let shapes = catalogue.shapes();
     let maps = MapSet::open_supported(alloc, shapes)?;
-    let installed = Installed::open(alloc, shapes, places)?;
+    let installed = Installed::open(alloc, shapes, catalogue.places(), catalogue.long())?;
     Ok(PartialState {
         maps,
         installed,
@@ -272,21 +265,21 @@ fn opened(alloc: Global, shapes: &[Shape], places: usize) -> Result<PartialState
 /// As [`load`].
 pub fn load_watched<V: Watcher>(
     alloc: Global,
-    shapes: &[Shape],
-    places: usize,
+    catalogue: &Catalogue,
     text: &str,
     watcher: &V,
 ) -> Result<StoreState, DumpError>
-    requires shapes { AreShapesSupported shapes.now }
-    requires places { places ≤ MOST_SPARE }
-    ensures loaded { IsLoadAnswer (loaded_state shapes.now places text.now) result }
+    ensures loaded { IsLoadAnswer (loaded_state (sizes_for catalogue.now) text.now) result }
+    ensures fits { IfOk result (MayOpenOn catalogue.now) }
 {
-    let mut so_far = opened(alloc, shapes, places)?;
+    // (that the catalogue keeps to its limits: the proof takes it from this call)
+    let _places = catalogue.places();
+    let mut so_far = opened(alloc, catalogue)?;
     let mut lines = EndedLines::new(text);
     let mut passing = Passing::new(watcher, text.len());
     let mut room = [0u8; VALUE_ROOM];
     while let Some((number, line)) = lines.take_line() {
-        match take_ended(alloc, shapes, &mut so_far, line, &mut room) {
+        match take_ended(alloc, catalogue, &mut so_far, line, &mut room) {
             Ok(()) => passing.note(lines.left()),
             Err(e) => {
                 watcher.ended();
@@ -298,43 +291,19 @@ pub fn load_watched<V: Watcher>(
     Ok(StoreState::of(so_far.maps, so_far.installed))
 }
 
-/// The state that a dump says, on maps of these shapes and with so many places for programs; else the first
-/// bad line, and of its faults the one of lowest number.
+/// The state that a dump says, for stores of a catalogue: on its maps, and with as many places as it has, for programs as long; else the
+/// first bad line, and of its faults the one of lowest number.
 ///
 /// A dump has a line of at most 32,931 bytes for each entry that is there, `MAP KEYHEX VALUEHEX`, in the order of the maps' numbers and then of the keys' bytes, without the zeros of arrays; and then a line
-/// `p MODE ARGLEN HEX` for each program. Takes time in proportion to the text and to the maps' room.
+/// `p MODE ARGLEN HEX` for each program. ARGLEN is at most 64, and HEX has at most 192 bytes, or as many as [`Catalogue::long`] where that is more.
+/// Takes time in proportion to the text and to the maps' room.
 ///
 /// # Errors
 ///
 /// The first bad line, or memory ran out: nothing is loaded.
-pub fn load(
-    alloc: Global,
-    shapes: &[Shape],
-    places: usize,
-    text: &str,
-) -> Result<StoreState, DumpError>
-    requires shapes { AreShapesSupported shapes.now }
-    requires places { places ≤ MOST_SPARE }
-    ensures loaded { IsLoadAnswer (loaded_state shapes.now places text.now) result }
-{
-    load_watched(alloc, shapes, places, text, &Unwatched)
-}
-
-/// The state that a dump says, for stores of a catalogue: on its maps, and with as many places as it has. Tells a watcher how much of the text is
-/// loaded.
-///
-/// # Errors
-///
-/// As [`load`].
-pub fn load_for<V: Watcher>(
-    alloc: Global,
-    catalogue: &Catalogue,
-    text: &str,
-    watcher: &V,
-) -> Result<StoreState, DumpError>
-    ensures loaded { IsLoadAnswer (loaded_state catalogue.now.shapes catalogue.now.places text.now) result }
+pub fn load(alloc: Global, catalogue: &Catalogue, text: &str) -> Result<StoreState, DumpError>
+    ensures loaded { IsLoadAnswer (loaded_state (sizes_for catalogue.now) text.now) result }
     ensures fits { IfOk result (MayOpenOn catalogue.now) }
 {
-    let places = catalogue.places();
-    load_watched(alloc, catalogue.shapes(), places, text, watcher)
+    load_watched(alloc, catalogue, text, &Unwatched)
 }

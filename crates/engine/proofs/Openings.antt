@@ -5,7 +5,7 @@ use Rattle.std.specs.Option.{option_copied}
 use Rattle.std.specs.Result.{result_map_both}
 use Rattle.std.specs.Borrow.{Bor}
 use Rattle.dumps.specs.Loading.{Outcome}
-use Rattle.loader.specs.CatalogueView.{CatalogueView, MayOpenOn, OpensOn, opened_on}
+use Rattle.loader.specs.CatalogueView.{CatalogueView, MayOpenOn, OpensOn, opened_on, sizes_for}
 use Rattle.loader.specs.StoreState.{StoreState, with_room}
 use Rattle.engine.specs.declared.opening.Opened.TheVariants.{On}
 use Rattle.engine.specs.Opening.{IsOpened}
@@ -14,8 +14,8 @@ use Rattle.engine.specs.Answer.{Answer}
 use Rattle.engine.specs.StateAnswer.{refusal_text}
 
 pub opens_on : (c : CatalogueView) (lent : Option (Bor StoreState)) (state : Option StoreState) → option_copied lent ≡ state → IsOpened (On c state) → OpensOn c lent
-opens_on c None state is opened = opened.1 ∙ ap (option_map (λ s. with_room s c.places)) (sym is)
-opens_on c (Some s) state is opened = opened.1 ∙ ap (option_map (λ x. with_room x c.places)) (sym is)
+opens_on c None state is opened = opened.1 ∙ ap (option_map (λ s. with_room s (sizes_for c))) (sym is)
+opens_on c (Some s) state is opened = opened.1 ∙ ap (option_map (λ x. with_room x (sizes_for c))) (sym is)
 
 pub fits_on : (c : CatalogueView) (lent : Option (Bor StoreState)) (state : Option StoreState) → option_copied lent ≡ state → IsOpened (On c state) → IfSome lent (λ s. MayOpenOn c s.now)
 fits_on c None state is opened = tt

@@ -1,7 +1,7 @@
 -- What a command runs on: the catalogue that a manifest and its files say, and the state that it opens on.
 use Rattle.std.specs.Prelude.{◌≡◌, ℕ, List, Option, Some, None, IfSome, option_map, Result, Ok, Err, nat_le, if◌then◌else◌}
 use Rattle.loader.specs.declared.installed.TheConstants.{MAX_SPARE}
-use Rattle.loader.specs.CatalogueView.{CatalogueView, MayOpenOn, with_places}
+use Rattle.loader.specs.CatalogueView.{CatalogueView, MayOpenOn, with_places, sizes_for}
 use Rattle.loader.specs.Loading.{Outcome}
 use Rattle.loader.specs.StoreState.{with_room}
 use Rattle.engine.specs.declared.opening.Loaded.{Loaded}
@@ -40,7 +40,7 @@ LoadedIs (Err refusal) (loads.Catalogue c) = ⊥
 
 -- the catalogue opens on the state that stands beside it, and may
 abbrev pub IsOpened : Opened → Type 0
-IsOpened (opens.On catalogue state) = IfSome state (MayOpenOn catalogue) × (catalogue.opening ≡ option_map (λ s. with_room s catalogue.places) state)
+IsOpened (opens.On catalogue state) = IfSome state (MayOpenOn catalogue) × (catalogue.opening ≡ option_map (λ s. with_room s (sizes_for catalogue)) state)
 IsOpened (opens.Refused reply) = Unit {0}
 
 -- on which catalogue a command runs, or what it answers

@@ -2,7 +2,7 @@
 use Rattle.std.specs.Prelude.{ℕ, ◌==◌, List, [], ◌++◌, length, codes, decimal, Result, Ok, if◌then◌else◌}
 use Rattle.std.specs.Result.{result_map_both}
 use Rattle.loader.specs.declared.installed.InstallRefusal.TheVariants as installs
-use Rattle.loader.specs.CatalogueView.{CatalogueView, opened_on}
+use Rattle.loader.specs.CatalogueView.{CatalogueView, opened_on, sizes_for}
 use Rattle.dumps.specs.declared.refusals.DumpFault.{DumpFault}
 use Rattle.dumps.specs.declared.refusals.DumpFault.TheVariants as faults
 use Rattle.dumps.specs.declared.refusals.DumpRefusal.{DumpRefusal}
@@ -25,7 +25,7 @@ refusal_text e = codes "line " ++ (decimal e.line ++ (codes ": E" ++ (decimal (f
 -- the catalogue on the state that a text says, or the answer to the state's refusal; an empty text says a new state
 abbrev pub on_text : CatalogueView → List ℕ → Result CatalogueView Answer
 on_text c text =
-    result_map_both (opened_on c) (λ refusal. record { text = refusal_text refusal; verdict = verdicts.Refused }) (loaded_state c.shapes c.places text)
+    result_map_both (opened_on c) (λ refusal. record { text = refusal_text refusal; verdict = verdicts.Refused }) (loaded_state (sizes_for c) text)
 
 -- the catalogue on a new state if the text is empty, or on the state that the text says
 abbrev pub opened_by : CatalogueView → List ℕ → Result CatalogueView Answer

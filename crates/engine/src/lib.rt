@@ -10,6 +10,7 @@ mod reading;
 mod replies;
 pub mod texts;
 mod transfer;
+mod watching;
 
 pub use in_memory::{Held, HeldFiles, Page};
 pub use opening::{Loaded, Opened, load_texts, open_texts, places_within};
@@ -24,3 +25,4 @@ pub use replies::{
     AnswerText, Answering, Notes, Reply, Status, Telling, Verdict, not_text, sizes_refused,
 };
 pub use transfer::{CannotRead, CannotWrite, Feed, ReadFault, Sink, Source};
+pub use watching::StoreWatcher;

@@ -9,7 +9,7 @@ ghost use Rattle.engine.specs.StateAnswer.{opened_by, reason_text, refusal_text}
 use crate::reading::{Texts, lent};
 use crate::replies::{Reply, sizes_refused};
 use crate::texts::{begin_refusal, put_decode, put_numbered, put_verify, refusal_text};
-use dumps::{DumpError, DumpFault, DumpRefusal, Watcher, load_for};
+use dumps::{DumpError, DumpFault, DumpRefusal, Watcher, load_watched};
 use loader::{Catalogue, InstallRefusal, LoadError, MAX_SPARE, StoreState, load_manifest_within};
 use std::alloc::{AllocError, Global};
 
@@ -88,7 +88,7 @@ fn open_on<V: Watcher>(
     if text.is_empty() {
         return Ok(Opened::On(catalogue, None));
     }
-    match load_for(alloc, &catalogue, text, watcher) {
+    match load_watched(alloc, &catalogue, text, watcher) {
         Ok(state) => Ok(Opened::On(catalogue.on(&state), Some(state))),
         Err(DumpError::NoMemory) => Err(AllocError),
         Err(DumpError::Refused(refusal)) => {

@@ -3,6 +3,7 @@
 ghost use Rattle.std.specs.Prelude.{◌≡◌, ◌++◌, OnOk, IfOk, codes, decimal, slice_get};
 ghost use Rattle.engine.specs.Texts.{program_line, line_if_any, programs_text, decode_text, verify_text, index_text, refusal_text, no_memory_line};
 ghost use Rattle.engine.specs.Answer as answers;
+ghost use Rattle.verifier.specs.Accepted.{checked_in};
 
 use insn::DecodeRefusal;
 use itoa::Buffer;
@@ -57,7 +58,7 @@ pub fn put_pair(
 
 // A program's line.
 fn put_program(out: &mut Vec<u8>, name: &str, program: &Accepted) -> Result<(), AllocError>
-    ensures { OnOk result (out.new.items ≡ out.old.items ++ program_line (record { name = name.now; checked = program.now })) }
+    ensures { OnOk result (out.new.items ≡ out.old.items ++ program_line (record { name = name.now; checked = checked_in program.now })) }
 {
     out.extend_from_slice(name.as_bytes())?;
     put_numbered(out, b" ok ", program.slots() as u64)?;

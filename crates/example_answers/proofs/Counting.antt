@@ -18,6 +18,7 @@ counter = record {
   programs = record { name = codes "bump"; checked = checked bump (Array 8 16 ∷ []) 4 Update }
       ∷ record { name = codes "peek"; checked = checked peek (Array 8 16 ∷ []) 4 Read } ∷ [];
   places = 0;
+  long = 0;
   opening = None;
 }
 

@@ -48,7 +48,7 @@ maps_2 = with_values (counted (counted opening 1) 2)
 
 -- with no program installed
 abbrev with_maps : Maps → StoreState
-with_maps maps = record { maps = maps; programs = []; places = 4 }
+with_maps maps = record { maps = maps; programs = []; places = 4; long = 0 }
 
 first_goes_up : effect bump maps_0 first ≡ Some (effect_of 9 1 maps_1)
 first_goes_up = one opening opens

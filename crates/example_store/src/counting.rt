@@ -54,6 +54,7 @@ fn counted<R: Wait>(rt: &R, alloc: Global) -> Option<(Answers, u64)> {
         window: 16,
         limit: ENDLESS,
         spare: 0,
+        long: 0,
     };
     let (store, mut sessions) = Store::open_sized(alloc, sizes, catalogue).ok()?;
     let Some(mut session) = sessions.pop() else {

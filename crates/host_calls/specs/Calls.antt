@@ -42,7 +42,7 @@ asks_install store mode argument bytes = Updates (install_of mode argument bytes
 
 -- of a program that may name these maps alone
 abbrev pub asks_within : StoreView → (maps : ℕ) → Mode → ℕ → List ℕ → Asks
-asks_within store maps mode argument bytes = Updates (install_of mode argument bytes) (within_refusal store.catalogue.shapes maps (new_program mode argument bytes))
+asks_within store maps mode argument bytes = Updates (install_of mode argument bytes) (within_refusal store.catalogue.shapes store.catalogue.long maps (new_program mode argument bytes))
 
 abbrev pub asks_post : StoreView → ℕ → List ℕ → Asks
 asks_post store program argument = Posts (op_of program argument) (early_refusal store.catalogue Update program argument)

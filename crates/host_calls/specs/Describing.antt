@@ -117,6 +117,7 @@ size_words sizes maps programs = record {
   spare = sizes.spare;
   maps = maps;
   programs = programs;
+  long = sizes.long;
 }
 
 -- the sizes that it was opened with, and how many maps and programs its manifest has

@@ -1,15 +1,15 @@
 -- The state that a text says, and why a text is not loaded as one.
-use Rattle.std.specs.Prelude.{◌≡◌, ℕ, ◌<◌, ◌≤◌, List, Ok, Err, MatchOption}
+use Rattle.std.specs.Prelude.{◌≡◌, ℕ, ◌≤◌, List, Ok, Err, MatchOption}
 use Rattle.std.specs.Str.{IsUtf8}
 use Rattle.insn.specs.Refusal.{fault_number as decode_number}
 use Rattle.verifier.specs.Numbers.{fault_number as verify_number}
 use Rattle.maps.specs.Shapes.{AreLimits}
-use Rattle.loader.specs.CatalogueView.{CatalogueView}
-use Rattle.loader.specs.StoreState.{StoreState}
+use Rattle.loader.specs.CatalogueView.{CatalogueView, sizes_for}
+use Rattle.loader.specs.StoreState.{StateSizes, StoreState}
 use Rattle.loader.specs.Refusal.{line_of, number_of}
 use Rattle.loader.specs.declared.installed.InstallRefusal.{InstallRefusal}
 use Rattle.loader.specs.declared.installed.InstallRefusal.TheVariants as installs
-use Rattle.loader.specs.declared.installed.TheConstants.{MOST_SPARE}
+use Rattle.loader.specs.declared.installed.TheConstants.{MOST_LONG, MOST_SPARE}
 use Rattle.loader.specs.declared.refusals.LoadError.TheVariants as errors
 use Rattle.dumps.specs.Loading.{loaded_state}
 use Rattle.dumps.specs.Refusal.{LoadFails, line_of as dump_line, number_of as dump_number}
@@ -21,14 +21,22 @@ use Rattle.host_calls.specs.declared.handles.Opening.{Opening as Asked}
 use Rattle.host_calls.specs.declared.handles.StateAnswered.{StateAnswered}
 use Rattle.host_calls.specs.declared.handles.StateHandle.{StateHandle}
 use Rattle.host_calls.specs.declared.loading.NotLoaded.{NotLoaded}
-use Rattle.host_calls.specs.declared.loading.NotLoaded.TheVariants.{BadLimits, NoText, Manifest, TooManyPlaces, Text}
+use Rattle.host_calls.specs.declared.loading.NotLoaded.TheVariants.{BadLimits, NoText, Manifest, TooMuchRoom, Text}
 use Rattle.host_calls.specs.Leaving.{only_state}
-use Rattle.host_calls.specs.Openings.{AreTexts, Says, inner_in, reading_of}
+use Rattle.host_calls.specs.Openings.{AreTexts, Says, inner_in, reading_of, sized, sizes_asked}
 use Rattle.host_calls.specs.Statuses.{done, letter_C, letter_D, letter_E, letter_V, no_text, out_of_limits, refusal}
+
+-- a store may have so many places, for programs of so many bytes
+abbrev pub HasRoomAsked : Asked → Type 0
+HasRoomAsked o = (o.spare ≤ MOST_SPARE) × (o.long ≤ MOST_LONG)
+
+-- the sizes of the states that are asked for, of a catalogue's maps
+abbrev pub sizes_of_states : Asked → CatalogueView → StateSizes
+sizes_of_states o c = sizes_for (sized (sizes_asked o) c)
 
 -- the state that this text says, for stores of the catalogue that the manifest says, with so many places
 abbrev pub IsStateOf : Asked → List ℕ → StoreState → Type 0
-IsStateOf o text s = (c : CatalogueView) × Says o c × (o.spare ≤ MOST_SPARE) × (loaded_state c.shapes o.spare text ≡ Ok s)
+IsStateOf o text s = (c : CatalogueView) × Says o c × HasRoomAsked o × (loaded_state (sizes_of_states o c) text ≡ Ok s)
 
 -- why there is none
 abbrev pub IsLoadReason : Asked → List ℕ → NotLoaded → Type 0
@@ -36,8 +44,8 @@ IsLoadReason o text BadLimits = (AreLimits o.limits → ⊥)
 IsLoadReason o text NoText = (AreTexts o × IsUtf8 text → ⊥)
 IsLoadReason o text (Manifest errors.NoMemory) = Unit {0}
 IsLoadReason o text (Manifest (errors.Refused bad)) = AreTexts o × (reading_of o ≡ Err bad)
-IsLoadReason o text TooManyPlaces = AreTexts o × (MOST_SPARE < o.spare)
-IsLoadReason o text (Text why) = (c : CatalogueView) × Says o c × LoadFails why (loaded_state c.shapes o.spare text)
+IsLoadReason o text TooMuchRoom = AreTexts o × (HasRoomAsked o → ⊥)
+IsLoadReason o text (Text why) = (c : CatalogueView) × Says o c × LoadFails why (loaded_state (sizes_of_states o c) text)
 
 -- why a program of the text is refused, and at which slot
 abbrev pub install_inner : InstallRefusal → ℕ × ℕ
@@ -57,7 +65,7 @@ abbrev pub load_words : NotLoaded → StateAnswered
 load_words BadLimits = only_state out_of_limits
 load_words NoText = only_state no_text
 load_words (Manifest why) = record { status = refusal letter_C (number_of why); line = line_of why; inner = (inner_in why).0; slot = (inner_in why).1 }
-load_words TooManyPlaces = only_state out_of_limits
+load_words TooMuchRoom = only_state out_of_limits
 load_words (Text why) = record { status = refusal letter_E (dump_number why); line = dump_line why; inner = (text_inner why).0; slot = (text_inner why).1 }
 
 -- the handle has that state, or none, and says why

@@ -6,7 +6,7 @@ use Rattle.std.specs.Str.{IsUtf8}
 use Rattle.std.specs.Arc.{arc_value}
 use Rattle.insn.specs.Refusal.{fault_number as decode_number}
 use Rattle.verifier.specs.Numbers.{fault_number as verify_number}
-use Rattle.loader.specs.CatalogueView.{CatalogueView, MayOpenOn, opened_on, with_places}
+use Rattle.loader.specs.CatalogueView.{CatalogueView, MayOpenOn, opened_on, with_long_places}
 use Rattle.loader.specs.StoreState.{StoreState}
 use Rattle.maps.specs.Shapes.{AreLimits}
 use Rattle.loader.specs.Loading.{loaded_within}
@@ -41,7 +41,11 @@ abbrev pub limit_of : ℕ → ℕ
 limit_of n = if nat_eq n 0 then ENDLESS else n
 
 abbrev pub sizes_asked : Asked → Sizes
-sizes_asked o = record { nodes = o.nodes; slots = o.slots; window = o.window; limit = limit_of o.limit; spare = o.spare }
+sizes_asked o = record { nodes = o.nodes; slots = o.slots; window = o.window; limit = limit_of o.limit; spare = o.spare; long = o.long }
+
+-- the catalogue with places as these sizes have them
+abbrev pub sized : Sizes → CatalogueView → CatalogueView
+sized z c = with_long_places c z.spare z.long
 
 -- the files' names and texts
 abbrev pub texts_of : List File → Files
@@ -79,8 +83,8 @@ pub record IsStoreOf (o : Asked) (on : Option StoreState) (s : StoreView) : Type
   pub config : s.config ≡ sizes_asked o
   pub catalogue : CatalogueView
   pub says : Says o catalogue
-  pub may : IfSome on (MayOpenOn (with_places catalogue o.spare))
-  pub offers : s.catalogue ≡ catalogue_on (with_places catalogue o.spare) on
+  pub may : IfSome on (MayOpenOn (sized (sizes_asked o) catalogue))
+  pub offers : s.catalogue ≡ catalogue_on (sized (sizes_asked o) catalogue) on
 
 -- the first sessions of a store, so many, and what is known of the session k
 abbrev pub fresh_of : StoreView → ℕ → List SessionView
@@ -113,7 +117,7 @@ IsReason o on (Loading errors.NoMemory) = Unit {0}
 IsReason o on (Loading (errors.Refused bad)) = AreTexts o × (reading_of o ≡ Err bad)
 IsReason o on (Opening OutOfLimits) = AreTexts o × (AreSizes (sizes_asked o) → ⊥)
 IsReason o on (Opening NoMemory) = Unit {0}
-IsReason o on (Opening OtherState) = AreSizes (sizes_asked o) × ((c : CatalogueView) × Says o c × IsOther (with_places c o.spare) on)
+IsReason o on (Opening OtherState) = AreSizes (sizes_asked o) × ((c : CatalogueView) × Says o c × IsOther (sized (sizes_asked o) c) on)
 
 -- it says something of the limits or the texts, and not of the sizes or the state
 abbrev pub IsOfTexts : NotOpened → Type 0

@@ -90,6 +90,8 @@ pub struct StoreWords {
     pub maps: u64,
     /// Programs of the manifest.
     pub programs: u64,
+    /// The most bytes of a program that is installed, and of its argument, where that is more than 192 and 64.
+    pub long: u64,
 }
 
 fn kind_word(shape: Shape) -> u64
@@ -172,6 +174,7 @@ fn store_words(info: StoreInfo) -> StoreWords
         spare: info.sizes.spare as u64,
         maps: info.maps as u64,
         programs: info.programs as u64,
+        long: info.sizes.long as u64,
     }
 }
 

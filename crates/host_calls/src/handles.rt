@@ -43,6 +43,8 @@ pub struct Opening<'a> {
     pub limit: u32,
     /// Programs that may be installed.
     pub spare: u32,
+    /// The most bytes of such a program, and of its argument, where that is more than 192 and 64.
+    pub long: u32,
     /// How large the maps of the manifest and the arguments of its programs may be.
     pub limits: MapLimits,
 }

@@ -7,7 +7,7 @@ use crate::handles::{Opening, StateAnswered, StateHandle};
 use crate::opening::{NotOpened, inner_of, load_catalogue};
 use crate::statuses::{DONE, NO_TEXT, OUT_OF_LIMITS, refusal};
 use dumps::{DumpError, DumpFault, load};
-use loader::{InstallRefusal, LoadError, MOST_SPARE};
+use loader::{InstallRefusal, LoadError, MOST_LONG, MOST_SPARE};
 use std::alloc::Global;
 use store::StoreState;
 
@@ -20,13 +20,13 @@ pub enum NotLoaded {
     NoText,
     // The manifest is refused.
     Manifest(LoadError),
-    // The opening asks for too many places.
-    TooManyPlaces,
+    // The opening asks for more places than any store has, or for longer programs.
+    TooMuchRoom,
     // The text is refused.
     Text(DumpError),
 }
 
-// The state that a text says, for stores of the manifest, with so many places.
+// The state that a text says, for stores of the manifest, with so many places, for programs of so many bytes.
 fn state_of(alloc: Global, opening: &Opening, text: &[u8]) -> Result<StoreState, NotLoaded>
     ensures loaded { MatchResult result (IsStateOf opening.now text.now) (IsLoadReason opening.now text.now) }
 {
@@ -40,11 +40,12 @@ fn state_of(alloc: Global, opening: &Opening, text: &[u8]) -> Result<StoreState,
         Err(NotOpened::Loading(error)) => return Err(NotLoaded::Manifest(error)),
         Err(NotOpened::Opening(_)) => unreachable!(),
     };
-    let places = opening.spare as usize;
-    if places > MOST_SPARE {
-        return Err(NotLoaded::TooManyPlaces);
+    let (places, long) = (opening.spare as usize, opening.long as usize);
+    if places > MOST_SPARE || long > MOST_LONG {
+        return Err(NotLoaded::TooMuchRoom);
     }
-    match load(alloc, catalogue.shapes(), places, text) {
+    let catalogue = catalogue.with_long_places(places, long);
+    match load(alloc, &catalogue, text) {
         Ok(state) => Ok(state),
         Err(error) => Err(NotLoaded::Text(error)),
     }
@@ -82,7 +83,7 @@ fn answer_for(why: NotLoaded) -> StateAnswered
     match why {
         NotLoaded::BadLimits => StateAnswered::of(OUT_OF_LIMITS),
         NotLoaded::NoText => StateAnswered::of(NO_TEXT),
-        NotLoaded::TooManyPlaces => StateAnswered::of(OUT_OF_LIMITS),
+        NotLoaded::TooMuchRoom => StateAnswered::of(OUT_OF_LIMITS),
         NotLoaded::Manifest(error) => {
             let (inner, slot) = inner_of(error);
             StateAnswered {

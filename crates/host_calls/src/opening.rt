@@ -3,7 +3,7 @@
 ghost use Rattle.std.specs.Prelude.{◌≡◌, ℕ, ◌<◌, Some, length, set, All, IfErr, IfNone, IfOk, IfSome, MatchOption, MatchResult, None, Ok, Option};
 ghost use Rattle.std.specs.Arc.{arc_value};
 ghost use Rattle.std.specs.Str.{IsUtf8};
-ghost use Rattle.loader.specs.CatalogueView.{MayOpenOn, with_places};
+ghost use Rattle.loader.specs.CatalogueView.{MayOpenOn};
 ghost use Rattle.loader.specs.ProgramFiles.{files_of};
 ghost use Rattle.loader.specs.StoreState.{StoreState as State};
 ghost use Rattle.oplog.specs.Limits.{AreSizes};
@@ -11,7 +11,7 @@ ghost use Rattle.oplog.specs.declared.configuration.OpenError.TheVariants.{Other
 ghost use Rattle.store.specs.Opening.{AreOf};
 ghost use Rattle.store.specs.Sessions.{IsOf, fresh_sessions};
 ghost use Rattle.store_steps.specs.Shelving.{sessions_of};
-ghost use Rattle.host_calls.specs.Openings.{AreUtf8, IsOfTexts, IsOpened, IsOther, IsReason, IsSeat, IsStoreOf, Says, catalogue_on, fresh_of, inner_in, limit_of, only, sizes_asked, state_in, texts_of, words_of};
+ghost use Rattle.host_calls.specs.Openings.{AreUtf8, IsOfTexts, IsOpened, IsOther, IsReason, IsSeat, IsStoreOf, Says, catalogue_on, fresh_of, inner_in, limit_of, only, sizes_asked, state_in, texts_of, words_of, sized};
 
 use crate::attached::Attached;
 use crate::handles::{File, Opening, StateHandle, StoreAnswered, StoreHandle};
@@ -107,9 +107,9 @@ fn store_on(
     state: Option<&StoreState>,
 ) -> Result<(Store, Vec<Session>), OpenError>
     ensures limits { IfErr result (λ e. e ≡ OutOfLimits → AreSizes sizes → ⊥) }
-    ensures other { IfErr result (λ e. e ≡ OtherState → AreSizes sizes × IsOther (with_places catalogue sizes.spare) (state_in state.entry)) }
-    ensures may { IfOk result (λ t. IfSome (state_in state.entry) (MayOpenOn (with_places catalogue sizes.spare))) }
-    ensures store { IfOk result (λ t. (t.0.config ≡ sizes) × (t.0.catalogue ≡ catalogue_on (with_places catalogue sizes.spare) (state_in state.entry))) }
+    ensures other { IfErr result (λ e. e ≡ OtherState → AreSizes sizes × IsOther (sized sizes catalogue) (state_in state.entry)) }
+    ensures may { IfOk result (λ t. IfSome (state_in state.entry) (MayOpenOn (sized sizes catalogue))) }
+    ensures store { IfOk result (λ t. (t.0.config ≡ sizes) × (t.0.catalogue ≡ catalogue_on (sized sizes catalogue) (state_in state.entry))) }
     ensures sessions { IfOk result (λ t. t.1.items ≡ fresh_sessions t.0.id t.0.config t.0.catalogue 0 (sessions_of sizes)) }
     ensures count { IfOk result (λ t. length t.1.items ≡ sessions_of sizes) }
     ensures own { IfOk result (λ t. AreOf t.0 t.1.items) }
@@ -141,6 +141,7 @@ fn open_store(
         window: opening.window,
         limit: limit_of(opening.limit),
         spare: opening.spare,
+        long: opening.long,
     };
     match store_on(alloc, sizes, catalogue, state) {
         Ok(opened) => Ok(opened),

@@ -11,7 +11,7 @@ use crate::reading::instruction;
 use std::alloc::{AllocError, Global};
 use thiserror::Error;
 
-/// The most slots of a program that is installed while a store runs, for which room is taken before.
+/// The most slots of a program that is installed while a store runs, if the store says no other number.
 pub const MAX_INSTALLED_SLOTS: usize = 24;
 
 /// Why bytes are no program. Each has its number, from 1 to 9.

@@ -63,6 +63,7 @@ pub record Left (lim : MapLimits) (fs : Files) (v c : CatalogueView) (ms : List 
   pub maps_first : 0 < length v.programs → maps ≡ []
   pub some_map : 0 < length ps → 0 < length c.shapes
   pub places : v.places ≡ c.places
+  pub long : v.long ≡ c.long
   pub opening : v.opening ≡ c.opening
 
 pub done : (lim : MapLimits) (fs : Files) (v c : CatalogueView) (maps : List Shape) (ps : List ProgramLine) (es : List Entry) → Left lim fs v c [] maps ps es → v ≡ c
@@ -70,8 +71,9 @@ done lim fs v c (s ∷ ss) ps es k = absurd (let e = k.in_order in cc)
 done lim fs v c [] (p ∷ ps) es k = absurd (let e = k.in_order in cc)
 done lim fs v c [] [] (x ∷ es) k = absurd (let e = k.checked in cc)
 done lim fs v c [] [] [] k =
-    ap₂ (λ a b. record { shapes = a; programs = b; places = v.places; opening = v.opening }) (sym (k.shapes ∙ append-nil v.shapes)) (sym (k.all ∙ append-nil v.programs))
-    ∙ ap₂ (λ p o. record c { places = p; opening = o }) k.places k.opening
+    ap₂ (λ a b. record { shapes = a; programs = b; places = v.places; long = v.long; opening = v.opening }) (sym (k.shapes ∙ append-nil v.shapes)) (sym (k.all ∙ append-nil v.programs))
+    ∙ ap₂ (λ p n. record c { places = p; long = n; opening = v.opening }) k.places k.long
+    ∙ ap (λ o. record c { opening = o }) k.opening
 
 -- a line's step, and what is then left
 pub record Steps (lim : MapLimits) (fs : Files) (v c : CatalogueView) (m : Meaning) (ms : List Meaning) : Type 0 where
@@ -115,6 +117,7 @@ map_next lim fs v c s t ms ss ps es b k =
             maps_first = λ lt. absurd (omega (arith, lt, ap length none));
             some_map = k.some_map;
             places = k.places;
+            long = k.long;
             opening = k.opening;
           };
     }
@@ -150,6 +153,7 @@ program_next lim fs v c p q e ms ps es b k =
             maps_first = λ _. refl;
             some_map = λ _. subst (λ x. 0 < length x) (sym shapes) some;
             places = k.places;
+            long = k.long;
             opening = k.opening;
           };
     }
@@ -171,6 +175,7 @@ next lim fs v c Comment ms maps ps es b k =
             maps_first = k.maps_first;
             some_map = k.some_map;
             places = k.places;
+            long = k.long;
             opening = k.opening;
           };
     }
@@ -209,6 +214,7 @@ offers_to lim fs ls c o =
       maps_first = λ lt. absurd (omega (arith, lt));
       some_map = o.some_map;
       places = sym o.no_places;
+      long = sym o.no_long;
       opening = sym o.no_opening;
     } in
     passes lim fs ls o.meanings nothing_yet c c.shapes o.programs c.programs o.each b left

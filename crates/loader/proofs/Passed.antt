@@ -138,5 +138,6 @@ offers_from lim fs ls c ok p =
       distinct = s.distinct;
       few_programs = s.few;
       no_places = s.no_places;
+      no_long = s.no_long;
       no_opening = s.no_opening;
     }

@@ -97,6 +97,7 @@ with_one_map l v s so_far within none few =
       distinct = so_far.distinct;
       few = so_far.few;
       no_places = so_far.no_places;
+      no_long = so_far.no_long;
       no_opening = so_far.no_opening;
     }
 
@@ -116,6 +117,7 @@ with_one_program l fs v p w so_far fits a =
       distinct = subst (IsDistinct bytes_eq) (sym names) (distinct_push (names_of v.programs) a.entry.name so_far.distinct new);
       few = omega (arith, length_push v.programs a.entry, a.few);
       no_places = so_far.no_places;
+      no_long = so_far.no_long;
       no_opening = so_far.no_opening;
     }
 
@@ -146,9 +148,10 @@ is_catalogue l v so_far some =
       distinct = so_far.distinct;
       few = so_far.few;
       few_places = omega (arith, so_far.no_places);
+      few_bytes = omega (arith, so_far.no_long);
       opening = subst (λ o. IfSome o (IsState (sizes_for v))) (sym so_far.no_opening) tt;
     }
 
-pub nothing_partial : (l : MapLimits) → AreLimits l → IsPartial l (record { shapes = []; programs = []; places = 0; opening = None })
+pub nothing_partial : (l : MapLimits) → AreLimits l → IsPartial l (record { shapes = []; programs = []; places = 0; long = 0; opening = None })
 unfolding IsDistinct
-nothing_partial l ok = record { limits = ok; within = none_at_all (IsShapeWithin l); few_maps = le-leb 0 l.bytes (omega arith); accepted = none_at_all (λ e. e.checked.shapes ≡ []); checked = none_at_all (λ e. IsAccepted e.checked); distinct = tt; few = omega arith; no_places = refl; no_opening = refl }
+nothing_partial l ok = record { limits = ok; within = none_at_all (IsShapeWithin l); few_maps = le-leb 0 l.bytes (omega arith); accepted = none_at_all (λ e. e.checked.shapes ≡ []); checked = none_at_all (λ e. IsAccepted e.checked); distinct = tt; few = omega arith; no_places = refl; no_long = refl; no_opening = refl }

@@ -1,5 +1,5 @@
 -- What is good by some limits is good by wider ones.
-use Rattle.std.proofs.Common.{◌≡◌, ◌≤◌, ℕ, Bool, true, leb, List, [], ◌∷◌, length, map, Some, refl, arith, sum_by}
+use Rattle.std.proofs.Common.{◌≡◌, ℕ, true, leb, List, [], ◌∷◌, length, map, Some, refl, arith, sum_by}
 use Rattle.std.proofs.lemmas.Bool.{le-leb, leb-true, and_parts}
 use Rattle.maps.specs.declared.shapes.MapLimits.{MapLimits}
 use Rattle.maps.specs.declared.shapes.Shape.{Shape}
@@ -66,6 +66,7 @@ module _ (l w : MapLimits) (is : AreLimits l) (are : AreLimits w) (wider : NoNar
     distinct = o.distinct;
     few_programs = o.few_programs;
     no_places = o.no_places;
+    no_long = o.no_long;
     no_opening = o.no_opening;
   }
 

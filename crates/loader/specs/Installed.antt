@@ -1,6 +1,6 @@
 -- Programs that are installed while a store runs, and what bytes are installed as.
-use Rattle.std.specs.Prelude.{◌≡◌, ℕ, ◌≤◌, List, [], ◌∷◌, ◌++◌, length, take, Option, Some, None, Result, Ok, Err, IsOk, MatchResult}
-use Rattle.std.specs.List.{All}
+use Rattle.std.specs.Prelude.{◌≡◌, ℕ, ◌*◌, ◌≤◌, max, Bool, ◌&&◌, nat_le, List, [], ◌∷◌, ◌++◌, length, map, replicate, take, Option, Some, None, Result, Ok, Err, IsOk, MatchResult}
+use Rattle.std.specs.List.{All, list_all}
 use Rattle.insn.specs.declared.instruction.Form.{Form}
 use Rattle.insn.specs.declared.decoding.DecodeRefusal.{DecodeRefusal}
 use Rattle.insn.specs.declared.decoding.TheConstants.{MAX_INSTALLED_SLOTS}
@@ -12,39 +12,50 @@ use Rattle.maps.specs.declared.shapes.TheConstants.{MAX_ARG_LEN}
 use Rattle.verifier.specs.declared.refusal.Mode.{Mode}
 use Rattle.verifier.specs.declared.refusal.Refused.{Refused}
 use Rattle.verifier.specs.Signature.{signature}
-use Rattle.verifier.specs.Accepted.{Checked, checked, IsAccepted}
+use Rattle.verifier.specs.Accepted.{AcceptedView, Checked, checked, checked_in, IsAccepted}
 use Rattle.verifier.specs.Verdict.{verdict}
 use Rattle.loader.specs.declared.installed.InstallRefusal.{InstallRefusal}
 use Rattle.loader.specs.declared.installed.InstallRefusal.TheVariants.{Decode, Verify}
-use Rattle.loader.specs.declared.installed.TheConstants.{MOST_SPARE}
+use Rattle.loader.specs.declared.installed.TheConstants.{MOST_SPARE, MOST_LONG}
 
--- programs that were installed behind a catalogue's, in order, for maps of these shapes, and how many there may be
+-- programs that were installed behind a catalogue's, in order, for maps of these shapes; how many there may be, and the most bytes of one,
+-- and of its argument, if that is more than 192 and 64
 pub record InstalledView : Type 0 where
   pub shapes : List Shape
   pub places : ℕ
+  pub long : ℕ
   pub programs : List Checked
 
 -- none yet
-abbrev pub no_programs : List Shape → ℕ → InstalledView
-no_programs shapes places = record { shapes = shapes; places = places; programs = [] }
+abbrev pub no_programs : List Shape → ℕ → ℕ → InstalledView
+no_programs shapes places long = record { shapes = shapes; places = places; long = long; programs = [] }
+
+-- the most bytes of a program that is installed: so many, and 192 at least
+abbrev pub most_bytes : ℕ → ℕ
+most_bytes long = max (8 * MAX_INSTALLED_SLOTS) long
+
+-- the most bytes of its argument: so many, and 64 at least
+abbrev pub most_argument : ℕ → ℕ
+most_argument long = max MAX_ARG_LEN long
 
 -- one more behind the others
 abbrev pub with_installed : InstalledView → Checked → InstalledView
 with_installed v c = record v { programs = v.programs ++ c ∷ [] }
 
--- a program of few slots, with an argument of few bytes
-pub record IsShort (c : Checked) : Type 0 where
-  pub slots : size c.program ≤ MAX_INSTALLED_SLOTS
-  pub argument : c.arg_len ≤ MAX_ARG_LEN
+-- the program has no more bytes than one may have that is installed, eight a slot, and no longer argument
+pub record IsShort (long : ℕ) (c : Checked) : Type 0 where
+  pub slots : 8 * size c.program ≤ most_bytes long
+  pub argument : c.arg_len ≤ most_argument long
 
--- a store may have these maps; each program was accepted, for these maps, and is short; there are no more than there may be
+-- a store may have these maps; each program was accepted, for these maps, and is short enough; there are no more than there may be
 pub record IsInstalled (v : InstalledView) : Type 0 where
   pub shapes : AreShapesSupported v.shapes
   pub accepted : All (λ c. c.shapes ≡ v.shapes) v.programs
   pub checked : All IsAccepted v.programs
-  pub short : All IsShort v.programs
+  pub short : All (IsShort v.long) v.programs
   pub few : length v.programs ≤ v.places
   pub limit : v.places ≤ MOST_SPARE
+  pub long_limit : v.long ≤ MOST_LONG
 
 -- ---- what bytes are installed as
 
@@ -74,6 +85,25 @@ after_install (Err e) v = v
 
 -- ---- the type's model alone cites what follows
 
+-- `IsShort` as a test, of each of these
+abbrev pub is_short : ℕ → Checked → Bool
+is_short long c = nat_le (8 * size c.program) (most_bytes long) && nat_le c.arg_len (most_argument long)
+
+abbrev pub are_short : ℕ → List AcceptedView → Bool
+are_short long rooms = list_all (λ a. is_short long (checked_in a)) rooms
+
+-- what was checked of each of these
+abbrev pub all_checked : List AcceptedView → List Checked
+all_checked rooms = map checked_in rooms
+
+-- each has room for so many slots
+abbrev pub AreRooms : ℕ → List AcceptedView → Type 0
+AreRooms slots rooms = map (λ a. a.room) rooms ≡ replicate (length rooms) slots
+
+-- so many slots hold each program that may be installed
+abbrev pub IsEnough : ℕ → ℕ → Type 0
+IsEnough long slots = most_bytes long ≤ 8 * slots
+
 -- the programs of the first rooms
-abbrev pub first_rooms : List Shape → List Checked → ℕ → InstalledView
-first_rooms shapes rooms count = record { shapes = shapes; places = length rooms; programs = take count rooms }
+abbrev pub first_rooms : List Shape → ℕ → List AcceptedView → ℕ → InstalledView
+first_rooms shapes long rooms count = record { shapes = shapes; places = length rooms; long = long; programs = all_checked (take count rooms) }

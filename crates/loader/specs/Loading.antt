@@ -69,7 +69,7 @@ after_lines l files n so_far (line ∷ ls) =
     either (λ why. Err (record { line = n; why = why })) (λ after. after_lines l files (next_line n) after ls) (after_line l files so_far line)
 
 abbrev pub nothing_yet : CatalogueView
-nothing_yet = record { shapes = []; programs = []; places = 0; opening = None }
+nothing_yet = record { shapes = []; programs = []; places = 0; long = 0; opening = None }
 
 -- the catalogue that a manifest says by these limits
 unfoldable pub loaded_within : MapLimits → List ℕ → Files → Outcome

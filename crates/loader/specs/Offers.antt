@@ -50,6 +50,7 @@ pub record Offers (l : MapLimits) (files : Files) (lines : List (List ℕ)) (c :
   pub distinct : IsDistinct bytes_eq (names_of c.programs)
   pub few_programs : length c.programs ≤ MAX_PROGRAMS
   pub no_places : c.places ≡ 0
+  pub no_long : c.long ≡ 0
   pub no_opening : c.opening ≡ None
 
 -- a manifest offers a catalogue of at least one map

@@ -10,7 +10,7 @@ use Rattle.loader.specs.Loading.{are_few}
 
 -- the catalogue that they make
 abbrev pub view_of : PartialCatalogue → CatalogueView
-view_of s = record { shapes = s.shapes.items; programs = s.programs.items; places = 0; opening = None }
+view_of s = record { shapes = s.shapes.items; programs = s.programs.items; places = 0; long = 0; opening = None }
 
 -- a catalogue without places that opens on a new state, but for its first map
 pub record IsPartial (l : MapLimits) (c : CatalogueView) : Type 0 where
@@ -22,4 +22,5 @@ pub record IsPartial (l : MapLimits) (c : CatalogueView) : Type 0 where
   pub distinct : IsDistinct bytes_eq (names_of c.programs)
   pub few : length c.programs ≤ MAX_PROGRAMS
   pub no_places : c.places ≡ 0
+  pub no_long : c.long ≡ 0
   pub no_opening : c.opening ≡ None

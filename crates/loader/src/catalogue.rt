@@ -3,10 +3,11 @@
 ghost use Rattle.std.specs.Prelude.{◌≡◌, ◌↔◌, ◌≤◌, length, option_map, slice_get, IfSome, IsTrue, None};
 ghost use Rattle.maps.specs.Shapes.{AreShapesSupported};
 ghost use Rattle.maps.specs.declared.shapes.TheConstants.{MOST_ARG_LEN};
-ghost use Rattle.loader.specs.CatalogueView.{IsCatalogue, MayOpenOn, longest_argument, number_named, opened_on, with_places};
+ghost use Rattle.verifier.specs.Accepted.{checked_in};
+ghost use Rattle.loader.specs.CatalogueView.{IsCatalogue, MayOpenOn, longest_part, number_named, opened_on, with_long_places, with_places};
 ghost use Rattle.loader.specs.Numbering.{IsNumbering};
 
-use crate::installed::MOST_SPARE;
+use crate::installed::{MOST_LONG, MOST_SPARE};
 use crate::loading::MAX_PROGRAMS;
 use crate::opened_on::OpenedOn;
 use crate::store_state::StoreState;
@@ -26,15 +27,16 @@ pub(crate) struct NamedProgram {
 
 impl Model for NamedProgram {
     ghost use Rattle.loader.specs.CatalogueView.{Entry};
+    ghost use Rattle.verifier.specs.Accepted.{checked_in};
 
     ghost Value = { Entry };
 
-    ghost view = { λ p. record { name = p.name.bytes; checked = p.program } };
+    ghost view = { λ p. record { name = p.name.bytes; checked = checked_in p.program } };
 }
 
 impl NamedProgram {
     pub(crate) fn new(name: ArrayString<{ NAME_BYTES }>, program: Accepted) -> NamedProgram
-        ensures { result ≡ record { name = name.bytes; checked = program } }
+        ensures { result ≡ record { name = name.bytes; checked = checked_in program } }
     {
         NamedProgram { name, program }
     }
@@ -46,7 +48,7 @@ impl NamedProgram {
     }
 
     fn program(&self) -> &Accepted
-        ensures { result.now ≡ self.now.checked }
+        ensures { checked_in result.now ≡ self.now.checked }
     {
         &self.program
     }
@@ -75,6 +77,7 @@ pub struct Catalogue {
     programs: Vec<NamedProgram>,
     numbers: BTreeMap<String, u16>,
     places: usize,
+    long: usize,
     opening: Option<OpenedOn>,
 }
 
@@ -88,9 +91,9 @@ impl Model for Catalogue {
 
     ghost coded = { catalogue_code };
 
-    ghost view = { λ c. catalogue_of c.shapes.items c.programs.items c.places c.opening };
+    ghost view = { λ c. catalogue_of c.shapes.items c.programs.items c.places c.long c.opening };
 
-    ghost invariant = { λ c. IsCatalogue (catalogue_of c.shapes.items c.programs.items c.places c.opening)
+    ghost invariant = { λ c. IsCatalogue (catalogue_of c.shapes.items c.programs.items c.places c.long c.opening)
         × IsNumbering c.numbers c.programs.items };
 }
 
@@ -101,15 +104,16 @@ impl Catalogue {
         programs: Vec<NamedProgram>,
         numbers: BTreeMap<String, u16>,
     ) -> Catalogue
-        requires catalogue { IsCatalogue (record { shapes = shapes.items; programs = programs.items; places = 0; opening = None }) }
+        requires catalogue { IsCatalogue (record { shapes = shapes.items; programs = programs.items; places = 0; long = 0; opening = None }) }
         requires numbers { IsNumbering numbers programs.items }
-        ensures { result ≡ record { shapes = shapes.items; programs = programs.items; places = 0; opening = None } }
+        ensures { result ≡ record { shapes = shapes.items; programs = programs.items; places = 0; long = 0; opening = None } }
     {
         Catalogue {
             shapes,
             programs,
             numbers,
             places: 0,
+            long: 0,
             opening: None,
         }
     }
@@ -132,7 +136,8 @@ impl Catalogue {
         self.programs.len()
     }
 
-    /// The most bytes that an argument of its programs has; 0 where there is no program.
+    /// No operation of a store has more bytes that are too long for a record: the longest argument of the programs, or
+    /// [`Catalogue::long`] if that is more.
     ///
     /// # Examples
     ///
@@ -142,17 +147,17 @@ impl Catalogue {
     /// let files = [("seven.hex", "b7000000070000009500000000000000")]; // mov64 r0, 7; exit
     /// let manifest = "map array 8 16\nprogram see read 12 seven.hex\nprogram set update 4 seven.hex\n";
     /// let catalogue = load_manifest(rt.alloc(), manifest, &files)?;
-    /// assert_eq!(rt; catalogue.longest_argument(), 12);
+    /// assert_eq!(rt; catalogue.longest_part(), 12);
     /// ```
-    pub fn longest_argument(&self) -> usize
-        ensures longest { result ≡ longest_argument self.now }
+    pub fn longest_part(&self) -> usize
+        ensures longest { result ≡ longest_part self.now }
         ensures most { result ≤ MOST_ARG_LEN }
     {
         let mut longest = 0;
         for named in &self.programs {
             longest = longest.max(named.program().arg_len());
         }
-        longest
+        longest.max(self.long)
     }
 
     /// How many programs may be installed behind these: a manifest has none.
@@ -174,6 +179,24 @@ impl Catalogue {
         self.places
     }
 
+    /// The most bytes of an installed program, and of its argument, if that is more than 192 and 64. 0 if a store takes no longer ones.
+    ///
+    /// # Examples
+    ///
+    /// ```
+    /// use loader::load_manifest;
+    ///
+    /// let catalogue = load_manifest(rt.alloc(), "map array 8 16\n", &[])?;
+    /// assert_eq!(rt; catalogue.long(), 0);
+    /// assert_eq!(rt; catalogue.with_long_places(3, 4096).long(), 4096);
+    /// ```
+    pub fn long(&self) -> usize
+        ensures long { result ≡ self.now.long }
+        ensures few { result ≤ MOST_LONG }
+    {
+        self.long
+    }
+
     /// Gives the catalogue `places` places for programs to be installed. Its stores open on a new state.
     ///
     /// # Examples
@@ -185,17 +208,38 @@ impl Catalogue {
     /// let state = StoreState::open(rt.alloc(), &catalogue)?;
     /// assert_eq!(rt; state.programs().places(), 3);
     /// ```
-    pub fn with_places(mut self, places: usize) -> Catalogue
+    pub fn with_places(self, places: usize) -> Catalogue
         requires few { places ≤ MOST_SPARE }
         ensures places { result ≡ with_places self places }
     {
+        self.with_long_places(places, 0)
+    }
+
+    /// Gives the catalogue `places` places for programs of at most `long` bytes, with arguments of as many. Its stores open on a new
+    /// state.
+    ///
+    /// # Examples
+    ///
+    /// ```
+    /// use loader::{StoreState, load_manifest};
+    ///
+    /// let catalogue = load_manifest(rt.alloc(), "map array 8 16\n", &[])?.with_long_places(3, 16_384);
+    /// let state = StoreState::open(rt.alloc(), &catalogue)?;
+    /// assert_eq!(rt; (state.programs().places(), state.programs().long()), (3, 16_384));
+    /// ```
+    pub fn with_long_places(mut self, places: usize, long: usize) -> Catalogue
+        requires few { places ≤ MOST_SPARE }
+        requires short { long ≤ MOST_LONG }
+        ensures places { result ≡ with_long_places self places long }
+    {
         self.places = places;
+        self.long = long;
         self.opening = None;
         self
     }
 
-    /// Whether a store of this catalogue may open on a state: the state has the catalogue's maps, and no more installed programs than there
-    /// may be.
+    /// Whether a store of this catalogue may open on a state: the state has the catalogue's maps, and no more and no longer installed
+    /// programs than there may be.
     ///
     /// # Examples
     ///
@@ -211,7 +255,9 @@ impl Catalogue {
     pub fn may_open_on(&self, state: &StoreState) -> bool
         ensures decides { IsTrue result ↔ MayOpenOn self.now state.now }
     {
-        state.has_shapes(&self.shapes) && state.programs().len() <= self.places
+        state.has_shapes(&self.shapes)
+            && state.programs().len() <= self.places
+            && state.programs().are_short(self.long)
     }
 
     /// Makes the stores of the catalogue open on `state`. What such a store explains begins with the state as it is now; no copy of it is
@@ -290,7 +336,7 @@ impl Catalogue {
     /// assert!(rt; catalogue.program(1).is_none());
     /// ```
     pub fn program(&self, k: u16) -> Option<&Accepted>
-        ensures program { option_map (λ a. a.now) result ≡ option_map (λ e. e.checked) (slice_get self.now.programs k) }
+        ensures program { option_map (λ a. checked_in a.now) result ≡ option_map (λ e. e.checked) (slice_get self.now.programs k) }
         ensures accepted { IfSome result (λ a. a.now.shapes ≡ self.now.shapes) }
     {
         match self.programs.get(k as usize) {

@@ -1,12 +1,10 @@
 // Programs that are installed while a store runs.
 
-ghost use Rattle.std.specs.Prelude.{◌≡◌, ◌<◌, ◌≤◌, ◌*◌, length, option_map, replicate, slice_get, take, IfOk, IfSome};
+ghost use Rattle.std.specs.Prelude.{◌≡◌, ◌↔◌, ◌<◌, ◌≤◌, ◌*◌, ◌+◌, length, option_map, replicate, slice_get, take, IfOk, IfSome, IsTrue};
 ghost use Rattle.std.specs.List.{All};
-ghost use Rattle.insn.specs.declared.decoding.TheConstants.{MAX_INSTALLED_SLOTS};
 ghost use Rattle.maps.specs.Shapes.{AreShapesSupported};
-ghost use Rattle.maps.specs.declared.shapes.TheConstants.{MAX_ARG_LEN};
-ghost use Rattle.verifier.specs.Accepted.{empty_room};
-ghost use Rattle.loader.specs.Installed.{IsInstallAnswer, IsInstalled, IsShort, after_install, installed_program, no_programs};
+ghost use Rattle.verifier.specs.Accepted.{accepted_with, checked_in, empty_room};
+ghost use Rattle.loader.specs.Installed.{AreRooms, IsEnough, IsInstallAnswer, IsInstalled, IsShort, after_install, all_checked, are_short, is_short, installed_program, most_argument, most_bytes, no_programs};
 
 use insn::{DecodeRefusal, Insn, MAX_INSTALLED_SLOTS, decode_into};
 use maps::{MAX_ARG_LEN, Shape};
@@ -21,6 +19,49 @@ pub const MAX_SPARE: usize = 16;
 /// The most spare programs of a store: what [`MAX_SPARE`] is to a `Config`, this is to any `Sizes`.
 pub const MOST_SPARE: usize = 4_096;
 
+/// The most bytes of a program that is installed, and of its argument, in any store: 2,048 slots.
+pub const MOST_LONG: usize = 16_384;
+
+/// The most bytes of an installed program: `long`, and 192 at least.
+///
+/// # Examples
+///
+/// ```
+/// use loader::{most_argument, most_bytes};
+///
+/// assert_eq!(rt; (most_bytes(0), most_bytes(4096)), (192, 4096));
+/// assert_eq!(rt; (most_argument(0), most_argument(4096)), (64, 4096));
+/// ```
+pub fn most_bytes(long: usize) -> usize
+    ensures { result ≡ most_bytes long }
+{
+    long.max(8 * MAX_INSTALLED_SLOTS)
+}
+
+/// The most bytes of an installed program's argument: `long`, and 64 at least.
+///
+/// # Examples
+///
+/// ```
+/// use loader::most_argument;
+///
+/// assert_eq!(rt; (most_argument(0), most_argument(65)), (64, 65));
+/// ```
+pub fn most_argument(long: usize) -> usize
+    ensures { result ≡ most_argument long }
+{
+    long.max(MAX_ARG_LEN)
+}
+
+// So many slots hold each program that may be installed, and none is left over.
+fn slots_for(long: usize) -> usize
+    requires { long ≤ MOST_LONG }
+    ensures enough { IsEnough long result }
+    ensures none_more { 8 * result < most_bytes long + 8 }
+{
+    (most_bytes(long) + 7) / 8
+}
+
 /// Why bytes can't be installed as a program.
 ///
 /// # Examples
@@ -31,7 +72,7 @@ pub const MOST_SPARE: usize = 4_096;
 /// use verifier::Mode;
 ///
 /// let shapes = [Shape::Array { value: 8, entries: 16 }];
-/// let mut installed = Installed::open(rt.alloc(), &shapes, 1)?;
+/// let mut installed = Installed::open(rt.alloc(), &shapes, 1, 0)?;
 /// match installed.install(Mode::Read, 0, &[0x95, 0, 0, 0, 0, 0, 0, 0]) {
 ///     // `exit` replies R0, which nothing wrote.
 ///     Err(InstallRefusal::Verify(refused)) => assert_eq!(rt; refused.why.number(), 6),
@@ -48,8 +89,8 @@ pub enum InstallRefusal {
     Verify(Refused),
 }
 
-/// Programs that were installed behind a catalogue's, in order, for maps of given shapes. Each is accepted for these maps, and of
-/// at most [`MAX_INSTALLED_SLOTS`] slots. The room of all that there may be is taken when it is opened; no later call takes memory.
+/// Programs that were installed behind a catalogue's, in order, for maps of given shapes. Each is accepted for these maps, and has at
+/// most [`most_bytes`] bytes. The room of all that there may be is taken when it is opened; no later call takes memory.
 ///
 /// # Examples
 ///
@@ -59,7 +100,7 @@ pub enum InstallRefusal {
 /// use verifier::Mode;
 ///
 /// let shapes = [Shape::Array { value: 8, entries: 16 }];
-/// let mut installed = Installed::open(rt.alloc(), &shapes, 4)?;
+/// let mut installed = Installed::open(rt.alloc(), &shapes, 4, 0)?;
 /// let seven = [0xb7, 0, 0, 0, 7, 0, 0, 0, 0x95, 0, 0, 0, 0, 0, 0, 0]; // mov64 r0, 7; exit
 /// installed.install(Mode::Read, 0, &seven)?;
 /// installed.install(Mode::Update, 8, &seven)?;
@@ -72,27 +113,32 @@ pub struct Installed {
     // A room for each place; the first `count` of them hold the programs.
     rooms: Vec<Accepted>,
     count: usize,
+    long: usize,
+    // How many slots each room, and what follows, has room for.
+    slots: usize,
     // What the last bytes were read as.
     decoded: Vec<Insn>,
     scratch: Scratch,
 }
 
 impl Model for Installed {
-    ghost use Rattle.std.specs.Prelude.{◌≤◌, length, vec_capacity};
-    ghost use Rattle.insn.specs.declared.decoding.TheConstants.{MAX_INSTALLED_SLOTS};
-    ghost use Rattle.loader.specs.Installed.{InstalledView, IsInstalled, first_rooms};
+    ghost use Rattle.std.specs.Prelude.{◌≡◌, ◌≤◌, length, vec_capacity};
+    ghost use Rattle.loader.specs.Installed.{AreRooms, InstalledView, IsEnough, IsInstalled, first_rooms};
 
     ghost Value = { InstalledView };
 
-    ghost view = { λ a. first_rooms a.shapes.items a.rooms.items a.count };
+    ghost view = { λ a. first_rooms a.shapes.items a.long a.rooms.items a.count };
 
-    ghost invariant = { λ a. IsInstalled (first_rooms a.shapes.items a.rooms.items a.count)
+    ghost invariant = { λ a. IsInstalled (first_rooms a.shapes.items a.long a.rooms.items a.count)
         × (a.count ≤ length a.rooms.items)
-        × (MAX_INSTALLED_SLOTS ≤ vec_capacity a.decoded) };
+        × AreRooms a.slots a.rooms.items
+        × IsEnough a.long a.slots
+        × (a.slots ≤ vec_capacity a.decoded)
+        × (a.scratch ≡ a.slots) };
 }
 
 impl Installed {
-    /// Takes room for so many programs for maps of these shapes. None is installed yet.
+    /// Takes room for so many programs for maps of these shapes, each of at most `most_bytes(long)` bytes. None is installed yet.
     ///
     /// # Errors
     ///
@@ -105,24 +151,33 @@ impl Installed {
     /// use maps::Shape;
     ///
     /// let shapes = [Shape::Array { value: 8, entries: 16 }];
-    /// let installed = Installed::open(rt.alloc(), &shapes, 4)?;
+    /// let installed = Installed::open(rt.alloc(), &shapes, 4, 0)?;
     /// assert_eq!(rt; (installed.len(), installed.places()), (0, 4));
     /// ```
-    pub fn open(alloc: Global, shapes: &[Shape], places: usize) -> Result<Installed, AllocError>
+    pub fn open(
+        alloc: Global,
+        shapes: &[Shape],
+        places: usize,
+        long: usize,
+    ) -> Result<Installed, AllocError>
         requires shapes { AreShapesSupported shapes.now }
         requires places { places ≤ MOST_SPARE }
-        ensures none { IfOk result (λ a. a ≡ no_programs shapes.now places) }
+        requires long { long ≤ MOST_LONG }
+        ensures none { IfOk result (λ a. a ≡ no_programs shapes.now places long) }
     {
+        let slots = slots_for(long);
         Ok(Installed {
             shapes: Vec::from_slice(alloc, shapes)?,
-            rooms: open_rooms(alloc, shapes, places)?,
+            rooms: open_rooms(alloc, shapes, places, slots)?,
             count: 0,
-            decoded: Vec::with_capacity(alloc, MAX_INSTALLED_SLOTS)?,
-            scratch: Scratch::open(alloc)?,
+            long,
+            slots,
+            decoded: Vec::with_capacity(alloc, slots)?,
+            scratch: Scratch::open(alloc, slots)?,
         })
     }
 
-    /// Copies the programs of `from` into room of their own, with `places` places.
+    /// Copies the programs of `from` into room of their own, with `places` places for programs of at most `most_bytes(long)` bytes.
     ///
     /// # Errors
     ///
@@ -136,24 +191,34 @@ impl Installed {
     /// use verifier::Mode;
     ///
     /// let shapes = [Shape::Array { value: 8, entries: 16 }];
-    /// let mut installed = Installed::open(rt.alloc(), &shapes, 1)?;
+    /// let mut installed = Installed::open(rt.alloc(), &shapes, 1, 0)?;
     /// installed.install(Mode::Read, 0, &[0xb7, 0, 0, 0, 7, 0, 0, 0, 0x95, 0, 0, 0, 0, 0, 0, 0])?; // mov64 r0, 7; exit
-    /// let copy = Installed::copy_of(rt.alloc(), &installed, 3)?;
+    /// let copy = Installed::copy_of(rt.alloc(), &installed, 3, 0)?;
     /// assert_eq!(rt; (copy.len(), copy.places()), (1, 3));
     /// ```
-    pub fn copy_of(alloc: Global, from: &Installed, places: usize) -> Result<Installed, AllocError>
+    pub fn copy_of(
+        alloc: Global,
+        from: &Installed,
+        places: usize,
+        long: usize,
+    ) -> Result<Installed, AllocError>
         requires few { length from.now.programs ≤ places }
+        requires short { All (IsShort long) from.now.programs }
         requires places { places ≤ MOST_SPARE }
-        ensures copied { IfOk result (λ a. a ≡ record from.now { places = places }) }
+        requires long { long ≤ MOST_LONG }
+        ensures copied { IfOk result (λ a. a ≡ record from.now { places = places; long = long }) }
     {
-        let mut rooms = open_rooms(alloc, &from.shapes, places)?;
-        copy_rooms(&from.rooms[..from.count], &mut rooms);
+        let slots = slots_for(long);
+        let mut rooms = open_rooms(alloc, &from.shapes, places, slots)?;
+        copy_rooms(&from.rooms[..from.count], long, slots, &mut rooms);
         Ok(Installed {
             shapes: Vec::from_slice(alloc, &from.shapes)?,
             rooms,
             count: from.count,
-            decoded: Vec::with_capacity(alloc, MAX_INSTALLED_SLOTS)?,
-            scratch: Scratch::open(alloc)?,
+            long,
+            slots,
+            decoded: Vec::with_capacity(alloc, slots)?,
+            scratch: Scratch::open(alloc, slots)?,
         })
     }
 
@@ -166,7 +231,7 @@ impl Installed {
     /// use maps::Shape;
     ///
     /// let shapes = [Shape::Array { value: 8, entries: 16 }];
-    /// let installed = Installed::open(rt.alloc(), &shapes, 1)?;
+    /// let installed = Installed::open(rt.alloc(), &shapes, 1, 0)?;
     /// assert!(rt; installed.shapes() == shapes.as_slice());
     /// ```
     pub fn shapes(&self) -> &[Shape]
@@ -185,7 +250,7 @@ impl Installed {
     /// use verifier::Mode;
     ///
     /// let shapes = [Shape::Array { value: 8, entries: 16 }];
-    /// let mut installed = Installed::open(rt.alloc(), &shapes, 4)?;
+    /// let mut installed = Installed::open(rt.alloc(), &shapes, 4, 0)?;
     /// assert_eq!(rt; installed.len(), 0);
     /// installed.install(Mode::Read, 0, &[0xb7, 0, 0, 0, 7, 0, 0, 0, 0x95, 0, 0, 0, 0, 0, 0, 0])?; // mov64 r0, 7; exit
     /// assert_eq!(rt; installed.len(), 1);
@@ -206,7 +271,7 @@ impl Installed {
     /// use maps::Shape;
     ///
     /// let shapes = [Shape::Array { value: 8, entries: 16 }];
-    /// let installed = Installed::open(rt.alloc(), &shapes, 4)?;
+    /// let installed = Installed::open(rt.alloc(), &shapes, 4, 0)?;
     /// assert_eq!(rt; installed.places(), 4);
     /// ```
     pub fn places(&self) -> usize
@@ -215,6 +280,47 @@ impl Installed {
         ensures whole { IsInstalled self.now }
     {
         self.rooms.len()
+    }
+
+    /// The most bytes of one of them, and of its argument, if that is more than 192 and 64.
+    ///
+    /// # Examples
+    ///
+    /// ```
+    /// use loader::Installed;
+    /// use maps::Shape;
+    ///
+    /// let shapes = [Shape::Array { value: 8, entries: 16 }];
+    /// let installed = Installed::open(rt.alloc(), &shapes, 1, 4096)?;
+    /// assert_eq!(rt; installed.long(), 4096);
+    /// ```
+    pub fn long(&self) -> usize
+        ensures long { result ≡ self.now.long }
+        ensures limit { result ≤ MOST_LONG }
+        ensures whole { IsInstalled self.now }
+    {
+        self.long
+    }
+
+    /// Whether none is longer than one may be that has `long` bytes.
+    ///
+    /// # Examples
+    ///
+    /// ```
+    /// use loader::Installed;
+    /// use maps::Shape;
+    /// use verifier::Mode;
+    ///
+    /// let shapes = [Shape::Array { value: 8, entries: 16 }];
+    /// let mut installed = Installed::open(rt.alloc(), &shapes, 1, 4096)?;
+    /// installed.install(Mode::Read, 65, &[0xb7, 0, 0, 0, 7, 0, 0, 0, 0x95, 0, 0, 0, 0, 0, 0, 0])?; // mov64 r0, 7; exit
+    /// assert!(rt; installed.are_short(65));
+    /// assert!(rt; !installed.are_short(0));
+    /// ```
+    pub fn are_short(&self, long: usize) -> bool
+        ensures short { IsTrue result ↔ All (IsShort long) self.now.programs }
+    {
+        are_short(&self.rooms[..self.count], long)
     }
 
     /// The program that was installed as number `k`, from 0.
@@ -227,13 +333,13 @@ impl Installed {
     /// use verifier::Mode;
     ///
     /// let shapes = [Shape::Array { value: 8, entries: 16 }];
-    /// let mut installed = Installed::open(rt.alloc(), &shapes, 4)?;
+    /// let mut installed = Installed::open(rt.alloc(), &shapes, 4, 0)?;
     /// installed.install(Mode::Read, 0, &[0xb7, 0, 0, 0, 7, 0, 0, 0, 0x95, 0, 0, 0, 0, 0, 0, 0])?; // mov64 r0, 7; exit
     /// assert_eq!(rt; installed.program(0).map(|program| program.instructions()), Some(2));
     /// assert!(rt; installed.program(1).is_none());
     /// ```
     pub fn program(&self, k: usize) -> Option<&Accepted>
-        ensures program { option_map (λ a. a.now) result ≡ slice_get self.now.programs k }
+        ensures program { option_map (λ a. checked_in a.now) result ≡ slice_get self.now.programs k }
         ensures accepted { IfSome result (λ a. a.now.shapes ≡ self.now.shapes) }
     {
         if k < self.count {
@@ -253,13 +359,13 @@ impl Installed {
     /// use verifier::Mode;
     ///
     /// let shapes = [Shape::Array { value: 8, entries: 16 }];
-    /// let mut installed = Installed::open(rt.alloc(), &shapes, 4)?;
+    /// let mut installed = Installed::open(rt.alloc(), &shapes, 4, 0)?;
     /// installed.install(Mode::Read, 0, &[0xb7, 0, 0, 0, 7, 0, 0, 0, 0x95, 0, 0, 0, 0, 0, 0, 0])?; // mov64 r0, 7; exit
     /// installed.clear();
     /// assert_eq!(rt; (installed.len(), installed.places()), (0, 4));
     /// ```
     pub fn clear(&mut self)
-        ensures none { self.new ≡ no_programs self.old.shapes self.old.places }
+        ensures none { self.new ≡ no_programs self.old.shapes self.old.places self.old.long }
     {
         self.count = 0;
     }
@@ -279,7 +385,7 @@ impl Installed {
     /// use verifier::Mode;
     ///
     /// let shapes = [Shape::Array { value: 8, entries: 16 }];
-    /// let mut installed = Installed::open(rt.alloc(), &shapes, 1)?;
+    /// let mut installed = Installed::open(rt.alloc(), &shapes, 1, 0)?;
     /// // `exit` alone replies R0, which nothing wrote.
     /// assert!(rt; installed.install(Mode::Read, 0, &[0x95, 0, 0, 0, 0, 0, 0, 0]).is_err());
     /// assert_eq!(rt; installed.len(), 0);
@@ -293,8 +399,8 @@ impl Installed {
         bytes: &[u8],
     ) -> Result<(), InstallRefusal>
         requires free { length self.old.programs < self.old.places }
-        requires few { length bytes.now ≤ 8 * MAX_INSTALLED_SLOTS }
-        requires argument { arg_len ≤ MAX_ARG_LEN }
+        requires few { length bytes.now ≤ most_bytes self.old.long }
+        requires argument { arg_len ≤ most_argument self.old.long }
         ensures reading { IsInstallAnswer (installed_program self.old.shapes mode arg_len bytes.now) result }
         ensures programs { self.new ≡ after_install (installed_program self.old.shapes mode arg_len bytes.now) self.old }
     {
@@ -308,7 +414,7 @@ impl Installed {
         Ok(())
     }
 
-    /// Becomes the same list as another one for as many programs and for the same maps.
+    /// Becomes the same list as another one for as many programs, as long, and for the same maps.
     ///
     /// # Examples
     ///
@@ -318,42 +424,72 @@ impl Installed {
     /// use verifier::Mode;
     ///
     /// let shapes = [Shape::Array { value: 8, entries: 16 }];
-    /// let mut installed = Installed::open(rt.alloc(), &shapes, 1)?;
+    /// let mut installed = Installed::open(rt.alloc(), &shapes, 1, 0)?;
     /// installed.install(Mode::Read, 0, &[0xb7, 0, 0, 0, 7, 0, 0, 0, 0x95, 0, 0, 0, 0, 0, 0, 0])?; // mov64 r0, 7; exit
-    /// let mut copy = Installed::open(rt.alloc(), &shapes, 1)?;
+    /// let mut copy = Installed::open(rt.alloc(), &shapes, 1, 0)?;
     /// copy.copy_from(&installed);
     /// assert_eq!(rt; copy.len(), 1);
     /// ```
     pub fn copy_from(&mut self, from: &Installed)
         requires shapes { self.old.shapes ≡ from.now.shapes }
         requires places { self.old.places ≡ from.now.places }
+        requires long { self.old.long ≡ from.now.long }
         ensures copied { self.new ≡ from.now }
     {
-        copy_rooms(&from.rooms[..from.count], &mut self.rooms);
+        copy_rooms(
+            &from.rooms[..from.count],
+            self.long,
+            self.slots,
+            &mut self.rooms,
+        );
         self.count = from.count;
     }
 }
 
-// Opens `places` rooms, each for one program.
-fn open_rooms(alloc: Global, shapes: &[Shape], places: usize) -> Result<Vec<Accepted>, AllocError>
+// Opens `places` rooms, each for one program of so many slots.
+fn open_rooms(
+    alloc: Global,
+    shapes: &[Shape],
+    places: usize,
+    slots: usize,
+) -> Result<Vec<Accepted>, AllocError>
     requires shapes { AreShapesSupported shapes.now }
-    ensures rooms { IfOk result (λ rooms. rooms.items ≡ replicate places (empty_room shapes.now)) }
+    ensures rooms { IfOk result (λ rooms. rooms.items ≡ replicate places (accepted_with (empty_room shapes.now) slots)) }
 {
     let mut rooms = Vec::with_capacity(alloc, places)?;
     for _place in 0..places {
-        rooms.push_reserved(Accepted::room(alloc, shapes)?);
+        rooms.push_reserved(Accepted::room(alloc, shapes, slots)?);
     }
     Ok(rooms)
 }
 
-// The first rooms get these programs.
-fn copy_rooms(from: &[Accepted], rooms: &mut Vec<Accepted>)
-    requires short { All IsShort from.now }
+// The first rooms get these programs, none of which is longer than one may be that has `long` bytes.
+fn copy_rooms(from: &[Accepted], long: usize, slots: usize, rooms: &mut Vec<Accepted>)
+    requires short { All (IsShort long) (all_checked from.now) }
+    requires enough { IsEnough long slots }
+    requires rooms { AreRooms slots rooms.old.items }
     requires room { length from.now ≤ length rooms.old.items }
-    ensures copied { take (length from.now) rooms.new.items ≡ from.now }
+    ensures copied { all_checked (take (length from.now) rooms.new.items) ≡ all_checked from.now }
+    ensures rooms { AreRooms slots rooms.new.items }
     ensures count { length rooms.new.items ≡ length rooms.old.items }
 {
     for (k, program) in from.iter().enumerate() {
         rooms[k].copy_from(program);
     }
+}
+
+// Whether none of these programs is longer than one may be that has `long` bytes.
+fn are_short(programs: &[Accepted], long: usize) -> bool
+    ensures { result ≡ are_short long programs.now }
+{
+    programs.iter().all(|program| is_short(program, long))
+}
+
+// Whether the program is no longer than one may be that has `long` bytes.
+fn is_short(program: &Accepted, long: usize) -> bool
+    ensures { result ≡ is_short long (checked_in program.now) }
+{
+    // (accepted, so it has few slots)
+    let _ = program.program();
+    8 * program.slots() <= most_bytes(long) && program.arg_len() <= most_argument(long)
 }

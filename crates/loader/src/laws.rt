@@ -2,7 +2,7 @@
 
 ghost use Rattle.std.specs.Prelude.{◌≡◌};
 ghost use Rattle.insn.specs.declared.decoding.TheConstants.{MAX_INSTALLED_SLOTS};
-ghost use Rattle.loader.specs.declared.installed.TheConstants.{MAX_SPARE, MOST_SPARE};
+ghost use Rattle.loader.specs.declared.installed.TheConstants.{MAX_SPARE, MOST_LONG, MOST_SPARE};
 ghost use Rattle.loader.specs.declared.loading.TheConstants.{MAX_PROGRAMS};
 ghost use Rattle.loader.specs.declared.paths.TheConstants.{PATH_BYTES};
 ghost use Rattle.loader.specs.Spelling.{EachLineIsItsSpelling};
@@ -15,6 +15,7 @@ pub fn limits()
     ensures programs_of_a_catalogue { MAX_PROGRAMS ≡ 256 }
     ensures programs_behind_a_catalogue { MAX_SPARE ≡ 16 }
     ensures spare_of_any_store { MOST_SPARE ≡ 4096 }
+    ensures bytes_of_an_installed_program_of_any_store { MOST_LONG ≡ 16384 }
     ensures slots_of_an_installed_program { MAX_INSTALLED_SLOTS ≡ 24 }
     ensures bytes_of_a_path { PATH_BYTES ≡ 255 }
 {}

@@ -18,7 +18,9 @@ mod store_state;
 pub use catalogue::Catalogue;
 pub use file_names::named_files;
 pub use grammar::{Line, ProgramLine, mode, read_line};
-pub use installed::{InstallRefusal, Installed, MAX_SPARE, MOST_SPARE};
+pub use installed::{
+    InstallRefusal, Installed, MAX_SPARE, MOST_LONG, MOST_SPARE, most_argument, most_bytes,
+};
 pub use laws::{
     each_line_is_its_spelling, limits, loaded_is_offered, names_are_files, refused_is_first_bad,
     wider_limits_keep_what_is_good,

@@ -4,6 +4,7 @@ ghost use Rattle.std.specs.Prelude.{◌≡◌, ◌≤◌, length, option_map};
 ghost use Rattle.text.specs.declared.words.TheConstants.{NAME_BYTES};
 ghost use Rattle.maps.specs.Shapes.{AreShapesSupported};
 ghost use Rattle.maps.specs.declared.shapes.TheConstants.{MOST_ARG_LEN};
+ghost use Rattle.verifier.specs.Accepted.{checked_in};
 ghost use Rattle.loader.specs.ProgramFiles.{files_of, file_named, bytes_of_hex, instructions_of, checked_program, or_bad_line, entry_for};
 ghost use Rattle.loader.specs.LineShown.{program_of};
 ghost use Rattle.loader.specs.Refusal.{Gives};
@@ -64,7 +65,7 @@ fn checked_program(
 ) -> Result<Accepted, LineError>
     requires shapes { AreShapesSupported shapes.now }
     requires argument { arg_len ≤ MOST_ARG_LEN }
-    ensures { Gives (λ a. a) result (checked_program shapes.now arg_len mode text.now) }
+    ensures { Gives checked_in result (checked_program shapes.now arg_len mode text.now) }
 {
     let bytes = bytes_of_hex(alloc, text)?;
     let program = instructions(alloc, &bytes)?;

@@ -3,13 +3,14 @@
 ghost use Rattle.std.specs.Prelude.{◌≡◌, ◌↔◌, ◌≤◌, length, IfOk, IsTrue};
 ghost use Rattle.maps.specs.Maps.{HasShapes, shapes_of};
 ghost use Rattle.maps.specs.MapSets.{maps_of};
-ghost use Rattle.loader.specs.declared.installed.TheConstants.{MOST_SPARE};
+ghost use Rattle.loader.specs.declared.installed.TheConstants.{MOST_LONG, MOST_SPARE};
+ghost use Rattle.std.specs.List.{All};
 ghost use Rattle.loader.specs.CatalogueView.{OpensOn, opening_state, sizes_for};
-ghost use Rattle.loader.specs.Installed.{IsInstalled};
+ghost use Rattle.loader.specs.Installed.{IsInstalled, IsShort};
 ghost use Rattle.loader.specs.StoreState.{installed_in, opened_state, sizes_of, state_of};
 
 use crate::catalogue::Catalogue;
-use crate::installed::{Installed, MOST_SPARE};
+use crate::installed::{Installed, MOST_LONG, MOST_SPARE};
 use crate::opened_on::OpenedOn;
 use maps::{MapSet, Shape};
 use std::alloc::{AllocError, Global};
@@ -54,7 +55,7 @@ impl Model for StoreState {
 }
 
 impl StoreState {
-    /// A new state for a catalogue: its maps as they are opened, and room for as many programs as it has places, none of which is
+    /// A new state for a catalogue: its maps as they are opened, and room for as many programs as it has places, and as long. None is
     /// installed yet.
     ///
     /// # Errors
@@ -76,12 +77,17 @@ impl StoreState {
         ensures sizes { IfOk result (λ s. sizes_of s ≡ sizes_for catalogue.now) }
     {
         let maps = MapSet::open_supported(alloc, catalogue.shapes())?;
-        let installed = Installed::open(alloc, catalogue.shapes(), catalogue.places())?;
+        let installed = Installed::open(
+            alloc,
+            catalogue.shapes(),
+            catalogue.places(),
+            catalogue.long(),
+        )?;
         Ok(StoreState { maps, installed })
     }
 
     /// The state that a store of this catalogue opens on: a copy of the one that is handed in, which the catalogue was said to open on, with
-    /// room for as many programs as the catalogue has places; or a new one.
+    /// room for as many programs as the catalogue has places, and as long; or a new one.
     ///
     /// # Errors
     ///
@@ -109,7 +115,7 @@ impl StoreState {
     {
         match state {
             None => StoreState::open(alloc, catalogue),
-            Some(state) => StoreState::copy_of(alloc, state, catalogue.places()),
+            Some(state) => StoreState::copy_of(alloc, state, catalogue.places(), catalogue.long()),
         }
     }
 
@@ -123,7 +129,7 @@ impl StoreState {
     ///
     /// let shapes = [Shape::Array { value: 8, entries: 16 }];
     /// let maps = MapSet::open(rt.alloc(), &shapes)?;
-    /// let programs = Installed::open(rt.alloc(), &shapes, 3)?;
+    /// let programs = Installed::open(rt.alloc(), &shapes, 3, 0)?;
     /// let state = StoreState::of(maps, programs);
     /// assert_eq!(rt; (state.maps().count(), state.programs().places()), (1, 3));
     /// ```
@@ -135,7 +141,7 @@ impl StoreState {
         StoreState { maps, installed }
     }
 
-    /// Copies the state `from` into room of its own, in which `places` programs may be installed.
+    /// Copies the state `from` into room of its own, in which `places` programs of at most `long` bytes may be installed.
     ///
     /// # Errors
     ///
@@ -150,7 +156,7 @@ impl StoreState {
     /// let (mut maps, programs) = StoreState::open(rt.alloc(), &catalogue)?.into_parts();
     /// maps.update(0, &[0, 0, 0, 0], &[7, 0, 0, 0, 0, 0, 0, 0]);
     /// let state = StoreState::of(maps, programs);
-    /// let copy = StoreState::copy_of(rt.alloc(), &state, 3)?;
+    /// let copy = StoreState::copy_of(rt.alloc(), &state, 3, 0)?;
     /// assert_eq!(rt; copy.maps().block(0)[0], 7);
     /// assert_eq!(rt; copy.programs().places(), 3);
     /// ```
@@ -158,13 +164,16 @@ impl StoreState {
         alloc: Global,
         from: &StoreState,
         places: usize,
+        long: usize,
     ) -> Result<StoreState, AllocError>
         requires few { length from.now.programs ≤ places }
+        requires short { All (IsShort long) from.now.programs }
         requires places { places ≤ MOST_SPARE }
-        ensures copied { IfOk result (λ s. s ≡ record from.now { places = places }) }
+        requires long { long ≤ MOST_LONG }
+        ensures copied { IfOk result (λ s. s ≡ record from.now { places = places; long = long }) }
     {
         let maps = MapSet::copy_of(alloc, &from.maps)?;
-        let installed = Installed::copy_of(alloc, &from.installed, places)?;
+        let installed = Installed::copy_of(alloc, &from.installed, places, long)?;
         Ok(StoreState { maps, installed })
     }
 
@@ -203,7 +212,7 @@ impl StoreState {
         &self.installed
     }
 
-    /// Whether it has the maps of a catalogue, and as many places for programs.
+    /// Whether it has the maps of a catalogue, and as many places for programs as long.
     ///
     /// # Examples
     ///
@@ -218,7 +227,9 @@ impl StoreState {
     pub fn is_sized_for(&self, catalogue: &Catalogue) -> bool
         ensures sizes { IsTrue result ↔ (sizes_of self.now ≡ sizes_for catalogue.now) }
     {
-        self.has_shapes(catalogue.shapes()) && self.installed.places() == catalogue.places()
+        self.has_shapes(catalogue.shapes())
+            && self.installed.places() == catalogue.places()
+            && self.installed.long() == catalogue.long()
     }
 
     // Whether the maps have these sizes.
@@ -257,6 +268,7 @@ impl StoreState {
         requires shapes { HasShapes (shapes_of self.old.maps) (maps_of maps.now) }
         requires programs { programs.now.shapes ≡ shapes_of (maps_of maps.now) }
         requires places { programs.now.places ≡ self.old.places }
+        requires long { programs.now.long ≡ self.old.long }
         ensures copied { self.new ≡ state_of (maps_of maps.now) programs.now }
     {
         self.maps.copy_from(maps);

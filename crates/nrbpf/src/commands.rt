@@ -14,9 +14,9 @@ mod serve_command;
 mod stress_command;
 
 use crate::progress::Screen;
-use crate::tasks::{Call, Task};
+use crate::tasks::{Asked, Call, Task};
 use clap::{ArgMatches, Command};
-use engine::{Folder, Inputs, Status};
+use engine::{Folder, Inputs, Status, StoreWatcher};
 use std::alloc::{AllocError, Global};
 use std::io::{Input, Read, Write};
 use std::rt::Files;
@@ -97,17 +97,19 @@ pub fn task_of<'a>(name: &str, matches: &ArgMatches<'a>) -> Option<Task<'a>> {
     }
 }
 
-/// Does what a call asks for. Reads from `inputs` and writes to `writer`.
+/// Does what a call asks for. Reads from `inputs` and writes to `writer`. Tells the watcher how far the state and the store of the call are.
 pub fn perform<
     R: Files + Input + AllocGlobal + Threads + Wait + Screen + Sync,
     F: Folder,
     I: Read + Drop,
     W: Write,
->(rt: &R, call: &Call<'_>, inputs: &mut Inputs<'_, F, I>, writer: &mut W) -> Status {
+    V: StoreWatcher,
+>(rt: &R, call: &Call<'_>, watcher: &V, inputs: &mut Inputs<'_, F, I>, writer: &mut W) -> Status {
+    let call = *call;
     match call.task {
         Task::Check(has_maps) => check_command::perform(rt, has_maps, call.telling, inputs, writer),
         Task::Explain(asked) => explain_command::perform(rt, asked, call.telling, inputs, writer),
-        Task::Assemble => asm_command::perform(rt, call, inputs, writer),
+        Task::Assemble => asm_command::perform(rt, &call, inputs, writer),
         Task::Disassemble(command) => dis_command::perform(
             rt,
             command,
@@ -117,16 +119,34 @@ pub fn perform<
         ),
         Task::Encode => encode_command::perform(rt, inputs, writer),
         Task::Decode => decode_command::perform(rt, call.telling, inputs, writer),
-        Task::Run(asked) => run_command::perform(rt, asked, call, inputs, writer),
-        Task::Replay(spare) => replay_command::perform(rt, spare, call, inputs, writer),
-        Task::Schedule(config) => schedule_command::perform(
+        Task::Run(task) => run_command::perform(rt, Asked { task, call }, watcher, inputs, writer),
+        Task::Replay(task) => replay_command::perform(
             rt,
-            config,
-            call.telling,
+            Asked { task, call },
+            watcher,
             inputs,
             writer,
         ),
-        Task::Serve(options) => serve_command::perform(rt, options, call, inputs, writer),
-        Task::Stress(asked) => stress_command::perform(rt, asked, call, inputs, writer),
+        Task::Schedule(task) => schedule_command::perform(
+            rt,
+            Asked { task, call },
+            watcher,
+            inputs,
+            writer,
+        ),
+        Task::Serve(task) => serve_command::perform(
+            rt,
+            Asked { task, call },
+            watcher,
+            inputs,
+            writer,
+        ),
+        Task::Stress(task) => stress_command::perform(
+            rt,
+            Asked { task, call },
+            watcher,
+            inputs,
+            writer,
+        ),
     }
 }

@@ -10,7 +10,8 @@
 //! - It makes the call that the task asks for.
 //! - If all is well, it writes a text into its file: first into one next to it, which then replaces it.
 //! - It writes the state of `stress` after a file of times.
-//! - Standard error gets the notes, faults, sizes, counts, and how much of a large file is read, loaded or written.
+//! - Standard error gets the notes, faults, sizes, counts, and how much of a large file is read, loaded or written. While a large store opens,
+//!   a second thread says there each second how much memory the store has taken so far.
 //! - The exit status is the status's code.
 #![tactic(auto)]
 
@@ -19,13 +20,15 @@ mod commands;
 mod disk;
 mod help;
 mod keeping;
+mod opening;
 mod output;
 mod progress;
 mod tasks;
 
 use commands::perform;
 use disk::{Disk, LateFile, say};
-use engine::{Inputs, Status};
+use engine::{Inputs, Status, StoreWatcher};
+use opening::{CallWatcher, OpeningProgress};
 use output::Output;
 use progress::Screen;
 use std::env::{self, Env};
@@ -33,14 +36,15 @@ use std::io::{self, Eprint, Input, Print};
 use std::process::ExitCode;
 use std::rt::Files;
 use std::sync::Wait;
-use std::thread::Threads;
+use std::thread::{self, Threads};
 use tasks::{Call, say_sizes};
 
 // Answers a call on standard output, from the files that the call names. Says on standard error what it could not say there. A file that the
 // task does not read is not opened.
-fn answer<R: Files + Input + Print + AllocGlobal + Threads + Wait + Screen + Sync>(
+fn answer<R: Files + Input + Print + AllocGlobal + Threads + Wait + Screen + Sync, V: StoreWatcher>(
     rt: &R,
     call: &Call,
+    watcher: &V,
 ) -> Status {
     let mut writer = Output::new(rt, io::writer(rt));
     let mut inputs = Inputs {
@@ -51,7 +55,7 @@ fn answer<R: Files + Input + Print + AllocGlobal + Threads + Wait + Screen + Syn
         state: LateFile::of(rt, call.state),
         history: LateFile::of(rt, call.history),
     };
-    let status = perform(rt, call, &mut inputs, &mut writer);
+    let status = perform(rt, call, watcher, &mut inputs, &mut writer);
     if status == Status::Refused {
         say_sizes(rt, call.task);
     }
@@ -61,6 +65,29 @@ fn answer<R: Files + Input + Print + AllocGlobal + Threads + Wait + Screen + Syn
         }
         _ => {}
     }
+    status
+}
+
+// Answers a call. If somebody watches, a second thread says how far a large store is while it opens.
+fn answer_watched<'c, R: Files + Input + Print + AllocGlobal + Threads + Wait + Screen + Sync>(
+    rt: &'c R,
+    call: &'c Call<'c>,
+) -> Status {
+    let opening = &OpeningProgress::new(rt, call);
+    if !opening.is_watched() {
+        return answer(rt, call, &CallWatcher::new(rt, call, opening));
+    }
+    let path = call.manifest.unwrap_or_default();
+    // (if there is no second thread, the first closure is called last, and only the last line is said)
+    let (_, status) = thread::join(
+        rt,
+        || opening.tell_each_second(rt, path),
+        || {
+            let status = answer(rt, call, &CallWatcher::new(rt, call, opening));
+            opening.end();
+            status
+        },
+    );
     status
 }
 
@@ -92,7 +119,7 @@ fn code_of<R: Files + Env + Input + Print + AllocGlobal + Threads + Wait + Scree
         return FAULT;
     }
     if enter(rt, call) {
-        answer(rt, call).code()
+        answer_watched(rt, call).code()
     } else {
         Status::CannotRead.code()
     }

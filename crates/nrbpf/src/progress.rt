@@ -3,22 +3,38 @@
 use crate::disk::DASH;
 use dumps::Watcher;
 use std::cell::Cell;
+use std::fs;
 use std::io::{Eprint, IsTerminal};
 use std::rt::{Clock, HostRuntime};
 use std::time::Instant;
 
-// From so many bytes on, the end is told however fast it came: what follows takes long too.
-const LARGE_BYTES: u64 = 1 << 26;
+/// From so many bytes on, the end is told however fast it came: what follows takes long too.
+pub const LARGE_BYTES: u64 = 1 << 26;
 
-/// What tells whether somebody watches standard error.
+/// What tells whether somebody watches standard error, and how much memory the program has.
 pub trait Screen: Eprint + Clock {
     /// Whether standard error is a terminal.
     fn is_watched(&self) -> bool;
+
+    /// How many bytes of the program's memory are resident, if the system says it.
+    fn resident_bytes(&self) -> Option<u64>;
 }
+
+// What the system says of the program's memory: the second number is how many pages are resident.
+const MEMORY: &str = "/proc/self/statm";
+
+// The bytes of a page.
+const PAGE: u64 = 4096;
 
 impl Screen for HostRuntime {
     fn is_watched(&self) -> bool {
         self.stderr().is_terminal()
+    }
+
+    fn resident_bytes(&self) -> Option<u64> {
+        let text = fs::read_to_string(self, MEMORY).ok()?;
+        let pages = text.split(' ').nth(1)?.parse::<u64>().ok()?;
+        Some(pages.saturating_mul(PAGE))
     }
 }
 

@@ -105,6 +105,15 @@ pub struct Call<'a> {
     pub times: Option<&'a str>,
 }
 
+/// What a command is asked, by its own words and those of the call.
+#[derive(Clone, Copy)]
+pub struct Asked<'a, T: Copy> {
+    /// What is to be done.
+    pub task: T,
+    /// The call.
+    pub call: Call<'a>,
+}
+
 impl<'a> Call<'a> {
     // Whether two files are standard input, which can be read only once. `serve` reads its lines there.
     fn reads_twice(&self) -> bool {
@@ -115,6 +124,16 @@ impl<'a> Call<'a> {
         let paths = [self.manifest, self.file, self.state, self.history, lines];
         let inputs = paths.iter().flatten().filter(|path| **path == DASH);
         inputs.count() > 1
+    }
+
+    /// Whether the task opens a store.
+    pub fn opens_store(&self) -> bool {
+        match self.task {
+            Task::Run(_) | Task::Replay(_) | Task::Schedule(_) | Task::Serve(_) => true,
+            Task::Stress(_) => true,
+            Task::Check(_) | Task::Explain(_) | Task::Encode | Task::Decode => false,
+            Task::Assemble | Task::Disassemble(_) => false,
+        }
     }
 
     /// What is wrong with the words, although each of them is right.

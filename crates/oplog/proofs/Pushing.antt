@@ -12,7 +12,7 @@ use Rattle.maps.specs.declared.shapes.TheConstants.{MOST_ARG_LEN}
 use Rattle.oplog.specs.Operations.{Operation, long_part, FitsIn}
 use Rattle.oplog.specs.History.{History}
 use Rattle.oplog.specs.Lists.{RecordListView}
-use Rattle.oplog.specs.Laid.{op_in, record_in, records_in, each_of, begin_of, IsNext, AreWithin, AreLaid, IsPutAfter}
+use Rattle.oplog.specs.Laid.{record_in, records_in, each_of, begin_of, AreWithin, AreLaid, IsPutAfter}
 use Rattle.oplog.proofs.Laying.{rows_before, few_bytes, begin_onto, laid_onto, next_begins, next_ends, part_fits, each_at_most, laid_within}
 
 abbrev pub new_view : List Row → List ℕ → ℕ → ℕ → ℕ → RecordListView

@@ -1,13 +1,14 @@
--- How the fields of calls, new programs and logs are read. No public clause cites this module.
-use Rattle.std.specs.Prelude.{◌≡◌, ℕ, ◌+◌, ◌<◌, ◌≤◌, List, length, take, max, get_or}
-use Rattle.std.proofs.Common.{sym, ap, ◌∙◌}
+-- How the fields of calls, new programs, places among bytes and logs are read. No public clause cites this module.
+use Rattle.std.specs.Prelude.{◌≡◌, ℕ, ◌+◌, ◌*◌, ◌/◌, ◌%◌, ◌^◌, ◌<◌, ◌≤◌, List, length, take, max, get_or}
+use Rattle.std.proofs.Common.{sym, ap, ◌∙◌, arith}
 use Rattle.maps.specs.Maps.{AreBytes}
 use Rattle.maps.specs.MapSets.{maps_of}
 use Rattle.loader.specs.StoreState.{state_of}
-use Rattle.maps.specs.declared.shapes.TheConstants.{MAX_ARG_LEN}
+use Rattle.maps.specs.declared.shapes.TheConstants.{MAX_ARG_LEN, MOST_ARG_LEN}
 use Rattle.oplog.specs.declared.records.TheConstants.{MAX_INSTALLED_BYTES}
 use Rattle.oplog.specs.declared.records.Call.TheInside as calls
 use Rattle.oplog.specs.declared.records.NewProgram.TheInside as programs
+use Rattle.oplog.specs.declared.byte_place.BytePlace.TheInside as places
 use Rattle.oplog.specs.declared.log_state.LogState.TheInside as logs
 use Rattle.oplog.specs.Calls.{Call, NewProgram, padded}
 use Rattle.oplog.specs.History.{History}
@@ -37,9 +38,9 @@ fields_of_call o h =
 
 -- ---- a program to be installed
 
--- the program's argument fits, and its bytes are filled up
+-- the program's argument is no longer than any may be, and its bytes are filled up
 pub record IsNewProgram (o : programs.Inside) : Type 0 where
-  pub argument : o.arg_len ≤ MAX_ARG_LEN
+  pub argument : o.arg_len ≤ MOST_ARG_LEN
   pub filled : IsFilled MAX_INSTALLED_BYTES o.bytes_len o.program_bytes
 
 abbrev pub program_of : programs.Inside → NewProgram
@@ -53,6 +54,26 @@ fields_of_program o h =
     let kept : List ℕ = take o.bytes_len o.program_bytes in
     let same : programs.Inside = o in
     ap (λ n. record same { bytes_len = n; program_bytes = padded MAX_INSTALLED_BYTES kept }) h.filled.count ∙ ap (λ bytes. record same { program_bytes = bytes }) (sym h.filled.rest)
+
+-- ---- a place among bytes
+
+-- each half fits in 16 bits
+pub record IsBytePlace (p : places.Inside) : Type 0 where
+  pub high : p.high < 2 ^ 16
+  pub low : p.low < 2 ^ 16
+
+abbrev pub place_of : places.Inside → ℕ
+place_of p = p.high * 65536 + p.low
+
+abbrev pub place_fields : ℕ → places.Inside
+place_fields n = record { high = n / 65536; low = n % 65536 }
+
+pub fields_of_place : (p : places.Inside) → IsBytePlace p → place_fields (place_of p) ≡ p
+fields_of_place p h =
+    let few = h.low in
+    let high : place_of p / 65536 ≡ p.high = omega (arith, few) in
+    let low : place_of p % 65536 ≡ p.low = omega (arith, few) in
+    λ i. record { high = high i; low = low i }
 
 -- ---- the log
 

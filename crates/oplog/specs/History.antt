@@ -30,7 +30,7 @@ pub record Meaning (C S : Type 0) : Type 1 where
 abbrev pub History : Type 0
 History = List Record
 
--- each operation fits where a long argument may have so many bytes
+-- each operation fits where what is too long for a record may have so many bytes
 abbrev pub AllFit : ℕ → History → Type 0
 AllFit long records = (k : ℕ) (r : Record) → slice_get records k ≡ Some r → FitsIn long r.op
 

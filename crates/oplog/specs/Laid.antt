@@ -1,71 +1,69 @@
--- Operations and records as they lie in memory. A long argument lies among bytes next to them.
-use Rattle.std.specs.Prelude.{◌≡◌, ℕ, ◌+◌, ◌-◌, ◌≤◌, List, [], ◌∷◌, ◌++◌, length, map, take, drop, nat_le, ◌⊎◌, if◌then◌else◌}
+-- Operations and records as they lie in memory. A long operation is one whose argument, or whose program, is too long for a record: its bytes
+-- lie among bytes next to the records.
+use Rattle.std.specs.Prelude.{◌≡◌, ℕ, ◌+◌, ◌-◌, ◌≤◌, List, [], ◌∷◌, ◌++◌, length, map, nat_le, ◌⊎◌, if◌then◌else◌}
 use Rattle.maps.specs.declared.shapes.TheConstants.{MAX_ARG_LEN, MOST_ARG_LEN}
-use Rattle.oplog.specs.declared.laid.LongCall.{LongCall}
 use Rattle.oplog.specs.declared.laid.LaidOp.{LaidOp}
 use Rattle.oplog.specs.declared.laid.LaidOp.TheVariants.{Short, Long, Install}
+use Rattle.oplog.specs.declared.records.TheConstants.{MAX_INSTALLED_BYTES}
 use Rattle.oplog.specs.declared.records.Op.TheVariants.{Run as run, Install as install}
 use Rattle.oplog.specs.declared.records.Record.{Record}
 use Rattle.oplog.specs.declared.rows.Row.{Row}
 use Rattle.oplog.specs.Operations.{Operation, long_part}
+use Rattle.oplog.specs.Long.{long_op, text_in}
 use Rattle.oplog.specs.History.{History}
 
 -- ---- an operation
 
--- the argument of a long call, among these bytes
-abbrev pub text_in : List ℕ → LongCall → List ℕ
-text_in beside c = take c.len (drop c.begin beside)
-
 -- the operation that lies here, next to these bytes
 abbrev pub op_in : List ℕ → LaidOp → Operation
 op_in beside (Short call) = run call
-op_in beside (Long call) = run (record { program = call.program; argument = text_in beside call })
+op_in beside (Long long) = long_op long.head (text_in beside long)
 op_in beside (Install new) = install new
 
--- a long argument lies within the first n bytes; a short one is short
+-- a long operation has its bytes within the first n; any other has room in a record
 abbrev pub IsWithin : ℕ → LaidOp → Type 0
 IsWithin n (Short call) = length call.argument ≤ MAX_ARG_LEN
-IsWithin n (Long call) = (call.begin + call.len ≤ n) × (call.len ≤ MOST_ARG_LEN)
-IsWithin n (Install new) = Unit {0}
+IsWithin n (Long long) = (long.begin + long.len ≤ n) × (long.len ≤ MOST_ARG_LEN)
+IsWithin n (Install new) = length new.bytes ≤ MAX_INSTALLED_BYTES
 
--- a long argument has the bytes from `begin` to `end`; any other has none
+-- a long operation has the bytes from `begin` to `end`; any other has none, and room in a record
 abbrev pub IsNext : ℕ → LaidOp → ℕ → Type 0
 IsNext begin (Short call) end = (end ≡ begin) × (length call.argument ≤ MAX_ARG_LEN)
-IsNext begin (Long call) end = (call.begin ≡ begin) × (call.begin + call.len ≡ end) × (call.len ≤ MOST_ARG_LEN)
-IsNext begin (Install new) end = end ≡ begin
+IsNext begin (Long long) end = (long.begin ≡ begin) × (long.begin + long.len ≡ end) × (long.len ≤ MOST_ARG_LEN)
+IsNext begin (Install new) end = (end ≡ begin) × (length new.bytes ≤ MAX_INSTALLED_BYTES)
 
--- the operation lies here, with a long argument after the bytes that there were
+-- the operation lies here, and the bytes of a long one after those that there were
 pub record IsPutAfter (op : Operation) (old : List ℕ) (to : LaidOp) (new : List ℕ) : Type 0 where
   pub same : op_in new to ≡ op
   pub bytes : new ≡ old ++ long_part op
   pub place : IsNext (length old) to (length new)
 
--- a long argument has the bytes from there on
+-- a long operation has the bytes from there on
 abbrev pub IsFrom : ℕ → LaidOp → Type 0
 IsFrom begin (Short call) = Unit {0}
-IsFrom begin (Long call) = (call.begin ≡ begin) × (call.len ≤ MOST_ARG_LEN)
+IsFrom begin (Long long) = (long.begin ≡ begin) × (long.len ≤ MOST_ARG_LEN)
 IsFrom begin (Install new) = Unit {0}
 
--- a long argument does not lie in the room of another that begins there
+-- a long operation has no bytes in the room of another that begins there
 abbrev pub IsApart : ℕ → LaidOp → Type 0
 IsApart begin (Short call) = Unit {0}
-IsApart begin (Long call) = (call.begin + call.len ≤ begin) ⊎ (begin + MOST_ARG_LEN ≤ call.begin)
+IsApart begin (Long long) = (long.begin + long.len ≤ begin) ⊎ (begin + MOST_ARG_LEN ≤ long.begin)
 IsApart begin (Install new) = Unit {0}
 
 -- what lies apart from there is the same operation next to both
 abbrev pub KeepsApart : ℕ → List ℕ → List ℕ → Type 0
 KeepsApart begin old new = (op : LaidOp) → IsWithin (length old) op → IsApart begin op → op_in new op ≡ op_in old op
 
--- a long argument begins behind the first n bytes
+-- a long operation has its bytes behind the first n
 abbrev pub IsAfter : ℕ → LaidOp → Type 0
 IsAfter n (Short call) = Unit {0}
-IsAfter n (Long call) = n ≤ call.begin
+IsAfter n (Long long) = n ≤ long.begin
 IsAfter n (Install new) = Unit {0}
 
 -- the operation where so many bytes were dropped in front
 abbrev pub pulled : ℕ → LaidOp → LaidOp
 pulled gap (Short call) = Short call
-pulled gap (Long call) = Long (record call { begin = call.begin - gap })
+pulled gap (Long long) = Long (record long { begin = long.begin - gap })
 pulled gap (Install new) = Install new
 
 -- ---- records
@@ -76,7 +74,7 @@ record_in beside r = record { author = r.author; op = op_in beside r.op; seq = r
 abbrev pub records_in : List ℕ → List Row → History
 records_in beside rows = map (record_in beside) rows
 
--- each long argument lies within the first n bytes
+-- each long operation has its bytes within the first n
 abbrev pub AreWithin : ℕ → List Row → Type 0
 AreWithin n [] = Unit {0}
 AreWithin n (r ∷ rs) = IsWithin n r.op × AreWithin n rs
@@ -90,7 +88,7 @@ pulled_rows gap rows = map (pulled_row gap) rows
 -- where the bytes of an operation begin, if those behind it begin there
 abbrev pub begin_by : LaidOp → ℕ → ℕ
 begin_by (Short call) next = next
-begin_by (Long call) next = call.begin
+begin_by (Long long) next = long.begin
 begin_by (Install new) next = next
 
 -- where the bytes of these rows begin, if they end there
@@ -98,13 +96,13 @@ abbrev pub begin_of : List Row → ℕ → ℕ
 begin_of [] end = end
 begin_of (r ∷ rs) end = begin_by r.op (begin_of rs end)
 
--- a long argument has at most so many bytes, and ends there; a short one is short
+-- a long operation has at most `most` bytes, which end there; any other has room in a record
 abbrev pub EndsAt : ℕ → LaidOp → ℕ → Type 0
-EndsAt long (Short call) next = length call.argument ≤ MAX_ARG_LEN
-EndsAt long (Long call) next = (call.begin + call.len ≡ next) × (call.len ≤ long)
-EndsAt long (Install new) next = Unit {0}
+EndsAt most (Short call) next = length call.argument ≤ MAX_ARG_LEN
+EndsAt most (Long long) next = (long.begin + long.len ≡ next) × (long.len ≤ most)
+EndsAt most (Install new) next = length new.bytes ≤ MAX_INSTALLED_BYTES
 
--- each long argument has at most so many bytes, and ends where the next one begins; the last ends there
+-- each long operation has at most so many bytes, which end where those of the next begin; those of the last end there
 abbrev pub AreLaid : ℕ → List Row → ℕ → Type 0
 AreLaid long [] end = Unit {0}
 AreLaid long (r ∷ rs) end = EndsAt long r.op (begin_of rs end) × AreLaid long rs end

@@ -11,4 +11,5 @@ pub mod CopyAnswers
 pub mod Codes
 pub mod Fields
 pub mod Lists
+pub mod Long
 pub mod Laid

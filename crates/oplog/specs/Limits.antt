@@ -1,6 +1,6 @@
 -- The sizes that a store may have.
 use Rattle.std.specs.Prelude.{ℕ, ◌≤◌}
-use Rattle.loader.specs.declared.installed.TheConstants.{MAX_SPARE, MOST_SPARE}
+use Rattle.loader.specs.declared.installed.TheConstants.{MAX_SPARE, MOST_LONG, MOST_SPARE}
 use Rattle.oplog.specs.declared.configuration.Config.{Config}
 use Rattle.oplog.specs.declared.configuration.OpenError.{OpenError}
 use Rattle.oplog.specs.declared.configuration.OpenError.TheVariants.{OutOfLimits, NoMemory, OtherState}
@@ -22,10 +22,11 @@ pub record AreSizes (z : Sizes) : Type 0 where
   pub window : IsWindow z.window
   pub limit : IsLimit z.limit
   pub spare : z.spare ≤ MOST_SPARE
+  pub long : z.long ≤ MOST_LONG
 
 -- the sizes of a configuration
 abbrev pub sizes_in : Config → Sizes
-sizes_in c = record { nodes = c.nodes; slots = c.slots; window = c.window; limit = c.limit; spare = c.spare }
+sizes_in c = record { nodes = c.nodes; slots = c.slots; window = c.window; limit = c.limit; spare = c.spare; long = 0 }
 
 -- each number of a configuration is within its limits
 pub record IsConfig (c : Config) : Type 0 where

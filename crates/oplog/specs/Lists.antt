@@ -2,7 +2,7 @@
 use Rattle.std.specs.Prelude.{ℕ, []}
 use Rattle.oplog.specs.History.{History}
 
--- the records, how many there is room for, and how many bytes a long argument may have
+-- the records, how many there is room for, and how many bytes what is too long for one may have
 pub record RecordListView : Type 0 where
   pub records : History
   pub room : ℕ

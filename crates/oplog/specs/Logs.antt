@@ -17,7 +17,7 @@ pub record Log : Type 0 where
   pub done : ℕ
   -- how many records it keeps at most
   pub window : ℕ
-  -- how many bytes a long argument may have
+  -- how many bytes what is too long for a record may have
   pub long : ℕ
   -- how many records the history may have
   pub limit : ℕ
@@ -66,7 +66,7 @@ opened_log state window long limit = record { base = 0; base_state = state; reco
 pub record HandView : Type 0 where
   pub begin : ℕ
   pub records : History
-  -- the window of the logs whose records it has room for, and how many bytes a long argument may have there
+  -- the window of the logs whose records it has room for, and how many bytes what is too long for one may have there
   pub window : ℕ
   pub long : ℕ
 

@@ -4,7 +4,7 @@ ghost use Rattle.std.specs.Prelude.{◌≡◌, ◌↔◌, ◌*◌, ◌^◌, IsTr
 ghost use Rattle.oplog.specs.Limits.{open_fault_number, sizes_in, AreSizes, IsConfig};
 
 use crate::records::MAX_INSTALLED_BYTES;
-use loader::{MAX_SPARE, MOST_SPARE};
+use loader::{MAX_SPARE, MOST_LONG, MOST_SPARE};
 use std::fmt;
 use thiserror::Error;
 
@@ -109,7 +109,7 @@ impl Config {
     ///
     /// let config = Config { nodes: 2, slots: 3, window: 64, limit: 1_000_000, spare: 4 };
     /// let sizes = config.sizes();
-    /// assert_eq!(rt; sizes, Sizes { nodes: 2, slots: 3, window: 64, limit: 1_000_000, spare: 4 });
+    /// assert_eq!(rt; sizes, Sizes { nodes: 2, slots: 3, window: 64, limit: 1_000_000, spare: 4, long: 0 });
     /// assert!(rt; sizes.is_within_limits());
     /// ```
     pub fn sizes(&self) -> Sizes
@@ -122,6 +122,7 @@ impl Config {
             window: self.window,
             limit: self.limit as u64,
             spare: self.spare,
+            long: 0,
         }
     }
 }
@@ -150,6 +151,9 @@ pub struct Sizes {
     pub limit: u64,
     /// Programs that may be installed behind the catalogue's, 0 to [`MOST_SPARE`].
     pub spare: u32,
+    /// The most bytes of such a program, and of its argument, if that is more than 192 and 64: 0 to [`MOST_LONG`]. The log and each
+    /// node's hand keep so many bytes for each record of the window.
+    pub long: u32,
 }
 
 impl Sizes {
@@ -160,7 +164,7 @@ impl Sizes {
     /// ```
     /// use oplog::{ENDLESS, Sizes};
     ///
-    /// let sizes = Sizes { nodes: 2, slots: 3, window: 1_048_576, limit: ENDLESS, spare: 4 };
+    /// let sizes = Sizes { nodes: 2, slots: 3, window: 1_048_576, limit: ENDLESS, spare: 4, long: 4096 };
     /// assert!(rt; sizes.is_within_limits());
     /// let none = Sizes { nodes: 0, ..sizes };
     /// assert!(rt; !none.is_within_limits());
@@ -169,12 +173,13 @@ impl Sizes {
         ensures limits { IsTrue result ↔ AreSizes self.now }
     {
         let window = self.window as usize;
-        let spare = self.spare as usize;
+        let (spare, long) = (self.spare as usize, self.long as usize);
         (1..=MAX_NODES).contains(&self.nodes)
             && (1..=MAX_NODE_SLOTS).contains(&self.slots)
             && (MIN_WINDOW..=MOST_WINDOW).contains(&window)
             && (1..=ENDLESS).contains(&self.limit)
             && spare <= MOST_SPARE
+            && long <= MOST_LONG
     }
 }
 
@@ -198,8 +203,8 @@ pub enum OpenError {
     /// O2: there is no memory.
     #[error("O2: no memory")]
     NoMemory,
-    /// O3: the state to open on has other maps than the catalogue, or more installed programs than there are places.
-    #[error("O3: the state has other maps, or more programs than there are places")]
+    /// O3: the state to open on has other maps than the catalogue, or more or longer installed programs than there is room for.
+    #[error("O3: the state has other maps, or more or longer programs than there is room for")]
     OtherState,
 }
 

@@ -33,11 +33,11 @@ impl Model for Hand {
 }
 
 impl Hand {
-    /// An empty hand that begins at 0, for a log of this window whose long arguments have at most `long` bytes.
+    /// An empty hand that begins at 0, for a log of this window, where what is too long for a record has at most `long` bytes.
     ///
     /// # Errors
     ///
-    /// The system has no memory left, or the long arguments of a window would take 4 GiB.
+    /// The system has no memory left, or `long` bytes for each record of a window would take 4 GiB.
     pub fn open(alloc: Global, window: usize, long: usize) -> Result<Hand, AllocError>
         requires window { IsWindow window }
         requires long { long ≤ MOST_ARG_LEN }

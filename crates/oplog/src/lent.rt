@@ -2,16 +2,17 @@
 
 ghost use Rattle.std.specs.Prelude.{◌≡◌, ◌↔◌, ◌<◌, ◌≤◌, length, take, drop, slice_get, Some, IsTrue};
 ghost use Rattle.maps.specs.Maps.{AreBytes};
-ghost use Rattle.oplog.specs.declared.records.Op.TheVariants.{Run, Install};
+ghost use Rattle.oplog.specs.declared.records.Op.TheVariants.{Run};
 ghost use Rattle.oplog.specs.declared.records.Record.{Record as TheRecord};
+ghost use Rattle.oplog.specs.Operations.{installing};
 ghost use Rattle.oplog.specs.Lent.{AreWithin as IsInRoom, op_of};
 ghost use Rattle.oplog.specs.Laid.{records_in, AreWithin};
 
 use crate::laid::LaidRef;
 use crate::parts::OpParts;
-use crate::records::MAX_INSTALLED_BYTES;
 use crate::rows::Row;
-use maps::{MAX_ARG_LEN, MOST_ARG_LEN};
+use loader::MOST_LONG;
+use maps::MOST_ARG_LEN;
 use std::marker::Model;
 use verifier::Mode;
 
@@ -45,12 +46,12 @@ impl<'a> OpRef<'a> {
         OpRef { parts }
     }
 
-    /// The installing of a program of this mode for arguments of `arg_len` bytes, at most [`MAX_ARG_LEN`], with at most
-    /// [`MAX_INSTALLED_BYTES`] bytes of instructions.
+    /// The installing of a program of this mode for arguments of `arg_len` bytes, at most [`MOST_ARG_LEN`], with at most
+    /// [`MOST_LONG`] bytes of instructions.
     pub fn install(mode: Mode, arg_len: usize, bytes: &'a [u8]) -> OpRef<'a>
-        requires argument { arg_len ≤ MAX_ARG_LEN }
-        requires fits { length bytes.now ≤ MAX_INSTALLED_BYTES }
-        ensures program { result ≡ Install (record { mode = mode; arg_len = arg_len; bytes = bytes.now }) }
+        requires argument { arg_len ≤ MOST_ARG_LEN }
+        requires fits { length bytes.now ≤ MOST_LONG }
+        ensures program { result ≡ installing mode arg_len bytes.now }
         ensures bytes { AreBytes bytes.now }
     {
         let parts = OpParts::Install {
@@ -61,7 +62,7 @@ impl<'a> OpRef<'a> {
         OpRef { parts }
     }
 
-    /// Its parts, which have room in a record.
+    /// Its parts, which are no longer than those of any operation.
     #[inline(always)]
     pub fn parts(&self) -> OpParts<'a>
         ensures parts { op_of result ≡ self.now }
@@ -157,7 +158,7 @@ impl<'a> Model for Records<'a> {
 }
 
 impl<'a> Records<'a> {
-    // The records of these rows, with long arguments among these bytes.
+    // The records of these rows, with what is too long for a record among these bytes.
     #[inline(always)]
     pub(crate) fn of(rows: &'a [Row], beside: &'a [u8]) -> Records<'a>
         requires within { AreWithin (length beside.now) rows.now }

@@ -3,11 +3,13 @@
 #![tactic(auto)]
 
 mod answers;
+mod byte_place;
 mod configuration;
 mod hand;
 mod laid;
 mod lent;
 mod log_state;
+mod long;
 mod padding;
 mod parts;
 mod record_list;
@@ -20,9 +22,10 @@ pub use configuration::{
     MOST_WINDOW, OpenError, Sizes, limits,
 };
 pub use hand::Hand;
-pub use laid::{LaidOp, LaidRef, LongCall};
+pub use laid::{LaidOp, LaidRef};
 pub use lent::{CallRef, OpRef, RecordRef, Records};
 pub use log_state::{LogRoom, LogState};
+pub use long::LongOp;
 pub use parts::OpParts;
 pub use record_list::RecordList;
 pub use records::{Call, MAX_INSTALLED_BYTES, NewProgram, Op, Record};

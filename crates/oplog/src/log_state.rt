@@ -27,7 +27,8 @@ use std::mem::swap;
 pub struct LogRoom {
     /// Records at once.
     pub window: usize,
-    /// Bytes of a long argument: one of more than [`MAX_ARG_LEN`](maps::MAX_ARG_LEN).
+    /// Bytes of what is too long for a record: an argument of more than [`MAX_ARG_LEN`](maps::MAX_ARG_LEN), or a program of more than
+    /// [`MAX_INSTALLED_BYTES`](crate::MAX_INSTALLED_BYTES).
     pub long: usize,
 }
 
@@ -73,7 +74,7 @@ impl LogState {
     ///
     /// # Errors
     ///
-    /// The system has no memory left, or the long arguments of a window would take 4 GiB.
+    /// The system has no memory left, or `room.long` bytes for each record of a window would take 4 GiB.
     pub fn open(
         alloc: Global,
         state: StoreState,
@@ -253,6 +254,7 @@ impl LogState {
         requires shapes { HasShapes (shapes_of self.old.base_state.maps) (maps_of maps.now) }
         requires programs { programs.now.shapes ≡ shapes_of (maps_of maps.now) }
         requires places { programs.now.places ≡ self.old.base_state.places }
+        requires long { programs.now.long ≡ self.old.base_state.long }
         ensures base { self.new ≡ record self.old { base = at; base_state = state_of (maps_of maps.now) programs.now; records = records_from self.old at } }
     {
         self.base_maps.copy_from(maps);

@@ -16,13 +16,13 @@ use std::marker::Model;
 use std::mem::swap;
 
 /// Records in a room that is taken when it is opened: no later call takes memory. One more is written over whatever stood in its place before.
-/// The long arguments lie next to the others, one behind another.
+/// What is too long for a record lies next to the records, one behind another.
 #[derive(Drop)]
 pub struct RecordList {
     filled: Vec<Row>,
     // The number of records that are kept.
     count: usize,
-    // Their long arguments, and nothing else.
+    // What is too long for a record, and nothing else.
     beside: Vec<u8>,
     room: usize,
     long: usize,
@@ -38,7 +38,7 @@ impl Model for RecordList {
 
     ghost view = { λ k. record { records = records_in k.beside.items (take k.count k.filled.items); room = k.room; long = k.long } };
 
-    // There is room for all records, with long arguments, whose places a u32 tells.
+    // There is room for all records, and for what is too long for them, whose places fit in 32 bits.
     ghost invariant = { λ k. (k.count ≤ length k.filled.items)
         × (k.room ≤ vec_capacity k.filled)
         × AreLaid (each_of k.long) (take k.count k.filled.items) (length k.beside.items)
@@ -50,11 +50,12 @@ impl Model for RecordList {
 }
 
 impl RecordList {
-    /// No record, and room for so many, whose long arguments (of more than [`MAX_ARG_LEN`]) have at most `long` bytes.
+    /// No record, and room for so many. What is too long for a record, an argument of more than [`MAX_ARG_LEN`] or a program of more than
+    /// [`MAX_INSTALLED_BYTES`](crate::MAX_INSTALLED_BYTES), has at most `long` bytes.
     ///
     /// # Errors
     ///
-    /// The system has no memory left, or the long arguments of all records would take 4 GiB.
+    /// The system has no memory left, or `long` bytes for each record would take 4 GiB.
     pub fn open(alloc: Global, room: usize, long: usize) -> Result<RecordList, AllocError>
         requires long { long ≤ MOST_ARG_LEN }
         ensures opened { IfOk result (λ k. k ≡ new_list room long) }
@@ -167,7 +168,7 @@ impl RecordList {
     }
 }
 
-// How many bytes the long arguments of so many records may have: less than 4 GiB.
+// How many bytes there may be next to so many records: less than 4 GiB.
 fn bytes_for(room: usize, long: usize) -> Result<usize, AllocError>
     ensures bytes { IfOk result (λ n. n ≡ room * each_of long) }
     ensures few { IfOk result (λ n. n < 2 ^ 32) }

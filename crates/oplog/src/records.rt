@@ -4,11 +4,11 @@ ghost use Rattle.std.specs.Prelude.{◌≡◌, ◌≤◌, length};
 ghost use Rattle.maps.specs.Maps.{AreBytes};
 
 use crate::padding::{padded, refill};
-use maps::MAX_ARG_LEN;
+use maps::{MAX_ARG_LEN, MOST_ARG_LEN};
 use std::marker::Model;
 use verifier::Mode;
 
-/// The most bytes of a program that may be installed.
+/// The most bytes of a program that a `Config`'s store installs. A record has room for so many.
 pub const MAX_INSTALLED_BYTES: usize = 192;
 
 /// A call with a short argument: a program of the catalogue, by its number there, and its argument of at most [`MAX_ARG_LEN`]
@@ -95,8 +95,9 @@ impl Call {
 /// [`MAX_INSTALLED_BYTES`]. It is copied as one block of bytes.
 #[derive(Clone, Copy)]
 pub struct NewProgram {
+    // In this order no byte between the fields is out of use.
+    arg_len: u16,
     mode: Mode,
-    arg_len: u8,
     bytes_len: u8,
     // The instructions, and zeros after them.
     program_bytes: [u8; MAX_INSTALLED_BYTES],
@@ -119,17 +120,17 @@ impl Model for NewProgram {
 }
 
 impl NewProgram {
-    /// A program of this mode for arguments of `arg_len` bytes, at most [`MAX_ARG_LEN`], with at most
+    /// A program of this mode for arguments of `arg_len` bytes, at most [`MOST_ARG_LEN`], with at most
     /// [`MAX_INSTALLED_BYTES`] bytes of instructions.
     pub fn new(mode: Mode, arg_len: usize, bytes: &[u8]) -> NewProgram
-        requires argument { arg_len ≤ MAX_ARG_LEN }
+        requires argument { arg_len ≤ MOST_ARG_LEN }
         requires fits { length bytes.now ≤ MAX_INSTALLED_BYTES }
         ensures program { result ≡ record { mode = mode; arg_len = arg_len; bytes = bytes.now } }
         ensures bytes { AreBytes result.bytes }
     {
         NewProgram {
+            arg_len: arg_len as u16,
             mode,
-            arg_len: arg_len as u8,
             bytes_len: bytes.len() as u8,
             program_bytes: padded(bytes),
         }
@@ -145,7 +146,7 @@ impl NewProgram {
     /// How many bytes its argument has.
     pub fn arg_len(&self) -> usize
         ensures length { result ≡ self.now.arg_len }
-        ensures fits { result ≤ MAX_ARG_LEN }
+        ensures fits { result ≤ MOST_ARG_LEN }
     {
         self.arg_len as usize
     }
@@ -160,7 +161,7 @@ impl NewProgram {
     }
 }
 
-/// An operation, its argument a short one. It is copied as one block of bytes.
+/// An operation that has room in a record, its argument or its program a short one. It is copied as one block of bytes.
 #[derive(Clone, Copy)]
 pub enum Op {
     /// The run of a program.

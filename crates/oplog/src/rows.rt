@@ -3,6 +3,7 @@
 ghost use Rattle.std.specs.Prelude.{◌≡◌, ◌<◌, ◌+◌, length, take, vec_capacity};
 
 use crate::laid::LaidOp;
+use std::mem::size_of;
 
 // A record as it lies in a list.
 #[derive(Clone, Copy)]
@@ -12,6 +13,9 @@ pub(crate) struct Row {
     pub author: u16,
     pub op: LaidOp,
 }
+
+// So many bytes a list takes for each record.
+const _: () = prove!(size_of::<Row>() == 208);
 
 // Puts one record more at the end, which is written over. There is room for it.
 #[inline(never)]

@@ -7,7 +7,7 @@ use Rattle.std.proofs.lemmas.Bool.{cases_order, leb-true}
 use Rattle.std.proofs.lemmas.Option.{none-some, same_Some, slice_get-map, get_or_from_slice_get, slice_get_within}
 use Rattle.std.proofs.lemmas.List.{length-map}
 use Rattle.text.specs.Lines.{lines_of}
-use Rattle.loader.specs.CatalogueView.{CatalogueView, IsCatalogue, with_places, opened_on}
+use Rattle.loader.specs.CatalogueView.{CatalogueView, IsCatalogue, with_places, opened_on, sizes_for}
 use Rattle.loader.specs.Loading.{Outcome}
 use Rattle.loader.specs.declared.installed.TheConstants.{MAX_SPARE}
 use Rattle.verifier.specs.declared.refusal.Mode.TheVariants.{Update}
@@ -73,7 +73,7 @@ pub record OpenedOn (c : CatalogueView) (state transcript : List ℕ) : Type 0 w
 is_opened : (c : CatalogueView) (state transcript : List ℕ) → IsCatalogue c → (replayed_on transcript (opened_by c state)).verdict ≡ verdicts.Good → OpenedOn c state transcript
 is_opened c state transcript is e = by_empty (eqb (length state) 0) refl
   where
-    by_state : (o : StateOutcome) → loaded_state c.shapes c.places state ≡ o → opened_by c state ≡ on_loaded c o → OpenedOn c state transcript
+    by_state : (o : StateOutcome) → loaded_state (sizes_for c) state ≡ o → opened_by c state ≡ on_loaded c o → OpenedOn c state transcript
     by_state (Ok s) read at =
         let opens : on_text c state ≡ on_loaded c (Ok s) = ap (on_loaded c) read in
         record { on = opened_on c s; opened = at; whole = opened_is_catalogue c (opened_on c s) state is opens; good = subst (λ r. (replayed_on transcript r).verdict ≡ verdicts.Good) at e }
@@ -84,7 +84,7 @@ is_opened c state transcript is e = by_empty (eqb (length state) 0) refl
         let at : opened_by c state ≡ Ok c = ap (λ b. cond b (Ok c) (on_text c state)) is_so in
         record { on = c; opened = at; whole = is; good = subst (λ r. (replayed_on transcript r).verdict ≡ verdicts.Good) at e }
     by_empty false is_so =
-        by_state (loaded_state c.shapes c.places state) refl (ap (λ b. cond b (Ok c) (on_text c state)) is_so)
+        by_state (loaded_state (sizes_for c) state) refl (ap (λ b. cond b (Ok c) (on_text c state)) is_so)
 
 -- ---- counting
 

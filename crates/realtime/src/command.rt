@@ -11,9 +11,8 @@ ghost use Rattle.realtime.specs.TimedAnswer.{calls_answer, timed_answer};
 use crate::histories::{Timed, read_history};
 use crate::orders::{beginnings, first_misplaced, first_out_of_turn};
 use crate::ranks::ranks;
-use dumps::Watcher;
 use engine::texts::put_numbered;
-use engine::{Command, Gathered, Notes, Reply, Texts, Verdict, not_text};
+use engine::{Command, Gathered, Notes, Reply, StoreWatcher, Texts, Verdict, not_text};
 use replaying::Replay;
 use std::alloc::{AllocError, Global};
 
@@ -76,11 +75,11 @@ fn history_reply(alloc: Global, reply: Reply, texts: &Texts) -> Result<Reply, Al
 pub struct ReplayTimed<'w, V> {
     /// How many places there are behind the manifest's programs.
     pub spare: u32,
-    /// What is told how much of the state is loaded.
+    /// What is told how much of the state is loaded, and when the store opens.
     pub watcher: &'w V,
 }
 
-impl<V: Watcher> Command for ReplayTimed<'_, V> {
+impl<V: StoreWatcher> Command for ReplayTimed<'_, V> {
     type Made = Reply;
 
     ghost may_make = { λ c t r. answer_of r ≡ timed_answer c.spare t };

@@ -65,7 +65,7 @@ named c mode keyed op bytes e =
 
 installable : (c : CatalogueView) (new : NewProgram) (op : Operation) → AreBytes new.bytes → install_of c new ≡ Some op → (Install new ≡ op) × (is_operation Update c (Install new) ≡ true)
 installable c new op bytes e =
-    let free = unbarred (Install new) op (install_refusal c.shapes new) e in
+    let free = unbarred (Install new) op (install_refusal c.shapes c.long new) e in
     (free.1, may_install c new free.0 bytes)
 
 has_operation : (f : Operation → LineOutcome) (o : Option Operation) (next : Replayed) → option_map_or f o Bad ≡ Agrees next → (op : Operation) × (o ≡ Some op) × (f op ≡ Agrees next)

@@ -61,7 +61,7 @@ operation_of c mode call =
     option_and_then (λ k. unless_barred (Run (record { program = k; argument = call.argument })) (early_refusal c mode k call.argument)) (number_told c call.key)
 
 abbrev pub install_of : CatalogueView → NewProgram → Option Operation
-install_of c new = unless_barred (Install new) (install_refusal c.shapes new)
+install_of c new = unless_barred (Install new) (install_refusal c.shapes c.long new)
 
 -- the update has the next index of a history, and this reply there
 abbrev pub update_agrees : CatalogueView → History → Operation → ℕ → ℕ → Bool

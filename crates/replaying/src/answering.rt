@@ -1,20 +1,22 @@
 // The command `replay`.
 
 ghost use Rattle.std.specs.Prelude.{◌≡◌, IfOk, Some};
-ghost use Rattle.loader.specs.CatalogueView.{OpensOn};
 ghost use Rattle.text.specs.Lines.{lines_of};
 ghost use Rattle.engine.specs.Notes.{IsQuiet};
 ghost use Rattle.engine.specs.Reading.{texts_read};
 ghost use Rattle.engine.specs.Report.{answer_of};
 ghost use Rattle.replaying.specs.Noted.{Explains, notes_text, replay_notes};
 ghost use Rattle.replaying.specs.ReplayAnswer.{transcript_answer, nothing_replayed, replay_answer};
-ghost use Rattle.replaying.specs.Replaying.{ended_answer};
+ghost use Rattle.replaying.specs.Replaying.{HasReplayed, ended_answer};
+ghost use Rattle.running.specs.Running.{IsSteady};
 
 use crate::lines::{ReplayEnd, Replaying};
 use crate::replay_texts::{put_end, tell_end};
-use dumps::Watcher;
-use engine::{Command, Gathered, Notes, Opened, Reply, Texts, not_text, open_texts, places_within};
-use loader::{Catalogue, StoreState};
+use engine::{
+    Command, Gathered, Notes, Opened, Reply, StoreWatcher, Texts, not_text, open_texts,
+    places_within,
+};
+use loader::Catalogue;
 use std::alloc::{AllocError, Global};
 
 // What is answered where a replay ended so.
@@ -27,20 +29,20 @@ fn end_reply(alloc: Global, end: ReplayEnd, replaying: &Replaying) -> Result<Rep
     Ok(Reply { text, verdict })
 }
 
-// What a catalogue's programs answer to a transcript, on a copy of the state that is handed in, or on a new one.
+// What a catalogue's programs answer to a transcript, where nothing was replayed before.
 fn transcript_reply(
     alloc: Global,
     catalogue: &Catalogue,
-    opening: Option<&StoreState>,
+    mut replaying: Replaying,
     transcript: &str,
     notes: &mut Notes,
 ) -> Result<Reply, AllocError>
-    requires opens { OpensOn catalogue.now opening }
+    requires steady { IsSteady catalogue.now replaying.node }
+    requires nothing { HasReplayed catalogue.now nothing_replayed replaying }
     ensures quiet { IsQuiet notes.old notes.new }
     ensures told { IfOk result (λ _. Explains notes.old notes.new (notes_text catalogue.now 1 nothing_replayed (lines_of transcript.now))) }
     ensures answered { IfOk result (λ r. answer_of r ≡ transcript_answer catalogue.now 1 nothing_replayed (lines_of transcript.now)) }
 {
-    let mut replaying = Replaying::open(alloc, catalogue, opening)?;
     let end = replaying.take_lines(catalogue, transcript);
     tell_end(notes, end)?;
     end_reply(alloc, end, &replaying)
@@ -61,11 +63,11 @@ fn transcript_reply(
 pub struct Replay<'w, V> {
     /// How many places there are behind the manifest's programs.
     pub spare: u32,
-    /// What is told how much of the state is loaded.
+    /// What is told how much of the state is loaded, and when the store opens.
     pub watcher: &'w V,
 }
 
-impl<V: Watcher> Replay<'_, V> {
+impl<V: StoreWatcher> Replay<'_, V> {
     /// What is answered to these texts.
     ///
     /// # Errors
@@ -86,14 +88,17 @@ impl<V: Watcher> Replay<'_, V> {
         let transcript = texts.file.as_str();
         match open_texts(alloc, texts, places_within(self.spare), self.watcher)? {
             Opened::On(catalogue, state) => {
-                transcript_reply(alloc, &catalogue, state.as_ref(), transcript, notes)
+                self.watcher.opens();
+                let replaying = Replaying::open(alloc, &catalogue, state.as_ref());
+                self.watcher.opened();
+                transcript_reply(alloc, &catalogue, replaying?, transcript, notes)
             }
             Opened::Refused(reply) => Ok(reply),
         }
     }
 }
 
-impl<V: Watcher> Command for Replay<'_, V> {
+impl<V: StoreWatcher> Command for Replay<'_, V> {
     type Made = Reply;
 
     ghost may_make = { λ c t r. answer_of r ≡ replay_answer c.spare t };

@@ -239,10 +239,9 @@ impl Replaying {
         ensures replayed { ReplaysLine catalogue.now (λ at. installed_outcome catalogue.now at (program_of text.now) told) self.old result self.new }
         ensures due { DiffersFrom catalogue.now (λ at. line_due catalogue.now at (Some (Installed (program_of text.now) told))) self.old result self.new.due }
     {
-        let Ok(program) = self.node.check(catalogue, text) else {
+        let Ok(install) = self.node.check(catalogue, text) else {
             return LineVerdict::Bad;
         };
-        let install = OpRef::install(program.mode(), program.arg_len(), program.bytes());
         verdict_of(self.update(catalogue, &install, told.index, told.reply))
     }
 

@@ -1,22 +1,20 @@
 -- What is not refused early is an operation.
 use Rattle.std.proofs.Common.{◌≡◌, inl, inr, ℕ, ◌+◌, ◌<◌, ◌≤◌, Bool, true, false, List, length, Option, Some, None, Result, Ok, Err, refl, sym, ap, ◌∙◌, eq-eqb, ne_eqb, if◌then◌else◌}
-use Rattle.std.specs.Prelude.{◌&&◌, nat_lt, nat_le, is_ok}
+use Rattle.std.specs.Prelude.{nat_lt, nat_le, is_ok}
 use mathlib.Core.Logic.{dite}
 use native.Mathlib.Decide.{ℕ_discrete}
 use Rattle.maps.specs.Maps.{AreBytes}
-use Rattle.maps.specs.declared.shapes.TheConstants.{MAX_ARG_LEN}
 use Rattle.verifier.specs.declared.refusal.Mode.{Mode}
 use Rattle.verifier.specs.declared.refusal.Mode.TheVariants.{Update, Read}
 use Rattle.verifier.specs.Accepted.{Checked}
 use Rattle.loader.specs.CatalogueView.{CatalogueView}
-use Rattle.loader.specs.Installed.{installed_program}
+use Rattle.loader.specs.Installed.{installed_program, most_argument}
 use Rattle.loader.specs.declared.installed.InstallRefusal.{InstallRefusal}
 use Rattle.loader.specs.declared.installed.InstallRefusal.TheVariants.{Decode, Verify}
 use Rattle.oplog.specs.Calls.{Call, NewProgram}
-use Rattle.oplog.specs.declared.records.TheConstants.{MAX_INSTALLED_BYTES}
 use Rattle.replica.specs.StoreMeaning.{program_at, are_bytes, is_call, is_installable}
 use Rattle.replica.specs.declared.refusals.StoreRefused.TheVariants.{UnknownProgram, ArgumentLength, TooLarge}
-use Rattle.replica.specs.Refusals.{mode_refusal, program_refusal, offered_refusal, place_refusal, early_refusal, reading_refusal, install_refusal}
+use Rattle.replica.specs.Refusals.{is_small, mode_refusal, program_refusal, offered_refusal, place_refusal, early_refusal, reading_refusal, install_refusal}
 use Rattle.replica.proofs.Tested.{tests_call, below, not_below, at_most, both_are, bytes_are}
 
 same_mode : (asked mode : Mode) → mode_refusal asked mode ≡ None → mode ≡ asked
@@ -41,18 +39,18 @@ is_asked mode c program argument e bytes = by_number (nat_lt program (length c.p
     asked : Call
     asked = record { program = program; argument = argument }
 
-    of_place : (b : Bool) → length c.programs ≤ program → program < length c.programs + c.places → nat_le (length argument) MAX_ARG_LEN ≡ b → (if b then None else Some ArgumentLength) ≡ None
+    of_place : (b : Bool) → length c.programs ≤ program → program < length c.programs + c.places → nat_le (length argument) (most_argument c.long) ≡ b → (if b then None else Some ArgumentLength) ≡ None
         → is_call mode c asked ≡ true
     of_place true behind within short f = tests_call mode c asked (inr (record { behind = behind; within = within; short = at_most _ _ short; bytes = bytes }))
     of_place false behind within long f = absurd cc
 
-    by_place : (b : Bool) → length c.programs ≤ program → nat_lt program (length c.programs + c.places) ≡ b → (if b then place_refusal argument else Some UnknownProgram) ≡ None
+    by_place : (b : Bool) → length c.programs ≤ program → nat_lt program (length c.programs + c.places) ≡ b → (if b then place_refusal c argument else Some UnknownProgram) ≡ None
         → is_call mode c asked ≡ true
-    by_place true behind within f = of_place (nat_le (length argument) MAX_ARG_LEN) behind (below _ _ within) refl f
+    by_place true behind within f = of_place (nat_le (length argument) (most_argument c.long)) behind (below _ _ within) refl f
     by_place false behind beyond f = absurd cc
 
     by_number : (b : Bool) → nat_lt program (length c.programs) ≡ b
-        → (if b then offered_refusal c mode program argument else if nat_lt program (length c.programs + c.places) then place_refusal argument else Some UnknownProgram) ≡ None
+        → (if b then offered_refusal c mode program argument else if nat_lt program (length c.programs + c.places) then place_refusal c argument else Some UnknownProgram) ≡ None
         → is_call mode c asked ≡ true
     by_number true offered f =
         let t = asked_program mode argument (program_at c program) f in
@@ -67,13 +65,13 @@ is_read (Err (Decode why)) e = absurd cc
 is_read (Err (Verify why)) e = absurd cc
 
 -- one that is not refused may be installed
-pub may_install : (c : CatalogueView) (new : NewProgram) → install_refusal c.shapes new ≡ None → AreBytes new.bytes → is_installable c new ≡ true
-may_install c new e bytes = by_size (nat_le (length new.bytes) MAX_INSTALLED_BYTES && nat_le new.arg_len MAX_ARG_LEN) refl e
+pub may_install : (c : CatalogueView) (new : NewProgram) → install_refusal c.shapes c.long new ≡ None → AreBytes new.bytes → is_installable c new ≡ true
+may_install c new e bytes = by_size (is_small c.long new) refl e
   where
     reading : Result Checked InstallRefusal
     reading = installed_program c.shapes new.mode new.arg_len new.bytes
 
-    by_size : (b : Bool) → (nat_le (length new.bytes) MAX_INSTALLED_BYTES && nat_le new.arg_len MAX_ARG_LEN) ≡ b → (if b then reading_refusal reading else Some TooLarge) ≡ None
+    by_size : (b : Bool) → is_small c.long new ≡ b → (if b then reading_refusal reading else Some TooLarge) ≡ None
         → is_installable c new ≡ true
     by_size true small f = both_are _ _ small (both_are (are_bytes new.bytes) (is_ok reading) (bytes_are new.bytes bytes) (is_read reading f))
     by_size false large f = absurd cc

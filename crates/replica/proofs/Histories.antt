@@ -13,7 +13,7 @@ use Rattle.machine.specs.Effects.{effect_of, Effect as RunEffect}
 use Rattle.machine.proofs.Export.{typable_takes_effect}
 use Rattle.loader.specs.CatalogueView.{CatalogueView, IsCatalogue, Entry, sizes_for, opening_state}
 use Rattle.loader.specs.Installed.{installed_program}
-use Rattle.loader.specs.StoreState.{StoreState, IsState}
+use Rattle.loader.specs.StoreState.{StoreState, IsState, installed_for}
 use Rattle.loader.proofs.Export.{installed_is_accepted, one_more_installed, opening_is_state}
 use Rattle.oplog.specs.Calls.{Call, NewProgram}
 use Rattle.oplog.specs.Operations.{Operation}
@@ -129,11 +129,12 @@ module _ (c : CatalogueView) (whole : IsCatalogue c) where
 
       by_place : (b : Bool) → nat_lt (length s.programs) s.places ≡ b → IsState (sizes_for c) (let e : Effect StoreState = if b then taken else refused in e.left)
       by_place true free =
-          let known = installed_is_accepted c.shapes new.mode new.arg_len new.bytes p whole.shapes h.argument h.bytes (omega (arith, h.few)) (installs_as c new h) in
+          let known = installed_is_accepted c.shapes new.mode new.arg_len c.long new.bytes p whole.shapes h.argument whole.few_bytes h.bytes h.few (installs_as c new h) in
           record {
             maps = is.maps;
             places = is.places;
-            programs = one_more_installed (record { shapes = c.shapes; places = c.places; programs = s.programs }) p is.programs (omega (arith, below _ _ free, is.places)) refl known.1 known.2;
+            long = is.long;
+            programs = one_more_installed (installed_for (sizes_for c) s.programs) p is.programs (omega (arith, below _ _ free, is.places)) refl known.1 known.2;
           }
       by_place false full = is
 
@@ -142,7 +143,7 @@ module _ (c : CatalogueView) (whole : IsCatalogue c) where
   state_next : (op : Operation) (s : StoreState) → is_operation Update c op ≡ true → IsState (sizes_for c) s → IsState (sizes_for c) (left_by (store_meaning.update c op s) s)
   state_next (Run call) s update is =
       let d = does Update call s (call_bytes (call_tested Update c call update)) is in
-      subst (λ (o : Option RunEffect). IsState (sizes_for c) (left_by (option_map (as_update s) o) s)) (sym d.run) (record { maps = d.shapes; places = is.places; programs = is.programs })
+      subst (λ (o : Option RunEffect). IsState (sizes_for c) (left_by (option_map (as_update s) o) s)) (sym d.run) (record { maps = d.shapes; places = is.places; long = is.long; programs = is.programs })
   state_next (Install new) s update is =
       let h = installable_tested c new update in
       subst (λ r. IsState (sizes_for c) (left_by (placed_read c s r) s)) (sym (installs_as c new h)) (installed_next new s h is)

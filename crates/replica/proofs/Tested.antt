@@ -7,20 +7,18 @@ use Rattle.std.proofs.lemmas.Bool.Decides.{nat_tests}
 use Rattle.std.proofs.lemmas.Option.{slice_get_within}
 use Rattle.insn.proofs.Export.{read_is_spelled, spelled_is_read}
 use Rattle.maps.specs.Maps.{AreBytes}
-use Rattle.maps.specs.declared.shapes.TheConstants.{MAX_ARG_LEN}
 use Rattle.verifier.specs.declared.refusal.Mode.{Mode}
 use Rattle.verifier.specs.declared.refusal.Mode.TheVariants.{Update, Read}
 use Rattle.verifier.specs.Signature.{signature}
 use Rattle.verifier.specs.Accepted.{Checked, checked}
 use Rattle.verifier.proofs.Export.{accepts, accepted_iff}
 use Rattle.loader.specs.CatalogueView.{CatalogueView, Entry}
-use Rattle.loader.specs.Installed.{unless_unsafe, accepted_program, installed_program}
+use Rattle.loader.specs.Installed.{accepted_program, installed_program, most_argument, most_bytes, unless_unsafe}
 use Rattle.loader.specs.declared.installed.InstallRefusal.{InstallRefusal}
 use Rattle.loader.proofs.Export.{installed_reads}
 use Rattle.oplog.specs.Calls.{Call, NewProgram}
 use Rattle.oplog.specs.Operations.{Operation}
 use Rattle.oplog.specs.declared.records.Op.TheVariants.{Run, Install}
-use Rattle.oplog.specs.declared.records.TheConstants.{MAX_INSTALLED_BYTES}
 use Rattle.replica.specs.StoreMeaning.{program_at, suits, IsOffered, IsOfPlace, IsCall, IsInstallable, IsOperation, is_mode, are_bytes, fits, fits_place, is_call, is_installable, is_operation}
 use Rattle.replica.specs.HistoryLaws.{OperationsAreTested}
 
@@ -100,7 +98,7 @@ offered_from mode c call (Some p) named e =
 of_place_from : (c : CatalogueView) (call : Call) → length c.programs ≤ call.program → fits_place c call ≡ true → IsOfPlace c call
 of_place_from c call behind e =
     let parts = both (nat_lt call.program (length c.programs + c.places)) _ e in
-    let rest = both (nat_le (length call.argument) MAX_ARG_LEN) (are_bytes call.argument) parts.1 in
+    let rest = both (nat_le (length call.argument) (most_argument c.long)) (are_bytes call.argument) parts.1 in
     record { behind = behind; within = below _ _ parts.0; short = at_most _ _ rest.0; bytes = bytes_from call.argument rest.1 }
 
 call_from : (mode : Mode) (c : CatalogueView) (call : Call) (b : Bool) → nat_lt call.program (length c.programs) ≡ b
@@ -129,7 +127,7 @@ tests_place : (mode : Mode) (c : CatalogueView) (call : Call) → IsOfPlace c ca
 tests_place mode c call h =
     ap (λ b. if b then fits mode call.argument (program_at c call.program) else fits_place c call) (is_not_below _ _ h.behind)
     ∙ both_are (nat_lt call.program (length c.programs + c.places)) _ (is_below _ _ h.within)
-    (both_are (nat_le (length call.argument) MAX_ARG_LEN) (are_bytes call.argument) (is_at_most _ _ h.short) (bytes_are call.argument h.bytes))
+    (both_are (nat_le (length call.argument) (most_argument c.long)) (are_bytes call.argument) (is_at_most _ _ h.short) (bytes_are call.argument h.bytes))
 
 pub tests_call : (mode : Mode) (c : CatalogueView) (call : Call) → IsCall mode c call → is_call mode c call ≡ true
 tests_call mode c call (inl h) = tests_offered mode c call h
@@ -148,8 +146,8 @@ good (Err why) e = absurd cc
 
 pub installable_tested : (c : CatalogueView) (new : NewProgram) → is_installable c new ≡ true → IsInstallable c new
 installable_tested c new e =
-    let parts = both (nat_le (length new.bytes) MAX_INSTALLED_BYTES && nat_le new.arg_len MAX_ARG_LEN) _ e in
-    let sizes = both (nat_le (length new.bytes) MAX_INSTALLED_BYTES) (nat_le new.arg_len MAX_ARG_LEN) parts.0 in
+    let parts = both (nat_le (length new.bytes) (most_bytes c.long) && nat_le new.arg_len (most_argument c.long)) _ e in
+    let sizes = both (nat_le (length new.bytes) (most_bytes c.long)) (nat_le new.arg_len (most_argument c.long)) parts.0 in
     let rest = both (are_bytes new.bytes) (is_ok (installed_program c.shapes new.mode new.arg_len new.bytes)) parts.1 in
     let known = good (installed_program c.shapes new.mode new.arg_len new.bytes) rest.1 in
     let read = installed_reads c.shapes new.mode new.arg_len new.bytes known.0 known.1 in
@@ -171,8 +169,8 @@ installs_as c new h =
 
 pub tests_installable : (c : CatalogueView) (new : NewProgram) → IsInstallable c new → is_installable c new ≡ true
 tests_installable c new h =
-    both_are (nat_le (length new.bytes) MAX_INSTALLED_BYTES && nat_le new.arg_len MAX_ARG_LEN) _
-    (both_are (nat_le (length new.bytes) MAX_INSTALLED_BYTES) (nat_le new.arg_len MAX_ARG_LEN) (is_at_most _ _ h.few) (is_at_most _ _ h.argument))
+    both_are (nat_le (length new.bytes) (most_bytes c.long) && nat_le new.arg_len (most_argument c.long)) _
+    (both_are (nat_le (length new.bytes) (most_bytes c.long)) (nat_le new.arg_len (most_argument c.long)) (is_at_most _ _ h.few) (is_at_most _ _ h.argument))
     (both_are (are_bytes new.bytes) (is_ok (installed_program c.shapes new.mode new.arg_len new.bytes)) (bytes_are new.bytes h.bytes) (ap (λ (r : Result Checked InstallRefusal). is_ok r) (installs_as c new h)))
 
 -- ---- operations

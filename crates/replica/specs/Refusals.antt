@@ -1,16 +1,14 @@
 -- The calls on a store that are refused before anything is done.
-use Rattle.std.specs.Prelude.{◌≡◌, ℕ, ◌+◌, ◌<◌, List, length, Option, Some, None, ◌==◌, ◌&&◌, nat_lt, nat_le, if◌then◌else◌, Result, Ok, Err, MatchResult}
+use Rattle.std.specs.Prelude.{◌≡◌, Bool, ℕ, ◌+◌, ◌<◌, List, length, Option, Some, None, ◌==◌, ◌&&◌, nat_lt, nat_le, if◌then◌else◌, Result, Ok, Err, MatchResult}
 use Rattle.maps.specs.declared.shapes.Shape.{Shape}
-use Rattle.maps.specs.declared.shapes.TheConstants.{MAX_ARG_LEN}
 use Rattle.verifier.specs.declared.refusal.Mode.{Mode}
 use Rattle.verifier.specs.declared.refusal.Mode.TheVariants.{Update, Read}
 use Rattle.verifier.specs.Accepted.{Checked}
 use Rattle.loader.specs.CatalogueView.{CatalogueView}
-use Rattle.loader.specs.Installed.{InstalledView, installed_program}
+use Rattle.loader.specs.Installed.{InstalledView, installed_program, most_argument, most_bytes}
 use Rattle.loader.specs.declared.installed.InstallRefusal.{InstallRefusal}
 use Rattle.loader.specs.declared.installed.InstallRefusal.TheVariants.{Decode, Verify}
 use Rattle.oplog.specs.Calls.{NewProgram}
-use Rattle.oplog.specs.declared.records.TheConstants.{MAX_INSTALLED_BYTES}
 use Rattle.replica.specs.StoreMeaning.{program_at}
 use Rattle.replica.specs.declared.refusals.StoreRefused.{StoreRefused}
 use Rattle.replica.specs.declared.refusals.StoreRefused.TheVariants.{UnknownProgram, ArgumentLength, WrongMode, Ended, TooLarge, NotDecoded, NotAccepted}
@@ -44,14 +42,14 @@ abbrev pub offered_refusal : CatalogueView → Mode → ℕ → List ℕ → Opt
 offered_refusal c mode program argument = program_refusal mode argument (program_at c program)
 
 -- of an argument for a place, whatever will be installed there
-abbrev pub place_refusal : List ℕ → Option StoreRefused
-place_refusal argument = if nat_le (length argument) MAX_ARG_LEN then None else Some ArgumentLength
+abbrev pub place_refusal : CatalogueView → List ℕ → Option StoreRefused
+place_refusal c argument = if nat_le (length argument) (most_argument c.long) then None else Some ArgumentLength
 
 -- the refusal of a call: of a program of the catalogue, or of a place behind these, or of a number behind the places
 abbrev pub early_refusal : CatalogueView → Mode → ℕ → List ℕ → Option StoreRefused
 early_refusal c mode program argument =
     if nat_lt program (length c.programs) then offered_refusal c mode program argument
-    else if nat_lt program (length c.programs + c.places) then place_refusal argument else Some UnknownProgram
+    else if nat_lt program (length c.programs + c.places) then place_refusal c argument else Some UnknownProgram
 
 -- the refusal of a call of a program of the catalogue, of either mode: unknown, else of another length
 abbrev pub length_refusal : List ℕ → Option Checked → Option StoreRefused
@@ -69,15 +67,19 @@ reading_refusal (Ok p) = None
 reading_refusal (Err (Decode e)) = Some (NotDecoded e)
 reading_refusal (Err (Verify e)) = Some (NotAccepted e)
 
--- the refusal of a program that is to be installed for these maps: too large, else no program, else not safe
-abbrev pub install_refusal : List Shape → NewProgram → Option StoreRefused
-install_refusal shapes new =
-    if nat_le (length new.bytes) MAX_INSTALLED_BYTES && nat_le new.arg_len MAX_ARG_LEN
+-- the program and its argument are no longer than those of an installed program may be
+abbrev pub is_small : ℕ → NewProgram → Bool
+is_small long new = nat_le (length new.bytes) (most_bytes long) && nat_le new.arg_len (most_argument long)
+
+-- the refusal of a program that is to be installed for these maps, where it may have so many bytes: too large, else no program, else not safe
+abbrev pub install_refusal : List Shape → ℕ → NewProgram → Option StoreRefused
+install_refusal shapes long new =
+    if is_small long new
     then reading_refusal (installed_program shapes new.mode new.arg_len new.bytes) else Some TooLarge
 
--- room to find out whether a program for these maps may be installed
-abbrev pub IsRoomFor : List Shape → InstalledView → Type 0
-IsRoomFor shapes room = (room.shapes ≡ shapes) × (0 < room.places)
+-- room to find out whether a program for these maps, of at most so many bytes, may be installed
+abbrev pub IsRoomFor : List Shape → ℕ → InstalledView → Type 0
+IsRoomFor shapes long room = (room.shapes ≡ shapes) × (room.long ≡ long) × (0 < room.places)
 
 -- what is answered is this refusal, or that there is none
 abbrev pub IsRefusedAs : {A : Type 0} → Option StoreRefused → Result A StoreRefused → Type 0

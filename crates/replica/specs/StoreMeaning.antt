@@ -4,7 +4,6 @@ use Rattle.std.specs.List.{list_all}
 use Rattle.insn.specs.declared.instruction.Form.{Form}
 use Rattle.insn.specs.Refusal.{Decodes}
 use Rattle.maps.specs.Maps.{Maps, AreBytes}
-use Rattle.maps.specs.declared.shapes.TheConstants.{MAX_ARG_LEN}
 use Rattle.verifier.specs.declared.refusal.Mode.{Mode}
 use Rattle.verifier.specs.declared.refusal.Mode.TheVariants.{Update, Read}
 use Rattle.verifier.specs.Signature.{signature}
@@ -13,14 +12,13 @@ use Rattle.verifier.specs.Accepted.{Checked}
 use Rattle.machine.specs.Effects.{effect, effect_of, Effect as RunEffect}
 use Rattle.machine.specs.declared.running.Outcome.{Outcome}
 use Rattle.loader.specs.CatalogueView.{CatalogueView, opening_state}
-use Rattle.loader.specs.Installed.{installed_program}
+use Rattle.loader.specs.Installed.{installed_program, most_argument, most_bytes}
 use Rattle.loader.specs.declared.installed.InstallRefusal.{InstallRefusal}
 use Rattle.loader.specs.StoreState.{StoreState}
 use Rattle.oplog.specs.Calls.{Call, NewProgram}
 use Rattle.oplog.specs.Operations.{Operation}
 use Rattle.oplog.specs.declared.records.Op.TheVariants.{Run, Install}
 use Rattle.oplog.specs.declared.records.Record.{Record}
-use Rattle.oplog.specs.declared.records.TheConstants.{MAX_INSTALLED_BYTES}
 use Rattle.oplog.specs.History.{Effect, ReadEffect, Meaning, History}
 
 -- ---- programs by their numbers
@@ -121,7 +119,7 @@ pub record IsOffered (mode : Mode) (c : CatalogueView) (call : Call) : Type 0 wh
 pub record IsOfPlace (c : CatalogueView) (call : Call) : Type 0 where
   pub behind : length c.programs ≤ call.program
   pub within : call.program < length c.programs + c.places
-  pub short : length call.argument ≤ MAX_ARG_LEN
+  pub short : length call.argument ≤ most_argument c.long
   pub bytes : AreBytes call.argument
 
 -- a call is one of these
@@ -130,8 +128,8 @@ IsCall mode c call = IsOffered mode c call ⊎ IsOfPlace c call
 
 -- few bytes that spell a program which is typable for the catalogue's maps
 pub record IsInstallable (c : CatalogueView) (new : NewProgram) : Type 0 where
-  pub few : length new.bytes ≤ MAX_INSTALLED_BYTES
-  pub argument : new.arg_len ≤ MAX_ARG_LEN
+  pub few : length new.bytes ≤ most_bytes c.long
+  pub argument : new.arg_len ≤ most_argument c.long
   pub bytes : AreBytes new.bytes
   pub program : List Form
   pub spelled : Decodes new.bytes program
@@ -152,14 +150,14 @@ fits mode argument None = false
 fits mode argument (Some p) = suits mode argument p && are_bytes argument
 
 abbrev pub fits_place : CatalogueView → Call → Bool
-fits_place c call = nat_lt call.program (length c.programs + c.places) && (nat_le (length call.argument) MAX_ARG_LEN && are_bytes call.argument)
+fits_place c call = nat_lt call.program (length c.programs + c.places) && (nat_le (length call.argument) (most_argument c.long) && are_bytes call.argument)
 
 abbrev pub is_call : Mode → CatalogueView → Call → Bool
 is_call mode c call = if nat_lt call.program (length c.programs) then fits mode call.argument (program_at c call.program) else fits_place c call
 
 abbrev pub is_installable : CatalogueView → NewProgram → Bool
 is_installable c new =
-    (nat_le (length new.bytes) MAX_INSTALLED_BYTES && nat_le new.arg_len MAX_ARG_LEN)
+    (nat_le (length new.bytes) (most_bytes c.long) && nat_le new.arg_len (most_argument c.long))
     && (are_bytes new.bytes && is_ok (installed_program c.shapes new.mode new.arg_len new.bytes))
 
 abbrev pub is_operation : Mode → CatalogueView → Operation → Bool

@@ -6,7 +6,9 @@ ghost use Rattle.maps.specs.Maps.{HasShapes};
 ghost use Rattle.maps.specs.MapSets.{maps_of};
 ghost use Rattle.verifier.specs.declared.refusal.Mode.TheVariants.{Update, Read};
 ghost use Rattle.replica.specs.StoreMeaning.{no_program, no_place, is_mode, suits, program_among, run_in, ran_to, answered, updated, is_operation, AreUpdates};
-ghost use Rattle.replica.specs.Grounds.{Installs, installing, state_in};
+ghost use Rattle.verifier.specs.Accepted.{checked_in};
+ghost use Rattle.oplog.specs.Operations.{installing};
+ghost use Rattle.replica.specs.Grounds.{Installs, IsFitFor, KeepsSizes, state_in};
 ghost use Rattle.replica.specs.Replaying.{KeepsOutcomes, Leaves};
 
 use crate::replying::Replies;
@@ -62,7 +64,7 @@ fn is_mode(mode: Mode, other: Mode) -> bool
 
 // Whether a program has this mode, and its argument this length.
 fn does_suit(program: &Accepted, mode: Mode, argument: &[u8]) -> bool
-    ensures { result ≡ suits mode argument.now program.now }
+    ensures { result ≡ suits mode argument.now (checked_in program.now) }
 {
     is_mode(program.mode(), mode) && argument.len() == program.arg_len()
 }
@@ -74,7 +76,7 @@ pub(crate) fn program_of<'a>(
     number: u16,
 ) -> Option<&'a Accepted>
     requires shapes { programs.now.shapes ≡ catalogue.now.shapes }
-    ensures program { option_map (λ p. p.now) result ≡ program_among catalogue.now programs.now.programs number }
+    ensures program { option_map (λ p. checked_in p.now) result ≡ program_among catalogue.now programs.now.programs number }
     ensures shapes { IfSome result (λ p. p.now.shapes ≡ catalogue.now.shapes) }
 {
     let offered = catalogue.len();
@@ -94,7 +96,7 @@ pub(crate) fn run_suitable(
     argument: &[u8],
 ) -> Outcome
     requires shapes { IfSome program (λ p. HasShapes p.now.shapes (maps_of maps.old)) }
-    ensures run { run_in mode argument.now (maps_of maps.old) (option_map (λ p. p.now) program.entry)
+    ensures run { run_in mode argument.now (maps_of maps.old) (option_map (λ p. checked_in p.now) program.entry)
         ≡ Some (ran_to result (maps_of maps.new)) }
     ensures shapes { (shapes : List Shape) → HasShapes shapes (maps_of maps.old) → HasShapes shapes (maps_of maps.new) }
     ensures reads { mode ≡ Read → maps_of maps.new ≡ maps_of maps.old }
@@ -119,10 +121,10 @@ fn install(
     arg_len: usize,
     bytes: &[u8],
 ) -> Outcome
-    requires shapes { programs.old.shapes ≡ catalogue.now.shapes }
+    requires programs { IsFitFor catalogue.now programs.old }
     requires update { is_operation Update catalogue.now (installing mode arg_len bytes.now) ≡ true }
     ensures updated { Installs catalogue.now (installing mode arg_len bytes.now) programs.old result programs.new }
-    ensures sizes { (programs.new.shapes ≡ programs.old.shapes) × (programs.new.places ≡ programs.old.places) }
+    ensures sizes { KeepsSizes programs.old programs.new }
 {
     let place = programs.len();
     if place < programs.places() {
@@ -145,11 +147,11 @@ fn install(
 #[inline(always)]
 fn perform(on: &mut Ground, catalogue: &Catalogue, op: &OpRef<'_>) -> Outcome
     requires shapes { HasShapes catalogue.now.shapes (maps_of on.old.maps) }
-    requires programs { on.old.programs.shapes ≡ catalogue.now.shapes }
+    requires programs { IsFitFor catalogue.now on.old.programs }
     requires update { is_operation Update catalogue.now op.now ≡ true }
     ensures updated { updated catalogue.now op.now (state_in on.old) ≡ Some (answered result (state_in on.new)) }
     ensures shapes { HasShapes catalogue.now.shapes (maps_of on.new.maps) }
-    ensures sizes { (on.new.programs.shapes ≡ on.old.programs.shapes) × (on.new.programs.places ≡ on.old.programs.places) }
+    ensures sizes { KeepsSizes on.old.programs on.new.programs }
 {
     match op.parts() {
         OpParts::Run { program, argument } => {
@@ -179,12 +181,12 @@ pub(crate) fn perform_each(
     replies: &mut Replies,
 )
     requires shapes { HasShapes catalogue.now.shapes (maps_of on.old.maps) }
-    requires programs { on.old.programs.shapes ≡ catalogue.now.shapes }
+    requires programs { IsFitFor catalogue.now on.old.programs }
     requires allowed { AreUpdates catalogue.now records.now }
     requires fits { first + length records.now < 2 ^ 64 }
     ensures state { Leaves catalogue.now (state_in on.old) records.now (state_in on.new) }
     ensures shapes { HasShapes catalogue.now.shapes (maps_of on.new.maps) }
-    ensures sizes { (on.new.programs.shapes ≡ on.old.programs.shapes) × (on.new.programs.places ≡ on.old.programs.places) }
+    ensures sizes { KeepsSizes on.old.programs on.new.programs }
     ensures kept { KeepsOutcomes catalogue.now (state_in on.old) first records.now replies.old replies.new }
 {
     for k in 0..records.len() {
@@ -197,11 +199,11 @@ pub(crate) fn perform_each(
 // Performs the operations of records, one after the other.
 pub(crate) fn perform_all(on: &mut Ground, catalogue: &Catalogue, records: &Records<'_>)
     requires shapes { HasShapes catalogue.now.shapes (maps_of on.old.maps) }
-    requires programs { on.old.programs.shapes ≡ catalogue.now.shapes }
+    requires programs { IsFitFor catalogue.now on.old.programs }
     requires allowed { AreUpdates catalogue.now records.now }
     ensures state { Leaves catalogue.now (state_in on.old) records.now (state_in on.new) }
     ensures shapes { HasShapes catalogue.now.shapes (maps_of on.new.maps) }
-    ensures programs { on.new.programs.shapes ≡ catalogue.now.shapes }
+    ensures programs { IsFitFor catalogue.now on.new.programs }
 {
     for k in 0..records.len() {
         let op = records.op(k);

@@ -1,15 +1,14 @@
 // The calls on a store that are refused, and why.
 
 ghost use Rattle.std.specs.Prelude.{◌≡◌, ◌<◌, ◌≤◌, [], length, Some, IfOk};
-ghost use Rattle.maps.specs.declared.shapes.TheConstants.{MAX_ARG_LEN, MOST_ARG_LEN};
-ghost use Rattle.oplog.specs.declared.records.TheConstants.{MAX_INSTALLED_BYTES};
+ghost use Rattle.maps.specs.declared.shapes.TheConstants.{MOST_ARG_LEN};
+ghost use Rattle.verifier.specs.Accepted.{checked_in};
+ghost use Rattle.loader.specs.declared.installed.TheConstants.{MOST_LONG};
 ghost use Rattle.replica.specs.StoreMeaning.{program_at};
 ghost use Rattle.replica.specs.Refusals.{store_fault_number, call_refusal, offered_refusal, early_refusal, install_refusal, IsRoomFor, IsRefusedAs};
 
 use insn::DecodeRefusal;
-use loader::{Catalogue, InstallRefusal, Installed};
-use maps::MAX_ARG_LEN;
-use oplog::MAX_INSTALLED_BYTES;
+use loader::{Catalogue, InstallRefusal, Installed, most_argument, most_bytes};
 use std::fmt;
 use thiserror::Error;
 use verifier::{Accepted, Mode, Refused};
@@ -29,7 +28,7 @@ pub enum StoreRefused {
     /// S4: the history has all its records. The request has none.
     #[error("S4: the history has all its records")]
     Ended,
-    /// S6: a program to be installed has more than [`MAX_INSTALLED_BYTES`], or an argument of more than [`MAX_ARG_LEN`].
+    /// S6: a program to be installed has more than [`most_bytes`], or an argument of more than [`most_argument`].
     #[error("S6: the program or its argument is too large")]
     TooLarge,
     /// S7: the bytes to be installed are no program.
@@ -67,7 +66,7 @@ pub fn find_program<'a>(
     program: u16,
     argument: &[u8],
 ) -> Result<&'a Accepted, StoreRefused>
-    ensures found { IfOk result (λ p. program_at catalogue.now program ≡ Some p.now) }
+    ensures found { IfOk result (λ p. program_at catalogue.now program ≡ Some (checked_in p.now)) }
     ensures length { IfOk result (λ p. (length argument.now ≡ p.now.arg_len) × (length argument.now ≤ MOST_ARG_LEN)) }
     ensures shapes { IfOk result (λ p. p.now.shapes ≡ catalogue.now.shapes) }
     ensures refusal { IsRefusedAs (call_refusal catalogue.now program argument.now) result }
@@ -92,7 +91,7 @@ pub fn find_program_of<'a>(
     program: u16,
     argument: &[u8],
 ) -> Result<&'a Accepted, StoreRefused>
-    ensures found { IfOk result (λ p. program_at catalogue.now program ≡ Some p.now) }
+    ensures found { IfOk result (λ p. program_at catalogue.now program ≡ Some (checked_in p.now)) }
     ensures mode { IfOk result (λ p. p.now.mode ≡ mode) }
     ensures length { IfOk result (λ p. (length argument.now ≡ p.now.arg_len) × (length argument.now ≤ MOST_ARG_LEN)) }
     ensures shapes { IfOk result (λ p. p.now.shapes ≡ catalogue.now.shapes) }
@@ -111,7 +110,7 @@ pub fn find_program_of<'a>(
 /// # Errors
 ///
 /// S1 where there is neither a program nor a place of this number; S2 where the argument hasn't the program's length, or where that of a
-/// place is longer than [`MAX_ARG_LEN`]; S3 where the program has the other mode.
+/// place is longer than [`most_argument`]; S3 where the program has the other mode.
 pub fn check_call(
     catalogue: &Catalogue,
     mode: Mode,
@@ -129,14 +128,14 @@ pub fn check_call(
     if number >= catalogue.len() + catalogue.places() {
         return Err(StoreRefused::UnknownProgram);
     }
-    if argument.len() > MAX_ARG_LEN {
+    if argument.len() > most_argument(catalogue.long()) {
         return Err(StoreRefused::ArgumentLength);
     }
     Ok(())
 }
 
-/// Whether a program may be installed: it is small enough, and the bytes spell a program that is safe. The room is one for a program of the
-/// store's maps, and what it holds then is left open.
+/// Whether a program may be installed: it is small enough, and the bytes spell a program that is safe. The room is one for programs of the
+/// store's maps, as long as the store takes. What it holds then is left open.
 ///
 /// # Errors
 ///
@@ -148,11 +147,12 @@ pub fn check_install(
     bytes: &[u8],
 ) -> Result<(), StoreRefused>
     requires room { 0 < room.old.places }
-    ensures few { IfOk result (λ _. (length bytes.now ≤ MAX_INSTALLED_BYTES) × (arg_len ≤ MAX_ARG_LEN)) }
-    ensures room { IsRoomFor room.old.shapes room.new }
-    ensures refusal { IsRefusedAs (install_refusal room.old.shapes (record { mode = mode; arg_len = arg_len; bytes = bytes.now })) result }
+    ensures few { IfOk result (λ _. (length bytes.now ≤ MOST_LONG) × (arg_len ≤ MOST_ARG_LEN)) }
+    ensures room { IsRoomFor room.old.shapes room.old.long room.new }
+    ensures refusal { IsRefusedAs (install_refusal room.old.shapes room.old.long (record { mode = mode; arg_len = arg_len; bytes = bytes.now })) result }
 {
-    if bytes.len() > MAX_INSTALLED_BYTES || arg_len > MAX_ARG_LEN as u64 {
+    let long = room.long();
+    if bytes.len() > most_bytes(long) || arg_len > most_argument(long) as u64 {
         return Err(StoreRefused::TooLarge);
     }
     room.clear();

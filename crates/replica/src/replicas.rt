@@ -160,6 +160,7 @@ impl Replica {
         requires shapes { HasShapes (shapes_of self.old.state.maps) (maps_of maps.now) }
         requires programs { programs.now.shapes ≡ shapes_of (maps_of maps.now) }
         requires places { programs.now.places ≡ self.old.state.places }
+        requires long { programs.now.long ≡ self.old.state.long }
         ensures based { self.new ≡ record { tail = index; state = state_of (maps_of maps.now) programs.now } }
     {
         self.ground.maps.copy_from(maps);

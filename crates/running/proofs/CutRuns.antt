@@ -1,5 +1,5 @@
 -- Lines on two catalogues that differ in what a store opens on, behind histories that leave the same state.
-use Rattle.std.proofs.Common.{◌≡◌, ℕ, ◌+◌, ◌<◌, ◌≤◌, Bool, true, false, cond, List, [], ◌∷◌, ◌++◌, length, Option, Some, None, Result, Ok, Err, refl, sym, ap, ◌∙◌, arith, subst, append_assoc}
+use Rattle.std.proofs.Common.{◌≡◌, ℕ, ◌+◌, ◌<◌, ◌≤◌, Bool, true, false, cond, List, [], ◌∷◌, ◌++◌, length, Option, Some, None, Result, Ok, Err, refl, sym, ap, ap₂, ◌∙◌, arith, subst, append_assoc}
 use Rattle.std.specs.Prelude.{option_map, option_and_then, ◌==◌}
 use Rattle.std.specs.Option.{option_map_or}
 use Rattle.std.proofs.lemmas.Bool.{lt-ltb, eqb-true}
@@ -8,7 +8,7 @@ use Rattle.text.specs.Lines.{lines_of, next_line}
 use Rattle.verifier.specs.declared.refusal.Mode.{Mode}
 use Rattle.verifier.specs.declared.refusal.Mode.TheVariants.{Update, Read}
 use Rattle.verifier.specs.Accepted.{Checked}
-use Rattle.loader.specs.StoreState.{StoreState, IsState, with_room, opened_state}
+use Rattle.loader.specs.StoreState.{StateSizes, StoreState, IsState, with_room, opened_state}
 use Rattle.loader.specs.CatalogueView.{CatalogueView, IsCatalogue, number_named, opening_state, sizes_for, with_places}
 use Rattle.loader.specs.Loading.{Outcome as Loads}
 use Rattle.dumps.specs.Dumping.{dump}
@@ -161,7 +161,7 @@ module _ (before limit : ℕ) (c : CatalogueView) (o p : Option StoreState) wher
   taken_same h g (Call call) s room = called_same h g call s room
   taken_same h g (InvokeAt call) s room = unless_same h g (early_refusal c Update call.program call.argument) _ _ s (performed_same h g (Run call) Update s room)
   taken_same h g (ReadAt call) s room = unless_same h g (early_refusal c Read call.program call.argument) _ _ s (performed_same h g (Run call) Read s room)
-  taken_same h g (Install new) s room = unless_same h g (install_refusal c.shapes new) _ _ s (submitted_same install_told h g (AnInstall new) install_shifts s room)
+  taken_same h g (Install new) s room = unless_same h g (install_refusal c.shapes c.long new) _ _ s (submitted_same install_told h g (AnInstall new) install_shifts s room)
 
   -- ---- lines
 
@@ -238,8 +238,8 @@ split limit c is n h g (l ∷ ls) ms updates e = by (λ f updates e. split limit
 no_updates : (c : CatalogueView) → AreUpdates c []
 no_updates c k r e = absurd cc
 
-roomed : (s : StoreState) (n : ℕ) → s.places ≡ n → with_room s n ≡ s
-roomed s n e = ap (with_room s) (sym e)
+roomed : (s : StoreState) (z : StateSizes) → s.places ≡ z.places → s.long ≡ z.long → with_room s z ≡ s
+roomed s z e l = ap₂ (λ n m. record s { places = n; long = m }) (sym e) (sym l)
 
 -- the state that a history leaves
 left_is : (c : CatalogueView) (h : History) → IsCatalogue c → AreUpdates c h → IsState (sizes_for c) (state_of c h)
@@ -263,7 +263,7 @@ pub lines_cut : LinesMayBeCut
 lines_cut limit c h ls ms is e room =
     let s = split limit c is 1 [] h ls ms (no_updates c) e in
     let state = left_is c h is s.updates in
-    cut_at limit c c.opening (Some (with_room (state_of c h) c.places)) h ls ms is e room (sym (roomed (state_of c h) c.places state.places))
+    cut_at limit c c.opening (Some (with_room (state_of c h) (sizes_for c))) h ls ms is e room (sym (roomed (state_of c h) (sizes_for c) state.places state.long))
 
 -- ---- scripts
 
@@ -281,12 +281,12 @@ opened_is : (c : CatalogueView) (text : List ℕ) (on_it : CatalogueView) → Is
 opened_is c text on_it whole e = by (length text == 0) refl e
   where
     on_state : (x : Outcome) → on_loaded c x ≡ Ok on_it → (o : Option StoreState) × (on c o ≡ on_it)
-    on_state (Ok s) p = (Some (with_room s c.places), cc)
+    on_state (Ok s) p = (Some (with_room s (sizes_for c)), cc)
     on_state (Err refusal) p = absurd cc
 
     by : (b : Bool) → (length text == 0) ≡ b → cond b (Ok c) (on_text c text) ≡ Ok on_it → OpenedBy c text on_it
     by true is p = let same : c ≡ on_it = cc in record { opening = c.opening; is = same; catalogue = subst IsCatalogue same whole }
-    by false is p = let x = on_state (loaded_state c.shapes c.places text) p in record { opening = x.0; is = x.1; catalogue = opened_is_catalogue c on_it text whole p }
+    by false is p = let x = on_state (loaded_state (sizes_for c) text) p in record { opening = x.0; is = x.1; catalogue = opened_is_catalogue c on_it text whole p }
 
 -- on what a state is dumped as, a catalogue opens on that state
 record OpensOn (c : CatalogueView) (s : StoreState) : Type 0 where
@@ -297,8 +297,8 @@ record OpensOn (c : CatalogueView) (s : StoreState) : Type 0 where
 opens : (c : CatalogueView) (s : StoreState) → c.opening ≡ None → IsState (sizes_for c) s → OpensOn c s
 opens c s new state = by (length (dump s) == 0) refl
   where
-    read : loaded_state c.shapes c.places (dump s) ≡ Ok s
-    read = dump_is_read c.shapes c.places s state
+    read : loaded_state (sizes_for c) (dump s) ≡ Ok s
+    read = dump_is_read (sizes_for c) s state
 
     nothing : (text : List ℕ) → length text ≡ 0 → text ≡ []
     nothing [] e = refl
@@ -307,16 +307,16 @@ opens c s new state = by (length (dump s) == 0) refl
     by : (b : Bool) → (length (dump s) == 0) ≡ b → OpensOn c s
     by true e =
         let none = nothing (dump s) (eqb-true (length (dump s)) 0 e) in
-        let fresh : Ok (opened_state (sizes_for c)) ≡ Ok s = sym (empty_is_new (sizes_for c)) ∙ ap (loaded_state c.shapes c.places) (sym none) ∙ read in
+        let fresh : Ok (opened_state (sizes_for c)) ≡ Ok s = sym (empty_is_new (sizes_for c)) ∙ ap (loaded_state (sizes_for c)) (sym none) ∙ read in
         record {
           opening = None;
           is = ap (λ b. cond b (Ok c) (on_text c (dump s))) e ∙ ap (λ (o : Option StoreState). Ok (on c o)) new;
           state = cc;
         }
     by false e = record {
-      opening = Some (with_room s c.places);
+      opening = Some (with_room s (sizes_for c));
       is = ap (λ b. cond b (Ok c) (on_text c (dump s))) e ∙ ap (on_loaded c) read;
-      state = roomed s c.places state.places;
+      state = roomed s (sizes_for c) state.places state.long;
     }
 
 module _ (whole first second state : List ℕ) (s : StoreState) (same : lines_of whole ≡ lines_of first ++ lines_of second) (few : length (lines_of whole) ≤ MAX_LIMIT) where

@@ -1,42 +1,19 @@
 -- What the law of a run says allows one result only: each relation in it is that of a function.
-use Rattle.std.proofs.Common.{◌≡◌, ◌≢◌, ◌⊎◌, inl, inr, ℕ, ◌+◌, ◌-◌, ◌^◌, ◌<◌, ◌≤◌, min, Bool, true, false, cond, eqb, leb, ltb, List, [], ◌∷◌, ◌++◌, length, codes, Option, Some, None, Result, Ok, Err, refl, sym, ap, ap₂, subst, ◌∙◌, append_assoc, append-nil, arith}
-use Rattle.std.specs.Prelude.{◌&&◌, nat_lt, nat_le, option_and_then, option_map, if◌then◌else◌}
+use Rattle.std.proofs.Common.{◌≡◌, ◌≢◌, inl, inr, ℕ, ◌-◌, ◌^◌, min, Bool, true, false, eqb, List, [], ◌∷◌, ◌++◌, length, codes, Option, Some, None, Result, Ok, Err, refl, sym, ap, ap₂, ◌∙◌, append-nil, arith}
+use Rattle.std.specs.Prelude.{option_and_then, option_map, if◌then◌else◌}
 use Rattle.std.specs.Option.{option_map_or}
-use Rattle.std.proofs.lemmas.Bool.{lt-ltb, eq-eqb, false≢true}
-use Rattle.std.proofs.lemmas.Bool.Decides.{nat_tests}
-use Rattle.std.proofs.lemmas.List.{length-append}
-use Rattle.std.proofs.lemmas.Option.{same_Some}
 use Rattle.encoding.specs.declared.faults.EncodeRefusal.{EncodeRefusal}
 use Rattle.encoding.specs.Encoded.{encoded_text}
-use Rattle.encoding.specs.Faults.{refusal_line}
-use Rattle.maps.specs.declared.shapes.TheConstants.{MAX_ARG_LEN}
-use Rattle.verifier.specs.declared.refusal.Mode.{Mode}
-use Rattle.verifier.specs.declared.refusal.Mode.TheVariants.{Update, Read}
-use Rattle.verifier.specs.Accepted.{Checked}
-use Rattle.machine.specs.Effects.{Effect as RunEffect, effect, effect_of}
-use Rattle.machine.proofs.Export.{are_runs}
 use Rattle.text.specs.Lines.{lines_of, next_line}
 use Rattle.loader.specs.StoreState.{StoreState}
-use Rattle.loader.specs.CatalogueView.{CatalogueView, IsCatalogue, number_named, opened_on, opening_state, with_places}
-use Rattle.loader.specs.Installed.{installed_program}
-use Rattle.loader.specs.Loading.{Outcome as Loads}
+use Rattle.loader.specs.CatalogueView.{CatalogueView, IsCatalogue, opened_on, opening_state, with_places, sizes_for}
 use Rattle.loader.proofs.Export.{number_behind, numbered}
 use Rattle.dumps.specs.declared.refusals.DumpRefusal.{DumpRefusal}
 use Rattle.dumps.specs.Dumping.{dump}
-use Rattle.dumps.specs.Loading.{Outcome, after_lines, loaded_state}
-use Rattle.oplog.specs.Calls.{Call as TheCall, NewProgram}
-use Rattle.oplog.specs.Operations.{Operation}
+use Rattle.dumps.specs.Loading.{after_lines, loaded_state}
 use Rattle.oplog.specs.declared.configuration.TheConstants.{MAX_LIMIT}
-use Rattle.oplog.specs.declared.records.Op.TheVariants.{Run, Install as AnInstall}
-use Rattle.oplog.specs.declared.records.TheConstants.{MAX_INSTALLED_BYTES}
-use Rattle.oplog.specs.History.{Effect, History, effect_at, read_at}
-use Rattle.replica.specs.StoreMeaning.{AreUpdates, IsCall, IsInstallable, as_read, as_update, no_program, placed, placed_read, program_at, program_in, run_in, run_of, store_meaning}
-use Rattle.replica.specs.HistoryLaws.{HasNone, IsEffectOf}
-use Rattle.replica.specs.Refusals.{early_refusal, install_refusal, mode_refusal, offered_refusal, place_refusal, program_refusal, reading_refusal}
-use Rattle.replica.specs.declared.refusals.StoreRefused.{StoreRefused}
-use Rattle.replica.specs.declared.refusals.StoreRefused.TheVariants.{UnknownProgram, ArgumentLength, WrongMode, Ended, TooLarge, NotDecoded, NotAccepted}
-use Rattle.replica.proofs.Export.{are_tested, offered_below}
-use Rattle.scripts.specs.Script.{ProgramCall, Meaning, Comment, Call, InvokeAt, ReadAt, Install, line_meaning}
+use Rattle.oplog.specs.History.{History}
+use Rattle.scripts.specs.Script.{line_meaning}
 use Rattle.engine.specs.declared.parted.Destination.{Destination}
 use Rattle.engine.specs.declared.parted.Destination.TheVariants as destinations
 use Rattle.engine.specs.declared.parted.Parted.{Parted}
@@ -44,7 +21,7 @@ use Rattle.engine.specs.declared.performing.Performed.{Performed}
 use Rattle.engine.specs.declared.replies.Status.{Status}
 use Rattle.engine.specs.declared.replies.Status.TheVariants as statuses
 use Rattle.engine.specs.declared.replies.Verdict.TheVariants as verdicts
-use Rattle.engine.specs.Answer.{Answer, not_text, refusal_answer}
+use Rattle.engine.specs.Answer.{Answer, not_text}
 use Rattle.engine.specs.Opening.{opening_of}
 use Rattle.engine.specs.Parted.{PartedAnswer, sent_to, whole}
 use Rattle.engine.specs.Reading.{Given, first_stranger, limits_of}
@@ -55,17 +32,15 @@ use Rattle.engine.proofs.Export.{are_limits, on_loaded}
 use Rattle.running.specs.declared.single_node.TheConstants.{RUN_PLACES}
 use Rattle.running.specs.CalledRun.{refused_on}
 use Rattle.running.specs.KeptRun.{KeptRun, lines_left, script_kept, with_dump}
-use Rattle.running.specs.RunAnswer.{Turn, asked, bad_line, behind, called, install_text, installed, line_turn, lines_answer, numbered as numbered_turn, performed, read_text, refused, refused_text, state_of, submitted, taken, update_text, with_operation}
-use Rattle.running.specs.RunLaw.{AreCallsDone, AreRun, AreOne, Asks, AsksByName, BeginsOn, CallsAreUnique, IsDone, IsGoodRun, IsGoodText, IsHandedBack, IsRefusedCalls, IsRefusedRun, IsRefusedText, IsTurn, IsUnrun, IsWhole, RunIsUnique, by_number, dump_after, handed_back, with_signs}
-use Rattle.running.specs.RunLines.{HasOtherLength, IsWhy, IsWhyInstall, IsWhyNamed, IsWhySaid}
+use Rattle.running.specs.RunAnswer.{bad_line, behind, line_turn, lines_answer, state_of, taken}
+use Rattle.running.specs.RunLaw.{AreCallsDone, AreOne, BeginsOn, CallsAreUnique, IsGoodRun, IsGoodText, IsHandedBack, IsRefusedCalls, IsRefusedRun, IsRefusedText, IsUnrun, IsWhole, RunIsUnique, dump_after, handed_back, with_signs}
 use Rattle.running.proofs.OneTurn.{reaches, unequal}
-use Rattle.running.proofs.RunsOfLines.{has_effects, left_behind, line_turns_are_runs, loaded_is_catalogue, opened_is_catalogue}
+use Rattle.running.proofs.RunsOfLines.{loaded_is_catalogue, opened_is_catalogue}
 use Rattle.running.proofs.RunWrites.{good_answer, no_updates, signed_kept}
-use Rattle.running.proofs.Turns.{install_told, performed_by, update_told}
 
 -- ---- what a run begins on
 
-empty_is_new : (c : CatalogueView) (refusal : DumpRefusal) → loaded_state c.shapes RUN_PLACES [] ≡ Err refusal → ⊥
+empty_is_new : (c : CatalogueView) (refusal : DumpRefusal) → loaded_state (sizes_for (with_places c RUN_PLACES)) [] ≡ Err refusal → ⊥
 unfolding loaded_state after_lines
 empty_is_new c refusal e = cc
 
@@ -74,7 +49,7 @@ module _ (g : Given) where
   opens_as = opening_of (Some RUN_PLACES) (loads g) g.state
 
   abbrev by_length : CatalogueView → Bool → Result CatalogueView Answer
-  by_length loaded empty = if empty then Ok (with_places loaded RUN_PLACES) else on_loaded (with_places loaded RUN_PLACES) (loaded_state loaded.shapes RUN_PLACES g.state)
+  by_length loaded empty = if empty then Ok (with_places loaded RUN_PLACES) else on_loaded (with_places loaded RUN_PLACES) (loaded_state (sizes_for (with_places loaded RUN_PLACES)) g.state)
 
   some_length : g.state ≢ [] → eqb (length g.state) 0 ≡ false
   some_length some = by g.state some
@@ -90,7 +65,7 @@ module _ (g : Given) where
   begins _ (BeginsOn.new loaded is empty) =
       (is_placed loaded is, ap (λ o. opening_of (Some RUN_PLACES) o g.state) is ∙ ap (by_length loaded) (ap (λ (x : List ℕ). eqb (length x) 0) empty))
   begins _ (BeginsOn.given loaded state is some said) =
-      let opened : on_loaded (with_places loaded RUN_PLACES) (loaded_state loaded.shapes RUN_PLACES g.state) ≡ Ok (opened_on (with_places loaded RUN_PLACES) state) = ap (on_loaded (with_places loaded RUN_PLACES)) said in (
+      let opened : on_loaded (with_places loaded RUN_PLACES) (loaded_state (sizes_for (with_places loaded RUN_PLACES)) g.state) ≡ Ok (opened_on (with_places loaded RUN_PLACES) state) = ap (on_loaded (with_places loaded RUN_PLACES)) said in (
         opened_is_catalogue (with_places loaded RUN_PLACES) (opened_on (with_places loaded RUN_PLACES) state) g.state (is_placed loaded is) opened,
         ap (λ o. opening_of (Some RUN_PLACES) o g.state) is ∙ ap (by_length loaded) (some_length some) ∙ opened,
       )
@@ -115,9 +90,9 @@ module _ (g : Given) where
     strange : (s : List ℕ × List ℕ) → first_stranger g ≡ Some s → text ≡ codes "not UTF-8\n" → Stops text
     barred : AreTexts g → opens_as ≡ Err (bad text) → Stops text
 
-  state_refused : (loaded : CatalogueView) (refusal : DumpRefusal) → AreTexts g → loads g ≡ Ok loaded → loaded_state loaded.shapes RUN_PLACES g.state ≡ Err refusal → Stops (refusal_text refusal)
+  state_refused : (loaded : CatalogueView) (refusal : DumpRefusal) → AreTexts g → loads g ≡ Ok loaded → loaded_state (sizes_for (with_places loaded RUN_PLACES)) g.state ≡ Err refusal → Stops (refusal_text refusal)
   state_refused loaded refusal texts is said =
-      let some : g.state ≢ [] = λ empty. empty_is_new loaded refusal (ap (loaded_state loaded.shapes RUN_PLACES) (sym empty) ∙ said) in
+      let some : g.state ≢ [] = λ empty. empty_is_new loaded refusal (ap (loaded_state (sizes_for (with_places loaded RUN_PLACES))) (sym empty) ∙ said) in
       Stops.barred texts (ap (λ o. opening_of (Some RUN_PLACES) o g.state) is ∙ ap (by_length loaded) (some_length some) ∙ ap (on_loaded (with_places loaded RUN_PLACES)) said)
 
   stops : (text : List ℕ) → IsUnrun g text → Stops text

@@ -1,34 +1,25 @@
 -- What the law of a run says of lines allows one turn of each only: each relation in it is that of a function.
-use Rattle.std.proofs.Common.{◌≡◌, ◌≢◌, ◌⊎◌, inl, inr, ℕ, ◌+◌, ◌-◌, ◌^◌, ◌<◌, ◌≤◌, min, Bool, true, false, cond, eqb, leb, ltb, List, [], ◌∷◌, ◌++◌, length, codes, Option, Some, None, Result, Ok, Err, refl, sym, ap, ap₂, subst, ◌∙◌, append_assoc, append-nil, arith}
+use Rattle.std.proofs.Common.{◌≡◌, ◌≢◌, inl, inr, ℕ, ◌+◌, ◌<◌, ◌≤◌, Bool, true, false, cond, eqb, leb, ltb, List, [], ◌∷◌, ◌++◌, length, Option, Some, None, Ok, refl, sym, ap, subst, ◌∙◌, append_assoc, arith}
 use Rattle.std.specs.Prelude.{◌&&◌, nat_lt, nat_le, option_and_then, option_map, if◌then◌else◌}
 use Rattle.std.specs.Option.{option_map_or}
-use Rattle.std.proofs.lemmas.Bool.{lt-ltb, eq-eqb, false≢true}
+use Rattle.std.proofs.lemmas.Bool.{lt-ltb, eq-eqb}
 use Rattle.std.proofs.lemmas.Bool.Decides.{nat_tests}
 use Rattle.std.proofs.lemmas.List.{length-append}
 use Rattle.std.proofs.lemmas.Option.{same_Some}
-use Rattle.encoding.specs.declared.faults.EncodeRefusal.{EncodeRefusal}
-use Rattle.encoding.specs.Encoded.{encoded_text}
-use Rattle.encoding.specs.Faults.{refusal_line}
-use Rattle.maps.specs.declared.shapes.TheConstants.{MAX_ARG_LEN}
 use Rattle.verifier.specs.declared.refusal.Mode.{Mode}
 use Rattle.verifier.specs.declared.refusal.Mode.TheVariants.{Update, Read}
 use Rattle.verifier.specs.Accepted.{Checked}
 use Rattle.machine.specs.Effects.{Effect as RunEffect, effect, effect_of}
 use Rattle.machine.proofs.Export.{are_runs}
-use Rattle.text.specs.Lines.{lines_of, next_line}
+use Rattle.text.specs.Lines.{next_line}
 use Rattle.loader.specs.StoreState.{StoreState}
-use Rattle.loader.specs.CatalogueView.{CatalogueView, IsCatalogue, number_named, opened_on, opening_state, with_places}
-use Rattle.loader.specs.Installed.{installed_program}
-use Rattle.loader.specs.Loading.{Outcome as Loads}
-use Rattle.loader.proofs.Export.{number_behind, numbered}
-use Rattle.dumps.specs.declared.refusals.DumpRefusal.{DumpRefusal}
-use Rattle.dumps.specs.Dumping.{dump}
-use Rattle.dumps.specs.Loading.{Outcome, after_lines, loaded_state}
+use Rattle.loader.specs.CatalogueView.{CatalogueView, IsCatalogue}
+use Rattle.loader.specs.Installed.{installed_program, most_argument}
+use Rattle.loader.proofs.Export.{number_behind}
 use Rattle.oplog.specs.Calls.{Call as TheCall, NewProgram}
 use Rattle.oplog.specs.Operations.{Operation}
 use Rattle.oplog.specs.declared.configuration.TheConstants.{MAX_LIMIT}
 use Rattle.oplog.specs.declared.records.Op.TheVariants.{Run, Install as AnInstall}
-use Rattle.oplog.specs.declared.records.TheConstants.{MAX_INSTALLED_BYTES}
 use Rattle.oplog.specs.History.{Effect, History, effect_at, read_at}
 use Rattle.replica.specs.StoreMeaning.{AreUpdates, IsCall, IsInstallable, as_read, as_update, no_program, placed, placed_read, program_at, program_in, run_in, run_of, store_meaning}
 use Rattle.replica.specs.HistoryLaws.{HasNone, IsEffectOf}
@@ -37,29 +28,11 @@ use Rattle.replica.specs.declared.refusals.StoreRefused.{StoreRefused}
 use Rattle.replica.specs.declared.refusals.StoreRefused.TheVariants.{UnknownProgram, ArgumentLength, WrongMode, Ended, TooLarge, NotDecoded, NotAccepted}
 use Rattle.replica.proofs.Export.{are_tested, offered_below}
 use Rattle.scripts.specs.Script.{ProgramCall, Meaning, Comment, Call, InvokeAt, ReadAt, Install, line_meaning}
-use Rattle.engine.specs.declared.parted.Destination.{Destination}
-use Rattle.engine.specs.declared.parted.Destination.TheVariants as destinations
-use Rattle.engine.specs.declared.parted.Parted.{Parted}
-use Rattle.engine.specs.declared.performing.Performed.{Performed}
-use Rattle.engine.specs.declared.replies.Status.{Status}
-use Rattle.engine.specs.declared.replies.Status.TheVariants as statuses
-use Rattle.engine.specs.declared.replies.Verdict.TheVariants as verdicts
-use Rattle.engine.specs.Answer.{Answer, not_text, refusal_answer}
-use Rattle.engine.specs.Opening.{opening_of}
-use Rattle.engine.specs.Parted.{PartedAnswer, sent_to, whole}
-use Rattle.engine.specs.Reading.{Given, first_stranger, limits_of}
-use Rattle.engine.specs.Status.{status_of}
-use Rattle.engine.specs.StateAnswer.{refusal_text}
-use Rattle.engine.specs.Written.{AreTexts, IsWritten, loads}
-use Rattle.engine.proofs.Export.{are_limits, on_loaded}
-use Rattle.running.specs.declared.single_node.TheConstants.{RUN_PLACES}
-use Rattle.running.specs.CalledRun.{refused_on}
-use Rattle.running.specs.KeptRun.{KeptRun, lines_left, script_kept, with_dump}
-use Rattle.running.specs.RunAnswer.{Turn, asked, bad_line, behind, called, install_text, installed, line_turn, lines_answer, numbered as numbered_turn, performed, read_text, refused, refused_text, state_of, submitted, taken, update_text, with_operation}
-use Rattle.running.specs.RunLaw.{AreCallsDone, AreRun, AreOne, Asks, AsksByName, BeginsOn, CallsAreUnique, IsDone, IsGoodRun, IsGoodText, IsHandedBack, IsRefusedCalls, IsRefusedRun, IsRefusedText, IsTurn, IsUnrun, IsWhole, RunIsUnique, by_number, dump_after, handed_back, with_signs}
+use Rattle.running.specs.KeptRun.{lines_left}
+use Rattle.running.specs.RunAnswer.{Turn, asked, bad_line, behind, called, install_text, installed, line_turn, lines_answer, numbered as numbered_turn, performed, read_text, refused, state_of, submitted, taken, update_text, with_operation}
+use Rattle.running.specs.RunLaw.{AreRun, Asks, AsksByName, IsTurn}
 use Rattle.running.specs.RunLines.{HasOtherLength, IsWhy, IsWhyInstall, IsWhyNamed, IsWhySaid}
-use Rattle.running.proofs.RunsOfLines.{has_effects, left_behind, line_turns_are_runs, loaded_is_catalogue, opened_is_catalogue}
-use Rattle.running.proofs.RunWrites.{good_answer, no_updates, signed_kept}
+use Rattle.running.proofs.RunsOfLines.{has_effects, left_behind, line_turns_are_runs}
 use Rattle.running.proofs.Turns.{install_told, performed_by, update_told}
 
 -- ---- tests of numbers
@@ -107,7 +80,7 @@ module _ (c : CatalogueView) (mode : Mode) (call : TheCall) where
   early = early_refusal c mode call.program call.argument
 
   abbrev behind_programs : Option StoreRefused
-  behind_programs = if nat_lt call.program (length c.programs + c.places) then place_refusal call.argument else Some UnknownProgram
+  behind_programs = if nat_lt call.program (length c.programs + c.places) then place_refusal c call.argument else Some UnknownProgram
 
   of_program : (p : Checked) → program_at c call.program ≡ Some p → early ≡ program_refusal mode call.argument (Some p)
   of_program p named =
@@ -119,12 +92,12 @@ module _ (c : CatalogueView) (mode : Mode) (call : TheCall) where
 
   is_beyond : length c.programs + c.places ≤ call.program → early ≡ Some UnknownProgram
   is_beyond beyond =
-      of_place (omega (arith, beyond)) ∙ ap (λ b. if b then place_refusal call.argument else Some UnknownProgram) (not_below _ _ beyond)
+      of_place (omega (arith, beyond)) ∙ ap (λ b. if b then place_refusal c call.argument else Some UnknownProgram) (not_below _ _ beyond)
 
   is_long : HasOtherLength c call → early ≡ Some ArgumentLength
   is_long (inl (p, named, other)) = of_program p named ∙ ap (λ b. if b then mode_refusal mode p.mode else Some ArgumentLength) (unequal _ _ other)
   is_long (inr (beyond, within, long)) =
-      of_place beyond ∙ ap (λ b. if b then place_refusal call.argument else Some UnknownProgram) (lt-ltb _ _ within)
+      of_place beyond ∙ ap (λ b. if b then place_refusal c call.argument else Some UnknownProgram) (lt-ltb _ _ within)
       ∙ ap (λ b. if b then None else Some ArgumentLength) (above _ _ long)
 
   is_wrong : (p : Checked) → program_at c call.program ≡ Some p → length call.argument ≡ p.arg_len → p.mode ≢ mode → early ≡ Some WrongMode
@@ -136,7 +109,7 @@ module _ (c : CatalogueView) (mode : Mode) (call : TheCall) where
       of_program is.program is.named ∙ ap (λ b. if b then mode_refusal mode is.program.mode else Some ArgumentLength) (eq-eqb _ _ is.length_is)
       ∙ ap (mode_refusal mode) is.mode_is ∙ right mode
   goes_on (inr is) =
-      of_place is.behind ∙ ap (λ b. if b then place_refusal call.argument else Some UnknownProgram) (lt-ltb _ _ is.within)
+      of_place is.behind ∙ ap (λ b. if b then place_refusal c call.argument else Some UnknownProgram) (lt-ltb _ _ is.within)
       ∙ ap (λ b. if b then None else Some ArgumentLength) (at_most _ _ is.short)
 
   -- of a program the argument has its length
@@ -212,14 +185,14 @@ module _ (limit : ℕ) (c : CatalogueView) (is_whole : IsCatalogue c) (h : Histo
       ap (λ o. option_map_or (numbered_turn limit c h call.argument) o (refused h UnknownProgram)) number
       ∙ why_short (record { program = k; argument = call.argument }) p named why is
 
-  install_refuses : (new : NewProgram) (why : StoreRefused) → install_refusal c.shapes new ≡ Some why → installed limit c h new ≡ refused h why
+  install_refuses : (new : NewProgram) (why : StoreRefused) → install_refusal c.shapes c.long new ≡ Some why → installed limit c h new ≡ refused h why
   install_refuses new why e = ap (λ o. option_map_or (refused h) o (submitted limit install_told c h (AnInstall new))) e
 
   install_goes : (new : NewProgram) (p : Checked) → IsInstallable c new → installed_program c.shapes new.mode new.arg_len new.bytes ≡ Ok p
       → installed limit c h new ≡ submitted limit install_told c h (AnInstall new)
   install_goes new p is read =
       ap (λ o. option_map_or (refused h) o (submitted limit install_told c h (AnInstall new)))
-      (ap (λ b. if b && nat_le new.arg_len MAX_ARG_LEN then reading_refusal (installed_program c.shapes new.mode new.arg_len new.bytes) else Some TooLarge) (at_most _ _ is.few)
+      (ap (λ b. if b && nat_le new.arg_len (most_argument c.long) then reading_refusal (installed_program c.shapes new.mode new.arg_len new.bytes) else Some TooLarge) (at_most _ _ is.few)
       ∙ ap (λ b. if b then reading_refusal (installed_program c.shapes new.mode new.arg_len new.bytes) else Some TooLarge) (at_most _ _ is.argument) ∙ ap reading_refusal read)
 
   why_install : (new : NewProgram) (why : StoreRefused) → IsWhyInstall limit c (length h) new why → installed limit c h new ≡ refused h why

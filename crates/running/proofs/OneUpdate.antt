@@ -1,5 +1,5 @@
 -- One update of a node: the record is appended, copied and replayed.
-use Rattle.std.proofs.Common.{◌≡◌, zero, suc, ◌+◌, ◌-◌, ◌<◌, ◌≤◌, true, [], ◌∷◌, length, Option, Some, None, slice_get, sym, ap, subst, ◌∙◌, arith, lit<}
+use Rattle.std.proofs.Common.{◌≡◌, zero, suc, ◌+◌, ◌-◌, ◌<◌, ◌≤◌, true, [], ◌∷◌, length, Option, Some, slice_get, sym, ap, subst, ◌∙◌, arith, lit<}
 use Rattle.std.specs.Prelude.{IfSome, IfNone}
 use Rattle.std.proofs.lemmas.List.{length-append}
 use Rattle.std.proofs.lemmas.Option.{same_Some}
@@ -21,7 +21,7 @@ use Rattle.replica.specs.Replaying.{IsAnswered, KeepsOutcomes}
 use Rattle.node.specs.declared.following.NodeReplica.{NodeReplica}
 use Rattle.node.specs.Following.{IsNext, room_for, grown, copied, replies_for, replayed, told}
 use Rattle.running.specs.declared.single_node.SingleNode.{SingleNode}
-use Rattle.running.specs.Running.{IsSteady, IsUpdated, HasEnded}
+use Rattle.running.specs.Running.{IsUpdated}
 
 only_one : (c : CatalogueView) (r : Record) → is_operation Update c r.op ≡ true → AreUpdates c (r ∷ [])
 only_one c r is zero s e = subst (λ x. is_operation Update c x.op ≡ true) (same_Some r s e) is

@@ -12,7 +12,7 @@ use Rattle.encoding.specs.Faults.{refusal_line}
 use Rattle.verifier.specs.declared.refusal.Mode.TheVariants.{Update, Read}
 use Rattle.text.specs.Lines.{lines_of, next_line}
 use Rattle.loader.specs.StoreState.{StoreState}
-use Rattle.loader.specs.CatalogueView.{CatalogueView, IsCatalogue, opened_on, with_places}
+use Rattle.loader.specs.CatalogueView.{CatalogueView, IsCatalogue, opened_on, with_places, sizes_for}
 use Rattle.loader.specs.Loading.{Outcome as Loads}
 use Rattle.loader.proofs.Export.{number_behind, numbered}
 use Rattle.dumps.specs.Dumping.{dump}
@@ -219,11 +219,11 @@ module _ (g : Given) (texts : AreTexts g) where
     is_placed : IsCatalogue placed
     is_placed = loaded_is_catalogue (limits_of g.sizes) g.manifest _ loaded RUN_PLACES (are_limits g.sizes) is (omega arith)
 
-    by_state : (o : Outcome) → (g.state ≡ [] → ⊥) → loaded_state loaded.shapes RUN_PLACES g.state ≡ o → OpeningIs (on_loaded placed o)
+    by_state : (o : Outcome) → (g.state ≡ [] → ⊥) → loaded_state (sizes_for (with_places loaded RUN_PLACES)) g.state ≡ o → OpeningIs (on_loaded placed o)
     by_state (Ok s) some said = (opened_is_catalogue placed (opened_on placed s) g.state is_placed (ap (on_loaded placed) said), BeginsOn.given loaded s is some said)
     by_state (Err e) some said = (refusal_text e, IsUnrun.state loaded e texts is said, refl)
 
-    by_length : (b : Bool) → eqb (length g.state) 0 ≡ b → OpeningIs (if b then Ok placed else on_loaded placed (loaded_state loaded.shapes RUN_PLACES g.state))
+    by_length : (b : Bool) → eqb (length g.state) 0 ≡ b → OpeningIs (if b then Ok placed else on_loaded placed (loaded_state (sizes_for (with_places loaded RUN_PLACES)) g.state))
     by_length true empty = (is_placed, BeginsOn.new loaded is (nil_from_length g.state (eqb-true _ _ empty)))
     by_length false some = by_state _ (λ empty. false≢true (sym some ∙ ap (λ (x : List ℕ). eqb (length x) 0) empty)) refl
 

@@ -19,8 +19,7 @@ use Rattle.text.specs.Fields.{split_at_space}
 use Rattle.text.specs.Words.{is_name, number_of}
 use Rattle.text.specs.Digits.{good, field_bytes}
 use Rattle.text.proofs.Export.{IsSilent, by_kind_from, steps, where_true}
-use Rattle.maps.specs.declared.shapes.TheConstants.{MAX_ARG_LEN}
-use Rattle.loader.specs.Installed.{installed_program}
+use Rattle.loader.specs.Installed.{installed_program, most_argument, most_bytes}
 use Rattle.loader.specs.declared.installed.InstallRefusal.{InstallRefusal}
 use Rattle.loader.specs.declared.installed.InstallRefusal.TheVariants.{Decode, Verify}
 use Rattle.loader.specs.CatalogueView.{CatalogueView, Entry, IsCatalogue, number_named, opened_on, opening_state, sizes_for, with_places}
@@ -40,7 +39,6 @@ use Rattle.oplog.specs.declared.records.Op.TheVariants.{Run, Install as AnInstal
 use Rattle.oplog.specs.History.{Effect, ReadEffect, History, left_by, after, state_after, effect_at, read_at}
 use Rattle.replica.specs.StoreMeaning.{program_at, program_in, is_operation, AreUpdates, store_meaning}
 use Rattle.replica.specs.HistoryLaws.{IsEffectOf, HasEffects}
-use Rattle.oplog.specs.declared.records.TheConstants.{MAX_INSTALLED_BYTES}
 use Rattle.replica.specs.Refusals.{mode_refusal, program_refusal, offered_refusal, place_refusal, early_refusal, reading_refusal, install_refusal}
 use Rattle.replica.specs.declared.refusals.StoreRefused.{StoreRefused}
 use Rattle.replica.specs.declared.refusals.StoreRefused.TheVariants.{UnknownProgram, ArgumentLength, WrongMode, Ended, TooLarge, NotDecoded, NotAccepted}
@@ -261,29 +259,29 @@ module _ (c : CatalogueView) (is_whole : IsCatalogue c) (h : History) (updates :
       why_program None named below e = absurd (none_below c call.program below named)
       why_program (Some p) named below e = short_or p named (eqb (length call.argument) p.arg_len) refl e
 
-      why_long : (b : Bool) → leb (length call.argument) MAX_ARG_LEN ≡ b → length c.programs ≤ call.program → call.program < length c.programs + c.places → (if b then None else Some ArgumentLength) ≡ Some why → Why
+      why_long : (b : Bool) → leb (length call.argument) (most_argument c.long) ≡ b → length c.programs ≤ call.program → call.program < length c.programs + c.places → (if b then None else Some ArgumentLength) ≡ Some why → Why
       why_long true short behind within e = absurd cc
       why_long false short behind within e =
           let same : ArgumentLength ≡ why = cc in
           subst (IsWhy limit c (length h) mode call) same (inr (behind, within, leb-false _ _ short))
 
-      why_place : (b : Bool) → ltb call.program (length c.programs + c.places) ≡ b → length c.programs ≤ call.program → (if b then place_refusal call.argument else Some UnknownProgram) ≡ Some why → Why
-      why_place true within behind e = why_long (leb (length call.argument) MAX_ARG_LEN) refl behind (ltb-true _ _ within) e
+      why_place : (b : Bool) → ltb call.program (length c.programs + c.places) ≡ b → length c.programs ≤ call.program → (if b then place_refusal c call.argument else Some UnknownProgram) ≡ Some why → Why
+      why_place true within behind e = why_long (leb (length call.argument) (most_argument c.long)) refl behind (ltb-true _ _ within) e
       why_place false within behind e = let same : UnknownProgram ≡ why = cc in subst (IsWhy limit c (length h) mode call) same (ltb-false _ _ within)
 
       why_number : (b : Bool) → ltb call.program (length c.programs) ≡ b
-          → (if b then offered_refusal c mode call.program call.argument else if nat_lt call.program (length c.programs + c.places) then place_refusal call.argument else Some UnknownProgram) ≡ Some why → Why
+          → (if b then offered_refusal c mode call.program call.argument else if nat_lt call.program (length c.programs + c.places) then place_refusal c call.argument else Some UnknownProgram) ≡ Some why → Why
       why_number true below e = why_program (program_at c call.program) refl (ltb-true _ _ below) e
       why_number false below e = why_place (ltb call.program (length c.programs + c.places)) refl (ltb-false _ _ below) e
 
       why_early : early_refusal c mode call.program call.argument ≡ Some why → Why
       why_early e = why_number (ltb call.program (length c.programs)) refl e
 
-    why_install : (new : NewProgram) (why : StoreRefused) → install_refusal c.shapes new ≡ Some why → IsWhyInstall limit c (length h) new why
+    why_install : (new : NewProgram) (why : StoreRefused) → install_refusal c.shapes c.long new ≡ Some why → IsWhyInstall limit c (length h) new why
     why_install new UnknownProgram e = e
     why_install new ArgumentLength e = e
     why_install new WrongMode e = e
-    why_install new Ended e = absurd (install_goes_on (leb (length new.bytes) MAX_INSTALLED_BYTES && leb new.arg_len MAX_ARG_LEN) (installed_program c.shapes new.mode new.arg_len new.bytes) e)
+    why_install new Ended e = absurd (install_goes_on (leb (length new.bytes) (most_bytes c.long) && leb new.arg_len (most_argument c.long)) (installed_program c.shapes new.mode new.arg_len new.bytes) e)
     why_install new TooLarge e = e
     why_install new (NotDecoded why) e = e
     why_install new (NotAccepted why) e = e
@@ -311,7 +309,7 @@ module _ (c : CatalogueView) (is_whole : IsCatalogue c) (h : History) (updates :
     read_goes call bytes (Some why) e = (inl (stops (IsWhy limit c (length h) Read call) why (why_early Read call why e)), updates)
     read_goes call bytes None e = (inr (read_turn call (is_asked Read c call.program call.argument e bytes)), updates)
 
-    install_goes : (new : NewProgram) → AreBytes new.bytes → (o : Option StoreRefused) → install_refusal c.shapes new ≡ o
+    install_goes : (new : NewProgram) → AreBytes new.bytes → (o : Option StoreRefused) → install_refusal c.shapes c.long new ≡ o
         → Goes (Install new) (option_map_or (refused h) o (submitted limit install_told c h (AnInstall new)))
     install_goes new bytes (Some why) e = (inl (stops (IsWhyInstall limit c (length h) new) why (why_install new why e)), updates)
     install_goes new bytes None e = by_room (ltb (length h) limit) refl
@@ -373,7 +371,7 @@ module _ (c : CatalogueView) (is_whole : IsCatalogue c) (h : History) (updates :
     goes (Call call) bytes = by_number call bytes (number_named c.programs call.name) refl
     goes (InvokeAt call) bytes = invoke_goes call bytes (early_refusal c Update call.program call.argument) refl
     goes (ReadAt call) bytes = read_goes call bytes (early_refusal c Read call.program call.argument) refl
-    goes (Install new) bytes = install_goes new bytes (install_refusal c.shapes new) refl
+    goes (Install new) bytes = install_goes new bytes (install_refusal c.shapes c.long new) refl
 
 -- ---- the lines
 
@@ -405,7 +403,7 @@ loaded_catalogue l text files c ok e =
 
 -- a catalogue with so many places is one
 placed_catalogue : (c : CatalogueView) (places : ℕ) → IsCatalogue c → places ≤ MOST_SPARE → IsCatalogue (with_places c places)
-placed_catalogue c places is few = record { shapes = is.shapes; accepted = is.accepted; checked = is.checked; distinct = is.distinct; few = is.few; few_places = few; opening = tt }
+placed_catalogue c places is few = record { shapes = is.shapes; accepted = is.accepted; checked = is.checked; distinct = is.distinct; few = is.few; few_places = few; few_bytes = omega arith; opening = tt }
 
 pub line_turns_are_runs : LineTurnsAreRuns
 unfolding line_turn
@@ -421,7 +419,7 @@ pub loaded_is_catalogue : LoadedIsCatalogue
 loaded_is_catalogue l manifest files c places ok e few = placed_catalogue c places (loaded_catalogue l manifest files c ok e) few
 
 pub opened_is_catalogue : OpenedIsCatalogue
-opened_is_catalogue c on state is e = by (loaded_state c.shapes c.places state) refl e
+opened_is_catalogue c on state is e = by (loaded_state (sizes_for c) state) refl e
   where
     opened : (s : StoreState) → IsState (sizes_for c) s → IsCatalogue (opened_on c s)
     opened s has = record {
@@ -431,11 +429,12 @@ opened_is_catalogue c on state is e = by (loaded_state c.shapes c.places state) 
       distinct = is.distinct;
       few = is.few;
       few_places = is.few_places;
-      opening = record { maps = has.maps; places = refl; programs = has.programs };
+      few_bytes = is.few_bytes;
+      opening = record { maps = has.maps; places = refl; long = refl; programs = has.programs };
     }
 
-    by : (o : Outcome) → loaded_state c.shapes c.places state ≡ o → on_loaded c o ≡ Ok on → IsCatalogue on
+    by : (o : Outcome) → loaded_state (sizes_for c) state ≡ o → on_loaded c o ≡ Ok on → IsCatalogue on
     by (Err refusal) read h = absurd cc
     by (Ok s) read h =
         let same : opened_on c s ≡ on = cc in
-        subst IsCatalogue same (opened s (loaded_is_state c.shapes c.places is.shapes state s is.few_places read))
+        subst IsCatalogue same (opened s (loaded_is_state (sizes_for c) is.shapes is.few_bytes state s is.few_places read))

@@ -74,7 +74,7 @@ module _ (c : CatalogueView) (h : History) where
     grows (Call call) = numbered_grows call.argument (number_named c.programs call.name)
     grows (InvokeAt call) = unless_grows (performed limit c h (Run call) Update) (early_refusal c Update call.program call.argument) (performed_grows (Run call) Update)
     grows (ReadAt call) = unless_grows (performed limit c h (Run call) Read) (early_refusal c Read call.program call.argument) (performed_grows (Run call) Read)
-    grows (Install new) = unless_grows (submitted limit install_told c h (AnInstall new)) (install_refusal c.shapes new) (submitted_grows install_told (AnInstall new))
+    grows (Install new) = unless_grows (submitted limit install_told c h (AnInstall new)) (install_refusal c.shapes c.long new) (submitted_grows install_told (AnInstall new))
 
   -- ---- and does the same under both limits
 
@@ -120,7 +120,7 @@ module _ (c : CatalogueView) (h : History) where
     alike (Call call) within = numbered_alike call.argument (number_named c.programs call.name) within
     alike (InvokeAt call) within = unless_alike _ _ (early_refusal c Update call.program call.argument) (performed_alike (Run call) Update) within
     alike (ReadAt call) within = refl
-    alike (Install new) within = unless_alike _ _ (install_refusal c.shapes new) (submitted_alike install_told (AnInstall new)) within
+    alike (Install new) within = unless_alike _ _ (install_refusal c.shapes c.long new) (submitted_alike install_told (AnInstall new)) within
 
 -- ---- the lines
 

@@ -113,7 +113,7 @@ module _ (limit : ℕ) where
   asked c history mode call = option_map_or (refused history) (early_refusal c mode call.program call.argument) (performed c history (Run call) mode)
 
   abbrev pub installed : CatalogueView → History → NewProgram → Turn
-  installed c history new = option_map_or (refused history) (install_refusal c.shapes new) (submitted (λ index e. install_text index e.reply) c history (AnInstall new))
+  installed c history new = option_map_or (refused history) (install_refusal c.shapes c.long new) (submitted (λ index e. install_text index e.reply) c history (AnInstall new))
 
   -- by what the line says
   abbrev pub taken : CatalogueView → History → Meaning → Turn

@@ -4,11 +4,10 @@ use Rattle.verifier.specs.declared.refusal.Mode.{Mode}
 use Rattle.verifier.specs.declared.refusal.Mode.TheVariants.{Update, Read}
 use Rattle.verifier.specs.Accepted.{Checked}
 use Rattle.machine.specs.Effects.{IsRun, Effect as RunEffect}
-use Rattle.maps.specs.declared.shapes.TheConstants.{MAX_ARG_LEN}
 use Rattle.text.specs.Lines.{next_line}
 use Rattle.loader.specs.CatalogueView.{CatalogueView, IsCatalogue, number_named, with_places}
 use Rattle.loader.specs.declared.installed.TheConstants.{MOST_SPARE}
-use Rattle.loader.specs.Installed.{installed_program}
+use Rattle.loader.specs.Installed.{installed_program, most_argument}
 use Rattle.loader.specs.ProgramFiles.{Files}
 use Rattle.maps.specs.declared.shapes.MapLimits.{MapLimits}
 use Rattle.maps.specs.Shapes.{AreLimits}
@@ -44,7 +43,7 @@ pub record CallRuns (c : CatalogueView) (h : History) (call : TheCall) (mode : M
 abbrev pub HasOtherLength : CatalogueView → TheCall → Type 0
 HasOtherLength c call =
     ((p : Checked) × (program_at c call.program ≡ Some p) × (length call.argument ≢ p.arg_len))
-    ⊎ ((length c.programs ≤ call.program) × (call.program < length c.programs + c.places) × (MAX_ARG_LEN < length call.argument))
+    ⊎ ((length c.programs ≤ call.program) × (call.program < length c.programs + c.places) × (most_argument c.long < length call.argument))
 
 -- ---- turns
 
@@ -87,7 +86,7 @@ module _ (limit : ℕ) where
   -- an install: by its bytes and the length of its argument, S6, S7 or S8, or where nothing else refuses it S4
   abbrev pub IsWhyInstall : CatalogueView → ℕ → NewProgram → StoreRefused → Type 0
   IsWhyInstall c updates new Ended = IsOperation Update c (AnInstall new) × (limit ≤ updates)
-  IsWhyInstall c updates new why = install_refusal c.shapes new ≡ Some why
+  IsWhyInstall c updates new why = install_refusal c.shapes c.long new ≡ Some why
 
   -- for such a reason a line that says this is refused: a call by the name or by the number of its program, or an install
   abbrev pub IsWhySaid : CatalogueView → ℕ → Meaning → StoreRefused → Type 0

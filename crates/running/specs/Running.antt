@@ -4,7 +4,7 @@ use Rattle.std.specs.Option.{option_map_or}
 use Rattle.verifier.specs.declared.refusal.Mode.{Mode}
 use Rattle.loader.specs.StoreState.{StoreState, sizes_of}
 use Rattle.machine.specs.declared.running.Outcome.{Outcome}
-use Rattle.loader.specs.CatalogueView.{CatalogueView, longest_argument, sizes_for, opening_state}
+use Rattle.loader.specs.CatalogueView.{CatalogueView, longest_part, sizes_for, opening_state}
 use Rattle.oplog.specs.Operations.{Operation}
 use Rattle.oplog.specs.Logs.{tail_of}
 use Rattle.oplog.specs.History.{Effect, History, after}
@@ -21,17 +21,17 @@ use Rattle.running.specs.Signed.{signed_text}
 use Rattle.running.specs.KeptRun.{KeptRun}
 
 -- the whole history is completed, and the replica has applied it; the log's base is the replica's state where it is as far. There is room
--- for the longest argument, and for the next record
+-- for what is too long for a record, and for the next record
 pub record IsSteady (c : CatalogueView) (n : SingleNode) : Type 0 where
   pub completed : n.log.done ≡ tail_of n.log
   pub base_sizes : sizes_of n.log.base_state ≡ sizes_for c
   pub base : n.log.base ≡ n.own.replica.tail → n.log.base_state ≡ n.own.replica.state
   pub window : n.own.hand.window ≡ n.log.window
-  pub long : (n.log.long ≡ longest_argument c) × (n.own.hand.long ≡ n.log.long)
+  pub long : (n.log.long ≡ longest_part c) × (n.own.hand.long ≡ n.log.long)
   pub next : (n.next.long ≡ n.log.long) × (n.next.room ≡ 1)
   pub tail : n.own.replica.tail ≡ tail_of n.log
   pub sizes : sizes_of n.own.replica.state ≡ sizes_for c
-  pub room : IsRoomFor c.shapes n.room
+  pub room : IsRoomFor c.shapes c.long n.room
 
 -- the node has this history behind it, of so many updates at most: their number, and the state that they leave
 pub record Follows (limit : ℕ) (c : CatalogueView) (h : History) (n : SingleNode) : Type 0 where

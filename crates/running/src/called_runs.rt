@@ -7,13 +7,14 @@ ghost use Rattle.running.specs.CalledRun.{called_run, calls_refused};
 
 use crate::dumped_runs::DumpedRun;
 use crate::single_node::RUN_PLACES;
-use dumps::Watcher;
 use encoding::{EncodeError, EncodeRefusal, encode, refusal_line};
-use engine::{Command, Gathered, Notes, Opened, Parted, Reply, Texts, not_text, open_texts};
+use engine::{
+    Command, Gathered, Notes, Opened, Parted, Reply, StoreWatcher, Texts, not_text, open_texts,
+};
 use std::alloc::{AllocError, Global};
 
 // What is answered to calls that are refused, where manifest and state are good.
-fn refused<V: Watcher>(
+fn refused<V: StoreWatcher>(
     alloc: Global,
     texts: &Texts,
     refusal: EncodeRefusal,
@@ -36,7 +37,7 @@ pub struct CalledRun<'w, V> {
     pub run: DumpedRun<'w, V>,
 }
 
-impl<V: Watcher> Command for CalledRun<'_, V> {
+impl<V: StoreWatcher> Command for CalledRun<'_, V> {
     type Made = Parted;
 
     ghost may_make = { λ c t p. parted_of p ≡ called_run c.run.run.is_signed c.run.dump t };

@@ -140,13 +140,10 @@ fn run_install(
 {
     let index = node.tail();
     match node.check(catalogue, text) {
-        Ok(program) => {
-            let install = OpRef::install(program.mode(), program.arg_len(), program.bytes());
-            match node.submit(catalogue, &install) {
-                Some(outcome) => put_install(out, index, outcome),
-                None => put_refused(out, StoreRefused::Ended),
-            }
-        }
+        Ok(install) => match node.submit(catalogue, &install) {
+            Some(outcome) => put_install(out, index, outcome),
+            None => put_refused(out, StoreRefused::Ended),
+        },
         Err(refused) => put_refused(out, refused),
     }
 }

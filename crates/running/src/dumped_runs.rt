@@ -5,8 +5,7 @@ ghost use Rattle.engine.specs.Parted.{parted_of};
 ghost use Rattle.running.specs.KeptRun.{dumped_run, kept_of, with_dump};
 
 use crate::runs::{Kept, Run};
-use dumps::Watcher;
-use engine::{Command, Destination, Gathered, Notes, Parted};
+use engine::{Command, Destination, Gathered, Notes, Parted, StoreWatcher};
 use std::alloc::{AllocError, Global};
 
 // What a run writes, and the text of the state that it leaves, which goes to this destination.
@@ -31,7 +30,7 @@ pub struct DumpedRun<'w, V> {
     pub dump: Destination,
 }
 
-impl<V: Watcher> Command for DumpedRun<'_, V> {
+impl<V: StoreWatcher> Command for DumpedRun<'_, V> {
     type Made = Parted;
 
     ghost may_make = { λ c t p. parted_of p ≡ dumped_run c.run.is_signed c.dump t };

@@ -14,10 +14,10 @@ ghost use Rattle.running.specs.Running.{IsSteady, HasLeft, with_signs};
 use crate::lines::take_lines;
 use crate::signed_texts::signed_text;
 use crate::single_node::{RUN_PLACES, SingleNode};
-use dumps::{Dumping, Watcher};
+use dumps::Dumping;
 use engine::{
-    AnswerText, Answering, Command, Gathered, Notes, Opened, Reply, Sink, Status, Texts, Verdict,
-    not_text, open_texts, write_pieces,
+    AnswerText, Answering, Command, Gathered, Notes, Opened, Reply, Sink, Status, StoreWatcher,
+    Texts, Verdict, not_text, open_texts, write_pieces,
 };
 use loader::{Catalogue, StoreState};
 use oplog::MAX_LIMIT;
@@ -63,16 +63,20 @@ fn state_left(node: SingleNode, catalogue: &Catalogue, verdict: Verdict) -> Opti
 }
 
 // Runs the lines of a script on a catalogue, on a copy of the state that is handed in, or on a new one.
-fn run_lines(
+fn run_lines<V: StoreWatcher>(
     alloc: Global,
     catalogue: &Catalogue,
     state: Option<&StoreState>,
     script: &str,
+    watcher: &V,
 ) -> Result<Kept, AllocError>
     requires opens { OpensOn catalogue.now state }
     ensures { IfOk result (λ k. kept_of k ≡ script_kept script.now (Ok catalogue.now)) }
 {
-    let mut node = SingleNode::open(alloc, catalogue, state, MAX_LIMIT)?;
+    watcher.opens();
+    let opened = SingleNode::open(alloc, catalogue, state, MAX_LIMIT);
+    watcher.opened();
+    let mut node = opened?;
     let mut text = Vec::new(alloc);
     let verdict = take_lines(&mut node, catalogue, script, &mut text)?;
     let state = state_left(node, catalogue, verdict);
@@ -82,14 +86,14 @@ fn run_lines(
 
 // Runs the script on what the manifest, its files and the state say. Otherwise refuses as they are refused.
 #[tactic(auto, using(engine::proofs::Openings::opens_on))]
-fn run_script<V: Watcher>(alloc: Global, texts: Texts, watcher: &V) -> Result<Kept, AllocError>
+fn run_script<V: StoreWatcher>(alloc: Global, texts: Texts, watcher: &V) -> Result<Kept, AllocError>
     ensures { IfOk result (λ k. kept_of k ≡ run_kept false (Some (texts_read texts))) }
 {
     let opened = open_texts(alloc, &texts, Some(RUN_PLACES), watcher)?;
     let script = texts.into_file();
     match opened {
         Opened::On(catalogue, state) => {
-            run_lines(alloc, &catalogue, state.as_ref(), script.as_str())
+            run_lines(alloc, &catalogue, state.as_ref(), script.as_str(), watcher)
         }
         Opened::Refused(reply) => Ok(refuse(reply)),
     }
@@ -120,11 +124,11 @@ fn add_signs(alloc: Global, plain: Kept) -> Result<Kept, AllocError>
 pub struct Run<'w, V> {
     /// Whether beside each reply of 2^63 or more stands that number with a sign: ` = -N`.
     pub is_signed: bool,
-    /// What is told how much of the state is loaded.
+    /// What is told how much of the state is loaded, and when the store opens.
     pub watcher: &'w V,
 }
 
-impl<V: Watcher> Command for Run<'_, V> {
+impl<V: StoreWatcher> Command for Run<'_, V> {
     type Made = Kept;
 
     ghost may_make = { λ c t k. kept_of k ≡ run_kept c.is_signed t };

@@ -17,7 +17,7 @@ use loader::{Catalogue, Installed, StoreState};
 use machine::Outcome;
 use maps::MapSet;
 use node::{NodeReplica, append, finish, reclaim, replay};
-use oplog::{Hand, LogRoom, LogState, MAX_WINDOW, NewProgram, OpRef, RecordList};
+use oplog::{Hand, LogRoom, LogState, MAX_WINDOW, OpRef, RecordList};
 use replica::{Replica, Replies, StoreRefused, check_install};
 use scripts::ProgramText;
 use std::alloc::{AllocError, Global};
@@ -50,7 +50,7 @@ impl SingleNode {
         ensures empty { IfOk result (λ n. Follows limit catalogue.now [] n) }
     {
         let base = StoreState::opening(alloc, catalogue, opening)?;
-        let long = catalogue.longest_argument();
+        let long = catalogue.longest_part();
         let room = LogRoom {
             window: MAX_WINDOW,
             long,
@@ -60,7 +60,7 @@ impl SingleNode {
         let replica = Replica::open(StoreState::opening(alloc, catalogue, opening)?);
         let own = NodeReplica { replica, hand };
         let replies = Replies::new(0, 0);
-        let room = Installed::open(alloc, catalogue.shapes(), 1)?;
+        let room = Installed::open(alloc, catalogue.shapes(), 1, catalogue.long())?;
         let next = RecordList::open(alloc, 1, long)?;
         Ok(SingleNode {
             log,
@@ -132,22 +132,22 @@ impl SingleNode {
         }
     }
 
-    /// The program that may be installed, in the node's own room.
-    pub fn check(
+    /// The installing of a program, if it may be installed.
+    pub fn check<'a>(
         &mut self,
         catalogue: &Catalogue,
-        text: &ProgramText,
-    ) -> Result<NewProgram, StoreRefused>
+        text: &'a ProgramText,
+    ) -> Result<OpRef<'a>, StoreRefused>
         requires steady { IsSteady catalogue.now self.old }
         ensures steady { IsSteady catalogue.now self.new }
-        ensures refusal { IsRefusedAs (install_refusal catalogue.now.shapes (program_of text.now)) result }
-        ensures program { IfOk result (λ p. (p ≡ program_of text.now) × (is_operation Update catalogue.now (Install p) ≡ true)) }
+        ensures refusal { IsRefusedAs (install_refusal catalogue.now.shapes catalogue.now.long (program_of text.now)) result }
+        ensures program { IfOk result (λ op. (op ≡ Install (program_of text.now)) × (is_operation Update catalogue.now op ≡ true)) }
         ensures log { self.new.log ≡ self.old.log }
         ensures own { self.new.own ≡ self.old.own }
     {
         let bytes = text.bytes.as_slice();
         check_install(&mut self.room, text.mode, text.arg_len, bytes)?;
-        Ok(NewProgram::new(text.mode, text.arg_len as usize, bytes))
+        Ok(OpRef::install(text.mode, text.arg_len as usize, bytes))
     }
 
     /// Appends one record and brings the replica up to date; `None` where the history has all its records.

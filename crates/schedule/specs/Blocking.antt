@@ -98,7 +98,7 @@ rebase_block g n =
 abbrev pub node_block : Opening → Step → Log → NodeView → Option Blocked
 node_block m (Post n s program argument) g node = call_block s node (early_refusal m.catalogue Update program argument.items)
 node_block m (Install n s mode arg_len bytes) g node =
-    call_block s node (install_refusal m.catalogue.shapes (record { mode = mode; arg_len = arg_len; bytes = bytes.items }))
+    call_block s node (install_refusal m.catalogue.shapes m.catalogue.long (record { mode = mode; arg_len = arg_len; bytes = bytes.items }))
 node_block m (ReadBegin n s program argument) g node = call_block s node (early_refusal m.catalogue Read program argument.items)
 node_block m (Claim n) g node = claim_block node
 node_block m (Append n) g node = append_block node.batch g (own_of node)

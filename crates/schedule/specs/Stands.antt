@@ -3,7 +3,7 @@ use Rattle.std.specs.Prelude.{◌≡◌, ◌≢◌, ℕ, ◌+◌, ◌<◌, ◌�
 use Rattle.loader.specs.StoreState.{StoreState}
 use Rattle.verifier.specs.declared.refusal.Mode.{Mode}
 use Rattle.verifier.specs.declared.refusal.Mode.TheVariants.{Update, Read}
-use Rattle.loader.specs.CatalogueView.{IsCatalogue, longest_argument}
+use Rattle.loader.specs.CatalogueView.{IsCatalogue, longest_part}
 use Rattle.oplog.specs.declared.records.Op.TheVariants.{Run}
 use Rattle.oplog.specs.declared.records.Record.{Record}
 use Rattle.oplog.specs.Operations.{Operation}
@@ -37,7 +37,7 @@ pub record LogStands (m : Opening) (g : Log) (h : History) : Type 0 where
   pub limit : g.limit ≡ m.config.limit
   pub within : length h ≤ m.config.limit
   pub window : g.window ≡ m.config.window
-  pub long : g.long ≡ longest_argument m.catalogue
+  pub long : g.long ≡ longest_part m.catalogue
 
 -- the replica is at its tail, and the records copied for it are those that come next
 pub record ReplicaStands (m : Opening) (h : History) (replica : ReplicaView) (hand : HandView) : Type 0 where
@@ -46,7 +46,7 @@ pub record ReplicaStands (m : Opening) (h : History) (replica : ReplicaView) (ha
   pub begins : hand.begin ≡ replica.tail
   pub next : (j : ℕ) (r : Record) → slice_get hand.records j ≡ Some r → slice_get h (replica.tail + j) ≡ Some r
   pub window : hand.window ≡ m.config.window
-  pub long : hand.long ≡ longest_argument m.catalogue
+  pub long : hand.long ≡ longest_part m.catalogue
 
 -- the requests that a combiner has claimed, and their answers
 abbrev pub batch_in : NodeBatch → BatchView

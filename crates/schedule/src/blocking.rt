@@ -290,8 +290,8 @@ impl Node {
         step: &Step,
     ) -> Option<Blocked>
         requires own { IsOfStore opening.now log.now self.now }
-        requires room { IsRoomFor opening.now.catalogue.shapes room.old }
-        ensures room { IsRoomFor opening.now.catalogue.shapes room.new }
+        requires room { IsRoomFor opening.now.catalogue.shapes opening.now.catalogue.long room.old }
+        ensures room { IsRoomFor opening.now.catalogue.shapes opening.now.catalogue.long room.new }
         ensures first { result ≡ node_block opening.now step.now log.now self.now }
         ensures taken { IsTakenUnless result (part_of opening.now step.now log.now self.now) }
     {

@@ -75,10 +75,10 @@ pub(crate) fn program_of<'a>(
     arg_len: u64,
     bytes: &'a [u8],
 ) -> Result<OpRef<'a>, StoreRefused>
-    requires room { IsRoomFor catalogue.now.shapes room.old }
-    ensures room { IsRoomFor catalogue.now.shapes room.new }
+    requires room { IsRoomFor catalogue.now.shapes catalogue.now.long room.old }
+    ensures room { IsRoomFor catalogue.now.shapes catalogue.now.long room.new }
     ensures program { GivesProgram catalogue.now (record { mode = mode; arg_len = arg_len; bytes = bytes.now }) result }
-    ensures refusal { IsRefusedAs (install_refusal catalogue.now.shapes (record { mode = mode; arg_len = arg_len; bytes = bytes.now })) result }
+    ensures refusal { IsRefusedAs (install_refusal catalogue.now.shapes catalogue.now.long (record { mode = mode; arg_len = arg_len; bytes = bytes.now })) result }
 {
     check_install(room, mode, arg_len, bytes)?;
     Ok(OpRef::install(mode, arg_len as usize, bytes))
@@ -117,7 +117,7 @@ impl Node {
         let replica = Replica::open(StoreState::opening(alloc, &opening.catalogue, state)?);
         let (window, long) = (
             opening.config.window as usize,
-            opening.catalogue.longest_argument(),
+            opening.catalogue.longest_part(),
         );
         let hand = Hand::open(alloc, window, long)?;
         let desk = Desk::open(alloc, number, slots)?;
@@ -321,8 +321,8 @@ impl Node {
         step: &Step,
     ) -> StepAnswer
         requires own { IsOfStore opening.now log.old self.old }
-        requires room { IsRoomFor opening.now.catalogue.shapes room.old }
-        ensures room { IsRoomFor opening.now.catalogue.shapes room.new }
+        requires room { IsRoomFor opening.now.catalogue.shapes opening.now.catalogue.long room.old }
+        ensures room { IsRoomFor opening.now.catalogue.shapes opening.now.catalogue.long room.new }
         ensures taken { TakesPart (part_of opening.now step.now log.old self.old) log.old self.old log.new self.new result }
     {
         match step {

@@ -1,7 +1,7 @@
 // A store as one value, and its steps.
 
 ghost use Rattle.std.specs.Prelude.{◌≡◌, ◌≢◌, ◌↔◌, ◌<◌, ◌≤◌, [], ◌∷◌, length, replicate, slice_get, Some, None, option_map, IfOk, IfErr, OnErr};
-ghost use Rattle.loader.specs.CatalogueView.{IsCatalogue, MayOpenOn, OpensOn, with_places};
+ghost use Rattle.loader.specs.CatalogueView.{IsCatalogue, MayOpenOn, OpensOn, with_long_places, with_places};
 ghost use Rattle.oplog.specs.Limits.{sizes_in, AreSizes, IsConfig};
 ghost use Rattle.oplog.specs.declared.configuration.OpenError.TheVariants.{OtherState, OutOfLimits};
 ghost use Rattle.schedule.specs.Worlds.{opened_node, opened_nodes, opening_of, opening_on};
@@ -43,7 +43,7 @@ impl Model for World {
     ghost view = { λ w. store_of w.opening w.log w.nodes.items };
 
     // Some history stands for the store.
-    ghost invariant = { λ w. IsStanding (store_of w.opening w.log w.nodes.items) × IsRoomFor w.opening.catalogue.shapes w.room };
+    ghost invariant = { λ w. IsStanding (store_of w.opening w.log w.nodes.items) × IsRoomFor w.opening.catalogue.shapes w.opening.catalogue.long w.room };
 }
 
 // The nodes of a new store, which opens on this state, if any is handed in.
@@ -99,7 +99,7 @@ impl World {
         if !sizes.is_within_limits() {
             return Err(OpenError::OutOfLimits);
         }
-        let catalogue = catalogue.with_places(sizes.spare as usize);
+        let catalogue = catalogue.with_long_places(sizes.spare as usize, sizes.long as usize);
         let config = sizes;
         match World::opened(alloc, Opening { config, catalogue }, None) {
             Ok(world) => Ok(world),
@@ -112,8 +112,8 @@ impl World {
     ///
     /// # Errors
     ///
-    /// O1 where a number of the configuration is out of its limits, then O3 where the state has other maps than the catalogue or more
-    /// programs than the configuration has places, then O2 where there is no memory.
+    /// O1 where a number of the configuration is out of its limits, then O3 where the state has other maps than the catalogue, or more
+    /// or longer programs than there is room for, then O2 where there is no memory.
     pub fn open_on(
         alloc: Global,
         config: Config,
@@ -136,8 +136,8 @@ impl World {
     ///
     /// # Errors
     ///
-    /// O1 where a size is out of its limits, then O3 where the state has other maps than the catalogue or more programs than there are places, then
-    /// O2 where there is no memory.
+    /// O1 where a size is out of its limits, then O3 where the state has other maps than the catalogue, or more or longer programs than there
+    /// is room for, then O2 where there is no memory.
     pub fn open_sized_on(
         alloc: Global,
         sizes: Sizes,
@@ -145,15 +145,15 @@ impl World {
         state: &StoreState,
     ) -> Result<World, OpenError>
         ensures limits { IfErr result (λ e. (e ≡ OutOfLimits) ↔ (AreSizes sizes → ⊥)) }
-        ensures other { IfErr result (λ e. (e ≡ OtherState) ↔ AreSizes sizes × (MayOpenOn (with_places catalogue sizes.spare) state.now → ⊥)) }
-        ensures within { IfOk result (λ w. AreSizes sizes × MayOpenOn (with_places catalogue sizes.spare) state.now) }
+        ensures other { IfErr result (λ e. (e ≡ OtherState) ↔ AreSizes sizes × (MayOpenOn (with_long_places catalogue sizes.spare sizes.long) state.now → ⊥)) }
+        ensures within { IfOk result (λ w. AreSizes sizes × MayOpenOn (with_long_places catalogue sizes.spare sizes.long) state.now) }
         ensures opened { IfOk result (λ w. w ≡ opened_store (opening_on sizes catalogue state.now)) }
         ensures stands { IfOk result (λ w. Stands w.opening w.world [] [] []) }
     {
         if !sizes.is_within_limits() {
             return Err(OpenError::OutOfLimits);
         }
-        let catalogue = catalogue.with_places(sizes.spare as usize);
+        let catalogue = catalogue.with_long_places(sizes.spare as usize, sizes.long as usize);
         if !catalogue.may_open_on(state) {
             return Err(OpenError::OtherState);
         }
@@ -182,11 +182,16 @@ impl World {
             base,
             LogRoom {
                 window: opening.config.window as usize,
-                long: opening.catalogue.longest_argument(),
+                long: opening.catalogue.longest_part(),
             },
             opening.config.limit as usize,
         )?;
-        let room = Installed::open(alloc, opening.catalogue.shapes(), 1)?;
+        let room = Installed::open(
+            alloc,
+            opening.catalogue.shapes(),
+            1,
+            opening.catalogue.long(),
+        )?;
         let nodes = open_nodes(alloc, &opening, state)?;
         Ok(World {
             opening,

@@ -2,9 +2,7 @@
 // nothing, and one function writes them all.
 
 use engine::texts::{put_number, put_numbered};
-use loader::Catalogue;
-use maps::MAX_ARG_LEN;
-use oplog::MAX_INSTALLED_BYTES;
+use loader::{Catalogue, most_argument, most_bytes};
 use replica::StoreRefused;
 use schedule::{Blocked, Step};
 use std::alloc::AllocError;
@@ -95,7 +93,10 @@ fn refused_text(catalogue: &Catalogue, step: &Step, refused: StoreRefused) -> Se
         StoreRefused::ArgumentLength => {
             let (text, wanted) = match catalogue.program(catalogue_number(step)) {
                 Some(accepted) => ("{program} takes {0} bytes, not {1}", accepted.arg_len()),
-                None => ("{program} takes at most {0} bytes, not {1}", MAX_ARG_LEN),
+                None => (
+                    "{program} takes at most {0} bytes, not {1}",
+                    most_argument(catalogue.long()),
+                ),
             };
             say(text, &[wanted as u64, length as u64])
         }
@@ -112,10 +113,11 @@ fn refused_text(catalogue: &Catalogue, step: &Step, refused: StoreRefused) -> Se
             &[at.why.number() as u64, at.slot as u64],
         ),
         StoreRefused::TooLarge => {
-            let most = MAX_INSTALLED_BYTES as u64;
+            let most = most_bytes(catalogue.long()) as u64;
+            let most_argument = most_argument(catalogue.long()) as u64;
             say(
                 "a program of {0} bytes, at most {1}, and its argument {2}, at most {3}",
-                &[length as u64, most, arg_len, MAX_ARG_LEN as u64],
+                &[length as u64, most, arg_len, most_argument],
             )
         }
         _ => say("no such program, and no such place", &[]),

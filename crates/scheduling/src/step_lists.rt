@@ -12,7 +12,8 @@ use crate::lanes::{Taken, reason_of, tell_step};
 use combiner::Reply as Back;
 use engine::texts::{put_numbered, put_pair};
 use engine::{
-    Command, Gathered, Loaded, Notes, Reply, Texts, Verdict, load_texts, not_text, sizes_refused,
+    Command, Gathered, Loaded, Notes, Reply, StoreWatcher, Texts, Verdict, load_texts, not_text,
+    sizes_refused,
 };
 use loader::Catalogue;
 use oplog::{Config, OpenError};
@@ -175,44 +176,51 @@ impl Stepping {
     }
 }
 
-// What a catalogue answers to a list of steps, in a store of these sizes.
-fn catalogue_reply(
-    alloc: Global,
-    config: Config,
-    catalogue: Catalogue,
-    steps: &str,
-    notes: &mut Notes,
-) -> Result<Reply, AllocError>
-    ensures quiet { IsQuiet notes.old notes.new }
-    ensures answered { IfOk result (λ r. answer_of r ≡ scheduled config (Ok catalogue) steps.now) }
-{
-    match World::open(alloc, config, catalogue) {
-        Ok(world) => {
-            let text = Vec::new(alloc);
-            let mut stepping = Stepping { world, text };
-            let verdict = stepping.take_lines(alloc, steps, notes)?;
-            let Stepping { text, .. } = stepping;
-            Ok(Reply { text, verdict })
-        }
-        Err(OpenError::OutOfLimits) => sizes_refused(alloc),
-        Err(OpenError::NoMemory) => Err(AllocError),
-        Err(OpenError::OtherState) => unreachable!(),
-    }
-}
-
 /// Takes a list of steps, one after another, on a new store of these sizes with the maps and the programs of a manifest.
 ///
 /// Answers for each step with `ok`, with the answer of a call that is answered, or with `notnow` where it may not be taken,
 /// which changes nothing; behind the last step with where the log and each node's replica are. A line that is no step,
 /// comment or empty line is answered by `line N bad` and ends it. Sizes out of their limits get `refused O1`, a refused
 /// manifest only its refusal. The notes tell why a step may not be taken, where they are to tell that.
-#[derive(Clone, Copy)]
-pub struct Schedule {
+#[derive(Drop)]
+pub struct Schedule<'w, V> {
     /// The sizes of the store.
     pub config: Config,
+    /// What is told when the store opens.
+    pub watcher: &'w V,
 }
 
-impl Command for Schedule {
+impl<V: StoreWatcher> Schedule<'_, V> {
+    // What a catalogue answers to a list of steps, in a store of the command's sizes.
+    fn catalogue_reply(
+        &self,
+        alloc: Global,
+        catalogue: Catalogue,
+        steps: &str,
+        notes: &mut Notes,
+    ) -> Result<Reply, AllocError>
+        ensures quiet { IsQuiet notes.old notes.new }
+        ensures answered { IfOk result (λ r. answer_of r ≡ scheduled self.now.config (Ok catalogue) steps.now) }
+    {
+        self.watcher.opens();
+        let opened = World::open(alloc, self.config, catalogue);
+        self.watcher.opened();
+        match opened {
+            Ok(world) => {
+                let text = Vec::new(alloc);
+                let mut stepping = Stepping { world, text };
+                let verdict = stepping.take_lines(alloc, steps, notes)?;
+                let Stepping { text, .. } = stepping;
+                Ok(Reply { text, verdict })
+            }
+            Err(OpenError::OutOfLimits) => sizes_refused(alloc),
+            Err(OpenError::NoMemory) => Err(AllocError),
+            Err(OpenError::OtherState) => unreachable!(),
+        }
+    }
+}
+
+impl<V: StoreWatcher> Command for Schedule<'_, V> {
     type Made = Reply;
 
     ghost may_make = { λ c t r. answer_of r ≡ schedule_answer c.config t };
@@ -223,7 +231,7 @@ impl Command for Schedule {
         };
         match load_texts(alloc, &texts)? {
             Loaded::Catalogue(catalogue) => {
-                catalogue_reply(alloc, self.config, catalogue, texts.file.as_str(), notes)
+                self.catalogue_reply(alloc, catalogue, texts.file.as_str(), notes)
             }
             Loaded::Refused(reply) => Ok(reply),
         }

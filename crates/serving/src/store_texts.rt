@@ -7,6 +7,7 @@ ghost use Rattle.maps.specs.MapSets.{maps_of, stored_shapes};
 ghost use Rattle.oplog.specs.Logs.{tail_of};
 ghost use Rattle.loader.specs.Spelling.{mode_word};
 ghost use Rattle.serving.specs.StoreText.{asks, counts_line, keys_line, map_line, program_line, shape_text, store_text};
+ghost use Rattle.verifier.specs.Accepted.{checked_in};
 
 use engine::texts::put_numbered;
 use loader::Catalogue;
@@ -112,7 +113,7 @@ fn mode_word(mode: Mode) -> &'static [u8]
 
 // Adds a program's line.
 fn put_program(out: &mut Vec<u8>, name: &str, program: &Accepted) -> Result<(), AllocError>
-    ensures { OnOk result (out.new.items ≡ out.old.items ++ program_line (record { name = name.now; checked = program.now })) }
+    ensures { OnOk result (out.new.items ≡ out.old.items ++ program_line (record { name = name.now; checked = checked_in program.now })) }
 {
     out.extend_from_slice(b"program ")?;
     out.extend_from_slice(name.as_bytes())?;

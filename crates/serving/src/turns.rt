@@ -13,11 +13,10 @@ ghost use Rattle.serving.specs.ServeAnswer.{Serves, ServesAll, ServesGiven, Serv
 ghost use Rattle.serving.specs.ServiceKept.{IfOpened, ServesOpened, Stands, TakesTurns};
 
 use crate::service::Service;
-use dumps::Watcher;
 use engine::texts::no_memory;
 use engine::{
     Command, Feed, Folder, Gathered, Inputs, Notes, Opened, ReadFault, Reply, Sink, Source, Status,
-    not_text, open_texts, places_within, prepare, report, write_text,
+    StoreWatcher, not_text, open_texts, places_within, prepare, report, write_text,
 };
 use loader::{Catalogue, StoreState};
 use std::alloc::{AllocError, Global};
@@ -148,29 +147,6 @@ fn serve_on<R: Feed, W: Sink>(
     }
 }
 
-// Serves what was opened, or writes what is answered in its place.
-fn serve_opened<R: Feed, W: Sink>(
-    alloc: Global,
-    has_values: bool,
-    opened: Result<Opened, ReadFault>,
-    reader: &mut R,
-    writer: &mut W,
-) -> ServeEnd
-    requires opened { IfOk opened IsOpened }
-    ensures served { IfOpened opened (ServesAll has_values (ports R.remaining reader.old reader.new W.contents writer.old writer.new) result) }
-    ensures failed { Failed result.status ((opened ≡ Err faults.CannotRead) ⊎ R.has_failed reader.new) (W.has_failed writer.new) }
-{
-    let instead: Result<Reply, ReadFault> = match opened {
-        Ok(Opened::On(catalogue, state)) => {
-            let service = Service::open(alloc, has_values, catalogue, state);
-            return serve_on(alloc, service, reader, writer);
-        }
-        Ok(Opened::Refused(reply)) => Ok(reply),
-        Err(fault) => Err(fault),
-    };
-    without_state(report(writer, &instead))
-}
-
 // Opens a service on the catalogue of a manifest, with so many places behind its programs, and on a state.
 #[derive(Drop)]
 pub(crate) struct Opening<'w, V> {
@@ -178,7 +154,7 @@ pub(crate) struct Opening<'w, V> {
     pub watcher: &'w V,
 }
 
-impl<V: Watcher> Command for Opening<'_, V> {
+impl<V: StoreWatcher> Command for Opening<'_, V> {
     type Made = Opened;
 
     ghost may_make = { λ c t o. IsOpened o × (on_which o ≡ service c.spare t) };
@@ -199,11 +175,37 @@ impl<V: Watcher> Command for Opening<'_, V> {
 /// What serves.
 #[derive(Drop)]
 pub struct Server<'w, V> {
-    /// What is told how much of the state is loaded.
+    /// What is told how much of the state is loaded, and when the store opens.
     pub watcher: &'w V,
 }
 
-impl<V: Watcher> Server<'_, V> {
+impl<V: StoreWatcher> Server<'_, V> {
+    // Serves what was opened, or writes what is answered in its place.
+    fn serve_opened<R: Feed, W: Sink>(
+        &self,
+        alloc: Global,
+        has_values: bool,
+        opened: Result<Opened, ReadFault>,
+        reader: &mut R,
+        writer: &mut W,
+    ) -> ServeEnd
+        requires opened { IfOk opened IsOpened }
+        ensures served { IfOpened opened (ServesAll has_values (ports R.remaining reader.old reader.new W.contents writer.old writer.new) result) }
+        ensures failed { Failed result.status ((opened ≡ Err faults.CannotRead) ⊎ R.has_failed reader.new) (W.has_failed writer.new) }
+    {
+        let instead: Result<Reply, ReadFault> = match opened {
+            Ok(Opened::On(catalogue, state)) => {
+                self.watcher.opens();
+                let service = Service::open(alloc, has_values, catalogue, state);
+                self.watcher.opened();
+                return serve_on(alloc, service, reader, writer);
+            }
+            Ok(Opened::Refused(reply)) => Ok(reply),
+            Err(fault) => Err(fault),
+        };
+        without_state(report(writer, &instead))
+    }
+
     /// Answers the lines of a script as they come in, on a store with the maps and the programs of a manifest, and so many places behind
     /// these: one log, which has no end ([`oplog::ENDLESS`]), and one replica, on one thread. The store opens on the state that a text says, as
     /// [`dumps::dump`] writes one; without a text it is a new one. If calls have values, a line is answered as the line of a script that
@@ -240,6 +242,6 @@ impl<V: Watcher> Server<'_, V> {
             watcher: self.watcher,
         };
         let opened = prepare(alloc, &opening, inputs, &mut Notes::none(alloc));
-        serve_opened(alloc, has_values, opened, reader, writer)
+        self.serve_opened(alloc, has_values, opened, reader, writer)
     }
 }

@@ -110,7 +110,7 @@ pub has_updated : (store : StoreView) (m n : Member) (op : Operation) (reply : R
 has_updated store m n op reply new j at spot i own a = record {
   caller = ap (λ z. z.0) spot;
   idle = subst (λ c. IsIdle n.seat c) (sym (ap (λ z. z.0) spot)) (is_idle k f op reply v m.seat n.seat m.caller i refl there);
-  shapes = λ r has. (has.0 ∙ ap (λ (x : CatalogueView). x.shapes) grown.catalogue, has.1);
+  shapes = λ r has. (has.0 ∙ ap (λ (x : CatalogueView). x.shapes) grown.catalogue, has.1 ∙ ap (λ (x : CatalogueView). x.long) grown.catalogue, has.2);
   session = ap (λ (z : SessionView). z.session) now ∙ (v.session ∙ ap (λ (z : SessionView). z.session) (sym was));
   goes_on = goes_on store (session_view m.seat) (session_view n.seat) m.seat.shelf n.seat.shelf k f op reply v was now own (ap (λ z. z.1) spot);
   tells = tells_update store (session_view m.seat) (session_view n.seat) m.seat.shelf n.seat.shelf k f op reply v was now i.pending i.batch;

@@ -114,7 +114,7 @@ module _ (s : S) (caller : Caller) where
         )
 
 pub room_on : (old new : S) (room : InstalledView) → Extends (session_view old).progress (session_view new).progress → HasRoom room old → HasRoom room new
-room_on old new room grown h = (h.0 ∙ ap (λ (x : CatalogueView). x.shapes) grown.catalogue, h.1)
+room_on old new room grown h = (h.0 ∙ ap (λ (x : CatalogueView). x.shapes) grown.catalogue, h.1 ∙ ap (λ (x : CatalogueView). x.long) grown.catalogue, h.2)
 
 -- ---- a post
 

@@ -4,36 +4,35 @@ use Rattle.std.specs.Prelude.{◌&&◌, nat_le, length, slice_get, Result, Ok, E
 use Rattle.std.proofs.lemmas.Bool.{false≢true}
 use Rattle.std.proofs.lemmas.Bool.Decides.{nat_tests}
 use Rattle.maps.specs.declared.shapes.Shape.{Shape}
-use Rattle.maps.specs.declared.shapes.TheConstants.{MAX_ARG_LEN}
 use Rattle.verifier.specs.Accepted.{Checked}
-use Rattle.loader.specs.Installed.{InstalledView, after_install, installed_program, no_programs}
+use Rattle.loader.specs.Installed.{InstalledView, after_install, installed_program, most_argument, most_bytes, no_programs}
 use Rattle.loader.specs.declared.installed.InstallRefusal.{InstallRefusal}
 use Rattle.oplog.specs.Calls.{NewProgram}
-use Rattle.oplog.specs.declared.records.TheConstants.{MAX_INSTALLED_BYTES}
+use Rattle.replica.specs.Refusals.{is_small}
 use Rattle.replica.specs.declared.refusals.StoreRefused.{StoreRefused}
 use Rattle.replica.specs.declared.refusals.StoreRefused.TheVariants.{TooLarge}
 use Rattle.store.specs.Within.{outside_refusal, reading_within, refused_as, within_refusal}
 
 -- the one program in it is what was read
-pub record Filled (shapes : List Shape) (places : ℕ) (read : Result Checked InstallRefusal) (room : InstalledView) : Type 0 where
+pub record Filled (shapes : List Shape) (read : Result Checked InstallRefusal) (room : InstalledView) : Type 0 where
   pub program : Checked
   pub was_read : read ≡ Ok program
   pub first : slice_get room.programs 0 ≡ Some program
 
-pub filled : (shapes : List Shape) (places : ℕ) (read : Result Checked InstallRefusal) (room : InstalledView) → IsOk read → room ≡ after_install read (no_programs shapes places) → Filled shapes places read room
-filled shapes places (Ok c) room ok is = record { program = c; was_read = refl; first = ap (λ (r : InstalledView). slice_get r.programs 0) is }
-filled shapes places (Err e) room ok is = absurd (false≢true ok)
+pub filled : (shapes : List Shape) (places long : ℕ) (read : Result Checked InstallRefusal) (room : InstalledView) → IsOk read → room ≡ after_install read (no_programs shapes places long) → Filled shapes read room
+filled shapes places long (Ok c) room ok is = record { program = c; was_read = refl; first = ap (λ (r : InstalledView). slice_get r.programs 0) is }
+filled shapes places long (Err e) room ok is = absurd (false≢true ok)
 
-module _ (shapes : List Shape) (maps : ℕ) (new : NewProgram) (few : length new.bytes ≤ MAX_INSTALLED_BYTES) (short : new.arg_len ≤ MAX_ARG_LEN) where
-  small : (nat_le (length new.bytes) MAX_INSTALLED_BYTES && nat_le new.arg_len MAX_ARG_LEN) ≡ true
+module _ (shapes : List Shape) (long maps : ℕ) (new : NewProgram) (few : length new.bytes ≤ most_bytes long) (short : new.arg_len ≤ most_argument long) where
+  small : is_small long new ≡ true
   small = grind (arith, nat_tests)
 
   abbrev by_size : Bool → Option StoreRefused
   by_size b = cond b (reading_within maps (installed_program shapes new.mode new.arg_len new.bytes)) (Some TooLarge)
 
   -- of a program that was read and is accepted, and of one that is not
-  pub refused_within : (c : Checked) → installed_program shapes new.mode new.arg_len new.bytes ≡ Ok c → within_refusal shapes maps new ≡ outside_refusal maps c.program
+  pub refused_within : (c : Checked) → installed_program shapes new.mode new.arg_len new.bytes ≡ Ok c → within_refusal shapes long maps new ≡ outside_refusal maps c.program
   refused_within c is = ap by_size small ∙ ap (reading_within maps) is
 
-  pub refused_read : (e : InstallRefusal) → installed_program shapes new.mode new.arg_len new.bytes ≡ Err e → within_refusal shapes maps new ≡ Some (refused_as e)
+  pub refused_read : (e : InstallRefusal) → installed_program shapes new.mode new.arg_len new.bytes ≡ Err e → within_refusal shapes long maps new ≡ Some (refused_as e)
   refused_read e is = ap by_size small ∙ ap (reading_within maps) is

@@ -156,7 +156,7 @@ on_by : (store : StoreView) (m o : Member) → spot_of o ≡ spot_of m → IsOf 
 on_by store m o spot own session extends well = record {
   caller = ap (λ z. z.0) spot;
   session = session;
-  shapes = λ r has. (has.0 ∙ ap (λ (x : CatalogueView). x.shapes) extends.catalogue, has.1);
+  shapes = λ r has. (has.0 ∙ ap (λ (x : CatalogueView). x.shapes) extends.catalogue, has.1 ∙ ap (λ (x : CatalogueView). x.long) extends.catalogue, has.2);
   goes_on = goes_on store (session_view m.seat) (session_view m.seat) (session_view o.seat) refl own (ap (λ z. z.1) spot) session extends well;
 }
 

@@ -60,7 +60,7 @@ known_of s = record { session = s.session; progress = s.progress; note = s.note;
 
 -- room for a program that the session's store may install
 abbrev pub HasRoom : InstalledView → StoreSeat → Type 0
-HasRoom room s = IsRoomFor (session_view s).progress.catalogue.shapes room
+HasRoom room s = IsRoomFor (session_view s).progress.catalogue.shapes (session_view s).progress.catalogue.long room
 
 -- the store does not refuse to run this program on this argument as an update
 abbrev pub MayUpdate : StoreView → (program : ℕ) → (argument : List ℕ) → Type 0
@@ -75,7 +75,7 @@ abbrev pub install_of : Mode → ℕ → List ℕ → Operation
 install_of mode arg_len bytes = Install (new_program mode arg_len bytes)
 
 abbrev pub install_refused : StoreView → Mode → ℕ → List ℕ → Option StoreRefused
-install_refused store mode arg_len bytes = install_refusal store.catalogue.shapes (new_program mode arg_len bytes)
+install_refused store mode arg_len bytes = install_refusal store.catalogue.shapes store.catalogue.long (new_program mode arg_len bytes)
 
 -- what a call answers, by what became of its update
 abbrev pub said : Reply → Result Answer StoreRefused

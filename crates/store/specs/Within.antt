@@ -1,8 +1,7 @@
 -- The install of a program that may name some of the store's maps alone: when it is refused.
-use Rattle.std.specs.Prelude.{ℕ, ◌&&◌, nat_le, if◌then◌else◌, length, List, Option, Some, Result, Ok, Err, option_map}
+use Rattle.std.specs.Prelude.{ℕ, if◌then◌else◌, List, Option, Some, Result, Ok, Err, option_map}
 use Rattle.insn.specs.declared.instruction.Form.{Form}
 use Rattle.maps.specs.declared.shapes.Shape.{Shape}
-use Rattle.maps.specs.declared.shapes.TheConstants.{MAX_ARG_LEN}
 use Rattle.verifier.specs.Accepted.{Checked}
 use Rattle.verifier.specs.declared.refusal.VerifyFault.TheVariants.{UnknownHelperOrMap}
 use Rattle.named_maps.specs.Naming.{first_outside}
@@ -11,7 +10,7 @@ use Rattle.loader.specs.declared.installed.InstallRefusal.{InstallRefusal}
 use Rattle.loader.specs.declared.installed.InstallRefusal.TheVariants.{Decode, Verify}
 use Rattle.oplog.specs.Calls.{NewProgram}
 use Rattle.oplog.specs.Operations.{Operation}
-use Rattle.oplog.specs.declared.records.TheConstants.{MAX_INSTALLED_BYTES}
+use Rattle.replica.specs.Refusals.{is_small}
 use Rattle.replica.specs.declared.refusals.StoreRefused.{StoreRefused}
 use Rattle.replica.specs.declared.refusals.StoreRefused.TheVariants.{NotAccepted, NotDecoded, TooLarge}
 use Rattle.store.specs.declared.within.Confined.{Confined}
@@ -35,10 +34,11 @@ abbrev pub reading_within : ℕ → Result Checked InstallRefusal → Option Sto
 reading_within maps (Ok c) = outside_refusal maps c.program
 reading_within maps (Err e) = Some (refused_as e)
 
--- the refusal of a program that is to be installed for these maps and may name those alone: too large, else by what it is read as
-abbrev pub within_refusal : List Shape → (maps : ℕ) → NewProgram → Option StoreRefused
-within_refusal shapes maps new =
-    if nat_le (length new.bytes) MAX_INSTALLED_BYTES && nat_le new.arg_len MAX_ARG_LEN
+-- the refusal of a program that is to be installed for these maps, of at most so many bytes, and may name those alone: too large, else by what
+-- it is read as
+abbrev pub within_refusal : List Shape → (long : ℕ) → (maps : ℕ) → NewProgram → Option StoreRefused
+within_refusal shapes long maps new =
+    if is_small long new
     then reading_within maps (installed_program shapes new.mode new.arg_len new.bytes) else Some TooLarge
 
 -- the program that is to be installed, and its installing as an operation: which maps it may name is no part of these
@@ -50,4 +50,4 @@ install_within p = install_of p.mode p.arg_len p.bytes.now
 
 -- its refusal by a store
 abbrev pub within_refused : StoreView → Confined → Option StoreRefused
-within_refused store p = within_refusal store.catalogue.shapes p.maps (program_within p)
+within_refused store p = within_refusal store.catalogue.shapes store.catalogue.long p.maps (program_within p)

@@ -117,18 +117,17 @@ fn caller_of(slots: usize, number: usize) -> Caller
     }
 }
 
-// The own room of each of so many sessions of a store with these maps.
+// The own room of each of so many sessions of a store of this catalogue.
 pub(crate) fn session_rooms(
     alloc: Global,
-    shapes: &[Shape],
+    catalogue: &Catalogue,
     count: usize,
 ) -> Result<Vec<OwnRoom>, AllocError>
-    requires shapes { AreShapesSupported shapes.now }
-    ensures rooms { IfOk result (λ v. All (IsRoomFor shapes.now) v.items × (length v.items ≡ count)) }
+    ensures rooms { IfOk result (λ v. All (IsRoomFor catalogue.now.shapes catalogue.now.long) v.items × (length v.items ≡ count)) }
 {
     let mut rooms = Vec::with_capacity(alloc, count)?;
     for _session in 0..count {
-        rooms.push_reserved(OwnRoom::open(alloc, shapes)?);
+        rooms.push_reserved(OwnRoom::open(alloc, catalogue)?);
     }
     Ok(rooms)
 }
@@ -144,7 +143,7 @@ pub(crate) fn push_sessions(
     requires own { seat.shelf ≡ shelf.now.id }
     requires config { AreSizes setup.now.config }
     requires all { seat.sessions ≡ all_sessions (opening_progress setup.now) 0 (opening_notes setup.now) }
-    requires rooms { All (IsRoomFor setup.now.catalogue.shapes) rooms.items × (length rooms.items ≡ sessions_of setup.now.config) }
+    requires rooms { All (IsRoomFor setup.now.catalogue.shapes setup.now.catalogue.long) rooms.items × (length rooms.items ≡ sessions_of setup.now.config) }
     requires room { (sessions.old.items ≡ []) × (sessions_of setup.now.config ≤ vec_capacity sessions.old) }
     ensures sessions { sessions.new.items ≡ fresh_sessions shelf.now.id setup.now.config setup.now.catalogue 0 (sessions_of setup.now.config) }
 {

@@ -1,12 +1,10 @@
 // What a session has for itself alone.
 
 ghost use Rattle.std.specs.Prelude.{◌≡◌, IfOk};
-ghost use Rattle.maps.specs.Shapes.{AreShapesSupported};
 ghost use Rattle.loader.specs.Installed.{no_programs};
 
 use combiner::Batch;
-use loader::Installed;
-use maps::Shape;
+use loader::{Catalogue, Installed};
 use std::alloc::{AllocError, Global};
 use std::marker::Model;
 
@@ -28,12 +26,11 @@ impl Model for OwnRoom {
 }
 
 impl OwnRoom {
-    // Takes the memory of a session of a store with these maps. No call of the session takes memory.
-    pub(crate) fn open(alloc: Global, shapes: &[Shape]) -> Result<OwnRoom, AllocError>
-        requires shapes { AreShapesSupported shapes.now }
-        ensures none { IfOk result (λ r. r ≡ no_programs shapes.now 1) }
+    // Takes the memory of a session of a store of this catalogue. No call of the session takes memory.
+    pub(crate) fn open(alloc: Global, catalogue: &Catalogue) -> Result<OwnRoom, AllocError>
+        ensures none { IfOk result (λ r. r ≡ no_programs catalogue.now.shapes 1 catalogue.now.long) }
     {
-        let installed = Installed::open(alloc, shapes, 1)?;
+        let installed = Installed::open(alloc, catalogue.shapes(), 1, catalogue.long())?;
         let batch = Batch::open(alloc)?;
         Ok(OwnRoom { batch, installed })
     }

@@ -3,7 +3,7 @@
 ghost use Rattle.std.specs.Prelude.{◌≡◌, ◌≢◌, ◌↔◌, ◌+◌, ◌<◌, ◌≤◌, length, IfOk, IfErr, MatchResult};
 ghost use Rattle.oplog.specs.declared.configuration.OpenError.TheVariants.{OtherState, OutOfLimits};
 ghost use Rattle.oplog.specs.declared.configuration.TheConstants.{MAX_NODES};
-ghost use Rattle.loader.specs.CatalogueView.{MayOpenOn, OpensOn, opened_on, with_places};
+ghost use Rattle.loader.specs.CatalogueView.{MayOpenOn, OpensOn, opened_on, with_long_places, with_places};
 ghost use Rattle.oplog.specs.Limits.{sizes_in, AreSizes, IsConfig};
 ghost use Rattle.store_steps.specs.Shelving.{sessions_of};
 ghost use Rattle.store.specs.Sessions.{fresh_sessions};
@@ -119,7 +119,7 @@ impl Store {
     /// let manifest = "map array 8 16\nprogram five update 0 five.hex\n";
     /// let files = [("five.hex", "b7000000050000009500000000000000")]; // a program that replies 5
     /// let catalogue = load_manifest(rt.alloc(), manifest, &files)?;
-    /// let sizes = Sizes { nodes: 1, slots: 1, window: 16, limit: ENDLESS, spare: 0 };
+    /// let sizes = Sizes { nodes: 1, slots: 1, window: 16, limit: ENDLESS, spare: 0, long: 0 };
     /// let (store, mut sessions) = Store::open_sized(rt.alloc(), sizes, catalogue)?;
     ///
     /// let answer = sessions[0].invoke(&rt, &store, 0, &[]);
@@ -134,15 +134,15 @@ impl Store {
         ensures limits { IfErr result (λ e. (e ≡ OutOfLimits) ↔ (AreSizes sizes → ⊥)) }
         ensures other { IfErr result (λ e. e ≢ OtherState) }
         ensures openable { IfOk result (λ t. AreSizes sizes) }
-        ensures store { IfOk result (λ t. (t.0.config ≡ sizes) × (t.0.catalogue ≡ with_places catalogue sizes.spare)) }
-        ensures sessions { IfOk result (λ t. t.1.items ≡ fresh_sessions t.0.id sizes (with_places catalogue sizes.spare) 0 (sessions_of sizes)) }
+        ensures store { IfOk result (λ t. (t.0.config ≡ sizes) × (t.0.catalogue ≡ with_long_places catalogue sizes.spare sizes.long)) }
+        ensures sessions { IfOk result (λ t. t.1.items ≡ fresh_sessions t.0.id sizes (with_long_places catalogue sizes.spare sizes.long) 0 (sessions_of sizes)) }
         ensures count { IfOk result (λ t. length t.1.items ≡ sessions_of sizes) }
         ensures own { IfOk result (λ t. AreOf t.0 t.1.items) }
     {
         if !sizes.is_within_limits() {
             return Err(OpenError::OutOfLimits);
         }
-        let catalogue = catalogue.with_places(sizes.spare as usize);
+        let catalogue = catalogue.with_long_places(sizes.spare as usize, sizes.long as usize);
         let config = sizes;
         match Store::opened(alloc, Setup { config, catalogue }, None) {
             Ok(opened) => Ok(opened),
@@ -156,8 +156,8 @@ impl Store {
     ///
     /// # Errors
     ///
-    /// O1 where a number of the configuration is out of its limits, then O3 where the state has other maps than the catalogue or more
-    /// programs than the configuration has places, then O2 where there is no memory.
+    /// O1 where a number of the configuration is out of its limits, then O3 where the state has other maps than the catalogue, or more
+    /// or longer programs than there is room for, then O2 where there is no memory.
     ///
     /// # Examples
     ///
@@ -199,8 +199,8 @@ impl Store {
     ///
     /// # Errors
     ///
-    /// O1 where a size is out of its limits, then O3 where the state has other maps than the catalogue or more programs than there are places, then
-    /// O2 where there is no memory.
+    /// O1 where a size is out of its limits, then O3 where the state has other maps than the catalogue, or more or longer programs than there
+    /// is room for, then O2 where there is no memory.
     ///
     /// # Examples
     ///
@@ -211,7 +211,7 @@ impl Store {
     /// let files = [("five.hex", "b7000000050000009500000000000000")]; // a program that replies 5
     /// let catalogue = load_manifest(rt.alloc(), manifest, &files)?;
     /// let state = StoreState::open(rt.alloc(), &catalogue)?;
-    /// let sizes = Sizes { nodes: 1, slots: 1, window: 16, limit: ENDLESS, spare: 0 };
+    /// let sizes = Sizes { nodes: 1, slots: 1, window: 16, limit: ENDLESS, spare: 0, long: 0 };
     /// let (store, mut sessions) = Store::open_sized_on(rt.alloc(), sizes, catalogue, &state)?;
     ///
     /// let seen = sessions[0].read(&rt, &store, 0, &[]);
@@ -225,9 +225,9 @@ impl Store {
         state: &StoreState,
     ) -> Result<(Store, Vec<Session>), OpenError>
         ensures limits { IfErr result (λ e. (e ≡ OutOfLimits) ↔ (AreSizes sizes → ⊥)) }
-        ensures other { IfErr result (λ e. (e ≡ OtherState) ↔ AreSizes sizes × (MayOpenOn (with_places catalogue sizes.spare) state.now → ⊥)) }
-        ensures openable { IfOk result (λ t. AreSizes sizes × MayOpenOn (with_places catalogue sizes.spare) state.now) }
-        ensures store { IfOk result (λ t. (t.0.config ≡ sizes) × (t.0.catalogue ≡ opened_on (with_places catalogue sizes.spare) state.now)) }
+        ensures other { IfErr result (λ e. (e ≡ OtherState) ↔ AreSizes sizes × (MayOpenOn (with_long_places catalogue sizes.spare sizes.long) state.now → ⊥)) }
+        ensures openable { IfOk result (λ t. AreSizes sizes × MayOpenOn (with_long_places catalogue sizes.spare sizes.long) state.now) }
+        ensures store { IfOk result (λ t. (t.0.config ≡ sizes) × (t.0.catalogue ≡ opened_on (with_long_places catalogue sizes.spare sizes.long) state.now)) }
         ensures sessions { IfOk result (λ t. t.1.items ≡ fresh_sessions t.0.id t.0.config t.0.catalogue 0 (sessions_of sizes)) }
         ensures count { IfOk result (λ t. length t.1.items ≡ sessions_of sizes) }
         ensures own { IfOk result (λ t. AreOf t.0 t.1.items) }
@@ -235,7 +235,7 @@ impl Store {
         if !sizes.is_within_limits() {
             return Err(OpenError::OutOfLimits);
         }
-        let catalogue = catalogue.with_places(sizes.spare as usize);
+        let catalogue = catalogue.with_long_places(sizes.spare as usize, sizes.long as usize);
         if !catalogue.may_open_on(state) {
             return Err(OpenError::OtherState);
         }
@@ -261,7 +261,7 @@ impl Store {
         ensures own { IfOk result (λ t. AreOf t.0 t.1.items) }
     {
         let count = session_count(&setup.config);
-        let rooms = session_rooms(alloc, setup.catalogue.shapes(), count)?;
+        let rooms = session_rooms(alloc, &setup.catalogue, count)?;
         let values = shelved_places(alloc, &setup.config, &setup.catalogue, state)?;
         let mut sessions = Vec::with_capacity(alloc, count)?;
         let Ok((shelf, seat)) = Shelf::open(alloc, values, &setup) else {

@@ -1,8 +1,8 @@
 // The install of a program that may name some of the store's maps alone.
 
 ghost use Rattle.std.specs.Prelude.{◌≡◌, ◌<◌, ◌≤◌, None, Some, Err, IfOk, length};
-ghost use Rattle.maps.specs.declared.shapes.TheConstants.{MAX_ARG_LEN};
-ghost use Rattle.oplog.specs.declared.records.TheConstants.{MAX_INSTALLED_BYTES};
+ghost use Rattle.maps.specs.declared.shapes.TheConstants.{MOST_ARG_LEN};
+ghost use Rattle.loader.specs.declared.installed.TheConstants.{MOST_LONG};
 ghost use Rattle.replica.specs.Refusals.{IsRefusedAs, IsRoomFor};
 ghost use Rattle.replica.specs.declared.refusals.StoreRefused.{StoreRefused};
 ghost use Rattle.store.specs.Going.{PostGoes, UpdateGoes};
@@ -15,10 +15,9 @@ use crate::answers::Answer;
 use crate::polled::Polled;
 use crate::session::Session;
 use crate::store::Store;
-use loader::{InstallRefusal, Installed};
-use maps::MAX_ARG_LEN;
+use loader::{InstallRefusal, Installed, most_argument, most_bytes};
 use named_maps::first_outside;
-use oplog::{MAX_INSTALLED_BYTES, OpRef};
+use oplog::OpRef;
 use replica::StoreRefused;
 use std::sync::Wait;
 use verifier::{Accepted, Mode, Refused, VerifyFault};
@@ -78,11 +77,12 @@ fn check_maps(program: &Accepted, maps: u16) -> Result<(), StoreRefused>
 // Whether a program may be installed: as [`check_install`](replica::check_install) has it, and then whether it names no other maps than it may.
 fn check_within(room: &mut Installed, wanted: Confined<'_>) -> Result<(), StoreRefused>
     requires room { 0 < room.old.places }
-    ensures few { IfOk result (λ _. (length wanted.entry.bytes.now ≤ MAX_INSTALLED_BYTES) × (wanted.entry.arg_len ≤ MAX_ARG_LEN)) }
-    ensures room { IsRoomFor room.old.shapes room.new }
-    ensures refusal { IsRefusedAs (within_refusal room.old.shapes wanted.entry.maps (program_within wanted.entry)) result }
+    ensures few { IfOk result (λ _. (length wanted.entry.bytes.now ≤ MOST_LONG) × (wanted.entry.arg_len ≤ MOST_ARG_LEN)) }
+    ensures room { IsRoomFor room.old.shapes room.old.long room.new }
+    ensures refusal { IsRefusedAs (within_refusal room.old.shapes room.old.long wanted.entry.maps (program_within wanted.entry)) result }
 {
-    if wanted.bytes.len() > MAX_INSTALLED_BYTES || wanted.arg_len > MAX_ARG_LEN {
+    let long = room.long();
+    if wanted.bytes.len() > most_bytes(long) || wanted.arg_len > most_argument(long) {
         return Err(StoreRefused::TooLarge);
     }
     room.clear();

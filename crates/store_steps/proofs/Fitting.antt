@@ -2,7 +2,7 @@
 use Rattle.std.proofs.Common.{◌≡◌, true, length, sym, ap, ◌∙◌, subst}
 use Rattle.std.specs.Prelude.{None}
 use Rattle.ownlock.specs.Seats.{At}
-use Rattle.loader.specs.CatalogueView.{longest_argument}
+use Rattle.loader.specs.CatalogueView.{longest_part}
 use Rattle.oplog.specs.History.{AllFit, History}
 use Rattle.oplog.specs.Logs.{Log as LogView}
 use Rattle.replica.specs.StoreMeaning.{AreUpdates, is_operation}
@@ -26,11 +26,11 @@ batch_updates k rs s noted j r e =
     let pending = s.accounts.pending r.author asked.0 asked.2.0 asked.1 asked.2.1 in
     subst (λ z. is_operation Update k.progress.catalogue z ≡ true) (sym asked.2.2) pending.0
 
-pub batch_fits : (k : SessionKnown) (rs : History) → Stands k → k.note.batch ≡ unplaced rs → AllFit (longest_argument k.progress.catalogue) rs
+pub batch_fits : (k : SessionKnown) (rs : History) → Stands k → k.note.batch ≡ unplaced rs → AllFit (longest_part k.progress.catalogue) rs
 batch_fits k rs s noted = updates_fit k.progress.catalogue rs (batch_updates k rs s noted)
 
 -- once there is room in the log that the session k has taken, as t, they fit there
 pub appended_fit : (k t m : SessionKnown) (n0 : NodeReplica) (g h : LogView) (n : NodeReplica) (x : Value) (rs : History) → Stands k → k.note.batch ≡ unplaced rs → TookLog k t n0 x → HasPlace t m (length rs) g h n → AllFit h.long rs
 appended_fit k t m n0 g h n x rs s noted b p =
-    let same = p.log.sizes.3 ∙ (ap longest_argument (sym p.goes.extends.catalogue) ∙ ap longest_argument (sym b.extends.catalogue)) in
+    let same = p.log.sizes.3 ∙ (ap longest_part (sym p.goes.extends.catalogue) ∙ ap longest_part (sym b.extends.catalogue)) in
     subst (λ z. AllFit z rs) (sym same) (batch_fits k rs s noted)

@@ -2,7 +2,7 @@
 use Rattle.std.proofs.Common.{◌≡◌, suc, ◌+◌, ◌-◌, ◌<◌, ◌≤◌, ◌&&◌, true, false, [], length, drop, refl, sym, ap, ◌∙◌, subst, arith, Some, slice_get, ⊎_elim}
 use Rattle.std.proofs.lemmas.Bool.{cases_lt, le-leb, le-ltb}
 use Rattle.loader.specs.StoreState.{sizes_of}
-use Rattle.loader.specs.CatalogueView.{CatalogueView, longest_argument, sizes_for}
+use Rattle.loader.specs.CatalogueView.{CatalogueView, longest_part, sizes_for}
 use Rattle.oplog.specs.declared.configuration.TheConstants.{ENDLESS}
 use Rattle.oplog.specs.Logs.{Log as LogView, HandView, records_from}
 use Rattle.oplog.specs.History.{state_after}
@@ -27,7 +27,7 @@ follows_on l m n grown f =
       state = f.state ∙ state_on store_meaning l m n.replica.tail grown f.within;
       sizes = f.sizes ∙ ap sizes_for grown.catalogue;
       window = f.window ∙ ap (λ c. c.window) grown.config;
-      long = f.long ∙ ap longest_argument grown.catalogue;
+      long = f.long ∙ ap longest_part grown.catalogue;
       begins = f.begins;
       empty = f.empty;
     }
@@ -82,7 +82,7 @@ pub record HasAll (l : L) (n : NodeReplica) : Type 0 where
   pub tail : n.replica.tail ≡ length l.history
   pub state : n.replica.state ≡ state_after store_meaning l.catalogue l.history n.replica.tail
   pub sizes : sizes_of n.replica.state ≡ sizes_for l.catalogue
-  pub hand : n.hand ≡ (let rest : HandView = record { begin = n.replica.tail; records = []; window = l.config.window; long = longest_argument l.catalogue } in rest)
+  pub hand : n.hand ≡ (let rest : HandView = record { begin = n.replica.tail; records = []; window = l.config.window; long = longest_part l.catalogue } in rest)
 
 pub all_follows : (l : L) (n : NodeReplica) → HasAll l n → Follows l n
 all_follows l n a = let t = a.tail in record { within = omega (arith, t); state = a.state; sizes = a.sizes; window = ap (λ (h : HandView). h.window) a.hand; long = ap (λ (h : HandView). h.long) a.hand; begins = ap (λ (h : HandView). h.begin) a.hand; empty = ap (λ (h : HandView). h.records) a.hand }

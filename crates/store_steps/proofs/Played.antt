@@ -6,7 +6,7 @@ use Rattle.ownlock.specs.declared.known.ShelfStep.TheVariants.{Raised}
 use Rattle.ownlock.specs.Rules.{leader}
 use Rattle.ownlock.specs.Seats.{At, having_raised, Continues, Run as RunOf}
 use Rattle.ownlock.specs.Knowledge.{Later, Possible}
-use Rattle.loader.specs.CatalogueView.{CatalogueView, longest_argument, sizes_for}
+use Rattle.loader.specs.CatalogueView.{CatalogueView, longest_part, sizes_for}
 use Rattle.oplog.specs.Logs.{Log as LogView, HandView}
 use Rattle.oplog.specs.History.{after, state_after}
 use Rattle.replica.specs.StoreMeaning.{store_meaning}
@@ -37,7 +37,7 @@ pub record Rest (l : L) (n : NodeReplica) : Type 0 where
   within : n.replica.tail ≤ length l.history
   state : n.replica.state ≡ state_after store_meaning l.catalogue l.history n.replica.tail
   sizes : sizes_of n.replica.state ≡ sizes_for l.catalogue
-  hand : n.hand ≡ (let full : HandView = record { begin = n.replica.tail; records = drop n.replica.tail l.history; window = l.config.window; long = longest_argument l.catalogue } in full)
+  hand : n.hand ≡ (let full : HandView = record { begin = n.replica.tail; records = drop n.replica.tail l.history; window = l.config.window; long = longest_part l.catalogue } in full)
 
 pub rest_of : (l : L) (n : NodeReplica) → HasOthers l n → Rest l n
 rest_of l n h = record { within = h.within; state = h.state; sizes = h.sizes; hand = h.hand }
@@ -91,7 +91,7 @@ pub all_agrees : (l m : L) (n : NodeReplica) → Extends l m → length l.histor
 all_agrees l m n g done h =
     let t = h.tail in (
       replayed_agrees store_meaning l m (replica_value n.replica) g (omega (arith, t)) h.state (omega (arith, t, done)),
-      (h.sizes ∙ ap sizes_for g.catalogue, h.hand ∙ (λ i. record { begin = n.replica.tail; records = []; window = (ap (λ c. c.window) g.config) i; long = (ap longest_argument g.catalogue) i })),
+      (h.sizes ∙ ap sizes_for g.catalogue, h.hand ∙ (λ i. record { begin = n.replica.tail; records = []; window = (ap (λ c. c.window) g.config) i; long = (ap longest_part g.catalogue) i })),
     )
 
 -- a replica with the log beside it, once it has followed that

@@ -3,7 +3,7 @@ use Rattle.std.proofs.Common.{◌≡◌, Bool, true, false, ℕ, zero, suc, ◌+
 use Rattle.std.specs.Prelude.{◌⊎◌}
 use Rattle.std.proofs.Math.Nat.{le-max_right, max-le, min-le_left}
 use Rattle.loader.specs.StoreState.{sizes_of}
-use Rattle.loader.specs.CatalogueView.{CatalogueView, longest_argument, sizes_for}
+use Rattle.loader.specs.CatalogueView.{CatalogueView, longest_part, sizes_for}
 use Rattle.oplog.specs.Logs.{Log as LogView, tail_of, left_of, room_in}
 use Rattle.oplog.specs.declared.configuration.TheConstants.{ENDLESS}
 use Rattle.replica.specs.StoreMeaning.{store_meaning}
@@ -79,7 +79,7 @@ module _ (k after : K) (g : LogView) (u : NodeReplica) (is : IsLogOf k.progress 
       is.sizes.0 ∙ ap (λ c. c.window) up.goes.extends.config,
       is.sizes.1 ∙ ap (λ c. c.limit) up.goes.extends.config,
       f.sizes ∙ ap sizes_for up.goes.extends.catalogue,
-      is.sizes.3 ∙ ap longest_argument up.goes.extends.catalogue,
+      is.sizes.3 ∙ ap longest_part up.goes.extends.catalogue,
     );
   }
 

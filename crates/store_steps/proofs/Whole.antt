@@ -5,7 +5,7 @@ use Rattle.std.proofs.Math.Nat.{max-eq_left}
 use Rattle.std.proofs.lemmas.Bool.{le-leb, ltb-false}
 use Rattle.std.proofs.lemmas.List.{append-nil, drop-append-le}
 use Rattle.std.proofs.lemmas.Option.{none-some}
-use Rattle.loader.specs.CatalogueView.{CatalogueView, longest_argument, sizes_for}
+use Rattle.loader.specs.CatalogueView.{CatalogueView, longest_part, sizes_for}
 use Rattle.oplog.specs.History.{History, after}
 use Rattle.oplog.specs.Logs.{Log as LogView, tail_of}
 use Rattle.oplog.specs.declared.configuration.Sizes.{Sizes}
@@ -73,7 +73,7 @@ module _ (l m : L) (g : LogView) (is : IsLogOf l g) (grows : Extends l m) where
           records = refl;
         };
         tail = later_tail;
-        sizes = (is.sizes.0 ∙ ap (λ (z : Sizes). z.window) grows.config, is.sizes.1 ∙ ap (λ (z : Sizes). z.limit) grows.config, is.sizes.2 ∙ ap sizes_for grows.catalogue, is.sizes.3 ∙ ap longest_argument grows.catalogue);
+        sizes = (is.sizes.0 ∙ ap (λ (z : Sizes). z.window) grows.config, is.sizes.1 ∙ ap (λ (z : Sizes). z.limit) grows.config, is.sizes.2 ∙ ap sizes_for grows.catalogue, is.sizes.3 ∙ ap longest_part grows.catalogue);
       }
 
   -- what was added to the history are updates
@@ -235,12 +235,12 @@ pub agrees_on : (l m : L) (n : NodeReplica) → Extends l m → n.replica.tail �
 agrees_on l m n grown within a =
     let tail = a.0.tail in let rise = grown.completed in (
       record { tail = omega (arith, tail, rise); state = a.0.state ∙ state_on store_meaning l m n.replica.tail grown within },
-      (a.1.0 ∙ ap sizes_for grown.catalogue, a.1.1 ∙ (λ i. record { begin = n.replica.tail; records = []; window = (ap (λ (z : Sizes). z.window) grown.config) i; long = (ap longest_argument grown.catalogue) i })),
+      (a.1.0 ∙ ap sizes_for grown.catalogue, a.1.1 ∙ (λ i. record { begin = n.replica.tail; records = []; window = (ap (λ (z : Sizes). z.window) grown.config) i; long = (ap longest_part grown.catalogue) i })),
     )
 
 -- the log whose base is the replica
 abbrev pub log_from : L → NodeReplica → LogView
-log_from l n = record { base = n.replica.tail; base_state = n.replica.state; records = drop n.replica.tail l.history; done = l.completed; window = l.config.window; long = longest_argument l.catalogue; limit = l.config.limit }
+log_from l n = record { base = n.replica.tail; base_state = n.replica.state; records = drop n.replica.tail l.history; done = l.completed; window = l.config.window; long = longest_part l.catalogue; limit = l.config.limit }
 
 pub log_from_is : (l : L) (n : NodeReplica) → l.completed ≤ length l.history → Agrees l n → IsLogOf l (log_from l n)
 log_from_is l n low a =

@@ -4,7 +4,7 @@ use Rattle.std.specs.Borrow.{Bor}
 use Rattle.std.specs.FinMap as finite_map
 use Rattle.std.specs.Option.{option_map}
 use Rattle.maps.specs.Maps.{Maps, MapState}
-use Rattle.verifier.specs.Accepted.{Checked, slots_of}
+use Rattle.verifier.specs.Accepted.{AcceptedView, Checked, checked_in, slots_of}
 use Rattle.machine.specs.Isolation.{NamesMap}
 use Rattle.named_maps.specs.Naming.{IsIn}
 use Rattle.loader.specs.CatalogueView.{CatalogueView}
@@ -55,8 +55,8 @@ AreFacts None told = told ≡ None
 AreFacts (Some p) told = (facts : ProgramFacts) × (told ≡ Some facts) × Describes p facts
 
 -- of a program that is lent, if one is
-abbrev pub AreFactsThere : Option (Bor Checked) → Option ProgramFacts → Type 0
-AreFactsThere program told = AreFacts (option_map (λ a. a.now) program) told
+abbrev pub AreFactsThere : Option (Bor AcceptedView) → Option ProgramFacts → Type 0
+AreFactsThere program told = AreFacts (option_map (λ a. checked_in a.now) program) told
 
 -- program k: whether its number is that of a place, and the facts of the program that has this number in the state
 pub record DescribesProgram (c : CatalogueView) (state : StoreState) (k : ℕ) (info : ProgramInfo) : Type 0 where

@@ -3,7 +3,7 @@ use Rattle.std.specs.Prelude.{◌≡◌, ℕ, ◌+◌, ◌*◌, List, [], length
 use Rattle.ownlock.specs.Rules.{Rules}
 use Rattle.ownlock.specs.Seats.{Opened, opened_with}
 use Rattle.loader.specs.StoreState.{StoreState, sizes_of}
-use Rattle.loader.specs.CatalogueView.{CatalogueView, longest_argument, opening_state, sizes_for}
+use Rattle.loader.specs.CatalogueView.{CatalogueView, longest_part, opening_state, sizes_for}
 use Rattle.oplog.specs.declared.configuration.Sizes.{Sizes}
 use Rattle.oplog.specs.Logs.{Log as LogView, HandView, opened_log, opened_hand}
 use Rattle.replica.specs.Views.{ReplicaView}
@@ -33,15 +33,15 @@ view_of (Log g) = TheLog (log_value g.value)
 view_of (Replica n) = TheReplica (replica_value n.value.replica)
 view_of (Desk d) = TheDesk d.value
 
--- the log has the window, the limit and the sizes that the store was opened with, and room for its longest argument
+-- the log has the window, the limit and the sizes that the store was opened with, and room for what is too long for a record
 abbrev pub HasLogSizes : Sizes → CatalogueView → LogView → Type 0
-HasLogSizes config c g = (g.window ≡ config.window) × (g.limit ≡ config.limit) × (sizes_of g.base_state ≡ sizes_for c) × (g.long ≡ longest_argument c)
+HasLogSizes config c g = (g.window ≡ config.window) × (g.limit ≡ config.limit) × (sizes_of g.base_state ≡ sizes_for c) × (g.long ≡ longest_part c)
 
 -- a hand that has no record, and begins at the tail of its replica
 abbrev pub resting_hand : Sizes → CatalogueView → ℕ → HandView
-resting_hand config c tail = record { begin = tail; records = []; window = config.window; long = longest_argument c }
+resting_hand config c tail = record { begin = tail; records = []; window = config.window; long = longest_part c }
 
--- the replica has the sizes of the catalogue, and its hand, of the configuration's window and with room for the longest argument, is empty
+-- the replica has the sizes of the catalogue, and its hand, of the configuration's window and with room for what is too long for a record, is empty
 abbrev pub HasReplicaSizes : Sizes → CatalogueView → NodeReplica → Type 0
 HasReplicaSizes config c n = (sizes_of n.replica.state ≡ sizes_for c) × (n.hand ≡ resting_hand config c n.replica.tail)
 
@@ -82,12 +82,12 @@ store_opening s = opened_with (opening_progress s) (places_of s.config) (opening
 
 -- a new log on what a catalogue opens on, and a new replica of it with its empty hand
 abbrev pub IsOpenedLog : CatalogueView → (window limit : ℕ) → Value → Type 0
-IsOpenedLog c window limit (Log g) = g.value ≡ opened_log (opening_state c) window (longest_argument c) limit
+IsOpenedLog c window limit (Log g) = g.value ≡ opened_log (opening_state c) window (longest_part c) limit
 IsOpenedLog c window limit (Replica n) = ⊥
 IsOpenedLog c window limit (Desk n) = ⊥
 
 abbrev pub opened_node : CatalogueView → (window : ℕ) → NodeReplica
-opened_node c window = record { replica = record { tail = 0; state = opening_state c }; hand = opened_hand window (longest_argument c) }
+opened_node c window = record { replica = record { tail = 0; state = opening_state c }; hand = opened_hand window (longest_part c) }
 
 abbrev pub IsOpenedReplica : CatalogueView → (window : ℕ) → Value → Type 0
 IsOpenedReplica c window (Log g) = ⊥

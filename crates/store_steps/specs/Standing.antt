@@ -5,7 +5,7 @@ use Rattle.ownlock.specs.declared.known.Known.{Known}
 use Rattle.ownlock.specs.Rules.{leader}
 use Rattle.ownlock.specs.declared.known.ShelfStep.TheVariants.{Raised}
 use Rattle.ownlock.specs.Seats.{At, IsSession, SeatView, tails_in}
-use Rattle.loader.specs.CatalogueView.{CatalogueView, longest_argument, sizes_for}
+use Rattle.loader.specs.CatalogueView.{CatalogueView, longest_part, sizes_for}
 use Rattle.oplog.specs.declared.records.Record.{Record}
 use Rattle.oplog.specs.declared.configuration.TheConstants.{ENDLESS, MAX_NODES}
 use Rattle.oplog.specs.Logs.{Log as LogView, tail_of, left_of, room_in}
@@ -53,7 +53,7 @@ pub record Follows (l : Progress CatalogueView) (n : NodeReplica) : Type 0 where
   pub state : n.replica.state ≡ state_after store_meaning l.catalogue l.history n.replica.tail
   pub sizes : sizes_of n.replica.state ≡ sizes_for l.catalogue
   pub window : n.hand.window ≡ l.config.window
-  pub long : n.hand.long ≡ longest_argument l.catalogue
+  pub long : n.hand.long ≡ longest_part l.catalogue
   pub begins : n.hand.begin ≡ n.replica.tail
   pub empty : n.hand.records ≡ []
 
@@ -63,7 +63,7 @@ pub record HasOthers (l : Progress CatalogueView) (n : NodeReplica) : Type 0 whe
   pub state : n.replica.state ≡ state_after store_meaning l.catalogue l.history n.replica.tail
   pub sizes : sizes_of n.replica.state ≡ sizes_for l.catalogue
   pub few : length l.history ≤ ENDLESS
-  pub hand : n.hand ≡ record { begin = n.replica.tail; records = drop n.replica.tail l.history; window = l.config.window; long = longest_argument l.catalogue }
+  pub hand : n.hand ≡ record { begin = n.replica.tail; records = drop n.replica.tail l.history; window = l.config.window; long = longest_part l.catalogue }
 
 -- the log is that of the progress, and ends where the history ends
 pub record IsLogOf (l : Progress CatalogueView) (g : LogView) : Type 0 where

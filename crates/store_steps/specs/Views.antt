@@ -29,11 +29,11 @@ pub record SessionView : Type 0 where
 
 -- a catalogue of nothing
 abbrev pub no_catalogue : CatalogueView
-no_catalogue = record { shapes = []; programs = []; places = 0; opening = None }
+no_catalogue = record { shapes = []; programs = []; places = 0; long = 0; opening = None }
 
 -- the first session of a seat that has any
 abbrev pub nobody : SessionKnown
-nobody = record { session = 0; progress = first_progress (record { nodes = 0; slots = 0; window = 0; limit = 0; spare = 0 }) no_catalogue; note = fresh_note; held = []; steps = []; run = [] }
+nobody = record { session = 0; progress = first_progress (record { nodes = 0; slots = 0; window = 0; limit = 0; spare = 0; long = 0 }) no_catalogue; note = fresh_note; held = []; steps = []; run = [] }
 
 abbrev pub first_in : List SessionKnown → SessionKnown
 first_in [] = nobody

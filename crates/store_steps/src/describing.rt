@@ -2,6 +2,7 @@
 
 ghost use Rattle.std.specs.Prelude.{◌≡◌, ◌<◌, length};
 ghost use Rattle.maps.specs.Maps.{shapes_of};
+ghost use Rattle.verifier.specs.Accepted.{checked_in};
 ghost use Rattle.store_steps.specs.Describing.{AreFactsThere, Describes, DescribesProgram, HasMap, info_fault_number, map_refusal, program_refusal};
 ghost use Rattle.store_steps.specs.Getting.{IsVerdict};
 ghost use Rattle.store_steps.specs.Seen.{AMap, AProgram};
@@ -89,7 +90,7 @@ fn map_there(node: &NodeReplica, map: usize) -> MapInfo
 
 // The facts of a program.
 fn facts_of(program: &Accepted) -> ProgramFacts
-    ensures { Describes program.now result }
+    ensures { Describes (checked_in program.now) result }
 {
     ProgramFacts {
         mode: program.mode(),

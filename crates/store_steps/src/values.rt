@@ -142,7 +142,7 @@ pub fn shelved_log(
     ensures log { IfOk result (λ v. IsOpenedLog catalogue.now window limit v) }
 {
     let base = StoreState::opening(alloc, catalogue, state)?;
-    let long = catalogue.longest_argument();
+    let long = catalogue.longest_part();
     let log = LogState::open(alloc, base, LogRoom { window, long }, limit)?;
     Ok(Value::Log(Box::new(alloc, log)?))
 }
@@ -159,6 +159,6 @@ pub fn shelved_replica(
     ensures replica { IfOk result (λ v. IsOpenedReplica catalogue.now window v) }
 {
     let replica = Replica::open(StoreState::opening(alloc, catalogue, state)?);
-    let hand = Hand::open(alloc, window, catalogue.longest_argument())?;
+    let hand = Hand::open(alloc, window, catalogue.longest_part())?;
     Ok(Value::Replica(Box::new(alloc, NodeReplica { replica, hand })?))
 }

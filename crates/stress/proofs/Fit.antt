@@ -43,7 +43,7 @@ own_mode Read = refl
 -- a program of the catalogue, in its own mode
 offered_free : (c : CatalogueView) (k : ℕ) (argument : List ℕ) (p : Checked) → k < length c.programs → program_at c k ≡ Some p → (length argument == p.arg_len) ≡ true → early_refusal c p.mode k argument ≡ None
 offered_free c k argument p below named long =
-    ap (λ b. if b then offered_refusal c p.mode k argument else if nat_lt k (length c.programs + c.places) then place_refusal argument else Some UnknownProgram) (lt-ltb _ _ below)
+    ap (λ b. if b then offered_refusal c p.mode k argument else if nat_lt k (length c.programs + c.places) then place_refusal c argument else Some UnknownProgram) (lt-ltb _ _ below)
     ∙ ap (program_refusal p.mode argument) named
     ∙ ap (λ b. if b then mode_refusal p.mode p.mode else Some ArgumentLength) long
     ∙ own_mode p.mode

@@ -2,7 +2,7 @@
 use Rattle.std.proofs.Common.{◌≡◌, ◌∙◌, ℕ, Bool, true, false, List, length, Some, None, Result, Ok, Err, refl, sym, ap, arith}
 use Rattle.std.specs.Prelude.{◌==◌, if◌then◌else◌, MatchResult, Option}
 use Rattle.text.specs.Lines.{lines_of}
-use Rattle.loader.specs.CatalogueView.{CatalogueView, IsCatalogue, with_places}
+use Rattle.loader.specs.CatalogueView.{CatalogueView, IsCatalogue, with_places, sizes_for}
 use Rattle.loader.specs.Loading.{Outcome, loaded_within}
 use Rattle.dumps.specs.Loading.{Outcome as StateOutcome, loaded_state}
 use Rattle.oplog.specs.declared.configuration.Config.{Config}
@@ -28,21 +28,21 @@ IsOpenedRun config timed t opened s = MatchResult opened (λ c. IsScriptRun conf
 
 -- ---- what a catalogue opens on
 
--- a catalogue with the same programs, or the answer to a refused state
+-- a catalogue with the same programs, as long ones, or the answer to a refused state
 abbrev IsOpening : CatalogueView → Result CatalogueView Answer → Type 0
-IsOpening c (Ok on) = IsCatalogue on × (on.programs ≡ c.programs)
+IsOpening c (Ok on) = IsCatalogue on × (on.programs ≡ c.programs) × (on.long ≡ c.long)
 IsOpening c (Err a) = a.verdict ≡ verdicts.Refused
 
 is_opening : (c : CatalogueView) (state : List ℕ) → IsCatalogue c → IsOpening c (opened_by c state)
 is_opening c state whole = by (length state == 0)
   where
-    loads : (o : StateOutcome) → loaded_state c.shapes c.places state ≡ o → IsOpening c (on_loaded c o)
-    loads (Ok s) is = (opened_is_catalogue c _ state whole (ap (on_loaded c) is), refl)
+    loads : (o : StateOutcome) → loaded_state (sizes_for c) state ≡ o → IsOpening c (on_loaded c o)
+    loads (Ok s) is = (opened_is_catalogue c _ state whole (ap (on_loaded c) is), refl, refl)
     loads (Err refusal) is = refl
 
     by : (b : Bool) → IsOpening c (if b then Ok c else on_text c state)
-    by true = (whole, refl)
-    by false = loads (loaded_state c.shapes c.places state) refl
+    by true = (whole, refl, refl)
+    by false = loads (loaded_state (sizes_for c) state) refl
 
 -- ---- what is given back
 
@@ -61,7 +61,7 @@ module _ (config : Config) (timed : Bool) (g : Given) (s : Stressed) (good : s.r
     offered = with_places base config.spare
 
     of_script : (on : CatalogueView) → IsOpening offered (Ok on) → opened_by offered g.state ≡ Ok on → (r : Result (List Called) ℕ) → script_calls on 1 (lines_of g.file) ≡ r → IsScriptRun config timed on r s → Found
-    of_script on whole opens (Ok calls) asked run = found_good config timed g s texts sizes base is on whole.0 whole.1 opens calls asked run
+    of_script on whole opens (Ok calls) asked run = found_good config timed g s texts sizes base is on whole.0 whole.1 whole.2 opens calls asked run
     of_script on whole opens (Err n) asked run = refused _ refl run
 
     of_opened : (r : Result CatalogueView Answer) → IsOpening offered r → opened_by offered g.state ≡ r → IsOpenedRun config timed (found g) r s → Found

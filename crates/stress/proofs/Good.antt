@@ -108,12 +108,12 @@ line_fits Standard e h = let few = h.1 in (h.0, omega (arith, few))
 line_fits Large e h = let few = h.1 in (h.0, omega (arith, few))
 
 module _ (config : Config) (timed : Bool) (g : Given) (s : Stressed) (texts : first_stranger g ≡ None) (sizes : are_sizes config ≡ true) (base : CatalogueView) (is : loaded_within (limits_of g.sizes) g.manifest (files_in g) ≡ Ok base) where
-  pub found_good : (opened : CatalogueView) → IsCatalogue opened → opened.programs ≡ base.programs → opened_by (with_places base config.spare) g.state ≡ Ok opened
+  pub found_good : (opened : CatalogueView) → IsCatalogue opened → opened.programs ≡ base.programs → opened.long ≡ 0 → opened_by (with_places base config.spare) g.state ≡ Ok opened
       → (calls : List Called) → script_calls opened 1 (lines_of g.file) ≡ Ok calls → IsRun config timed opened calls s → IsFoundGood config timed g s
-  found_good opened whole same opens calls asked run =
+  found_good opened whole same none opens calls asked run =
       let text = s.reply.text.items in
       let within = sizes_from config sizes in
-      let lines : FitLines opened = λ k e at. line_fits g.sizes e (is_within (limits_of g.sizes) g.manifest (files_in g) base k e (are_limits g.sizes) is (subst (λ (es : List Entry). slice_get es k ≡ Some e) same at)) in
+      let lines : FitLines opened = (λ k e at. line_fits g.sizes e (is_within (limits_of g.sizes) g.manifest (files_in g) base k e (are_limits g.sizes) is (subst (λ (es : List Entry). slice_get es k ≡ Some e) same at)), omega (arith, none)) in
       let good = is_good opened whole lines config within calls (script_fit opened 1 (lines_of g.file) calls asked) (answer_of s.reply) run.transcript s.counts run.counts in
       let placed : nat_le config.spare MAX_SPARE ≡ true = le-leb config.spare MAX_SPARE within.spare in
       record {

@@ -54,9 +54,9 @@ past_all [] k e = omega arith
 past_all (x ∷ es) zero e = absurd cc
 past_all (x ∷ es) (suc k) e = let past = past_all es k e in omega (arith, past)
 
--- each program of the catalogue has a name
+-- each program of the catalogue has a name, and each argument room in a line
 abbrev pub FitLines : CatalogueView → Type 0
-FitLines c = (k : ℕ) (e : Entry) → slice_get c.programs k ≡ Some e → (is_name e.name ≡ true) × (e.checked.arg_len ≤ 192)
+FitLines c = ((k : ℕ) (e : Entry) → slice_get c.programs k ≡ Some e → (is_name e.name ≡ true) × (e.checked.arg_len ≤ 192)) × (c.long ≤ 192)
 
 -- ---- a line, and what it says
 
@@ -116,7 +116,7 @@ module _ (c : CatalogueView) (whole : IsCatalogue c) (lines : FitLines c) where
   short_named : (k : ℕ) (o : Option Entry) (p : Checked) → slice_get c.programs k ≡ o → option_map (λ (e : Entry). e.checked) o ≡ Some p → p.arg_len ≤ 192
   short_named k None p at is = absurd (none-some p is)
   short_named k (Some e) p at is =
-      let short = (lines k e at).1 in
+      let short = (lines.0 k e at).1 in
       let same : e.checked.arg_len ≡ p.arg_len = ap (λ (q : Checked). q.arg_len) (same_Some e.checked p is) in
       omega (arith, short, same)
 
@@ -131,16 +131,17 @@ module _ (c : CatalogueView) (whole : IsCatalogue c) (lines : FitLines c) where
       let below = h.within in
       let few : length c.programs ≤ 256 = whole.few in
       let places : c.places ≤ 4096 = whole.few_places in
-      let short : length bytes ≤ 64 = h.short in
+      let short : length bytes ≤ 192 = (let few_bytes = h.short in let long = lines.1 in omega (arith, few_bytes, long)) in
       (omega (arith, below, few, places), omega (arith, short))
 
   few_asked : (asked : Asked) (bytes : List ℕ) → is_operation (told_as asked) c (operation_on asked bytes) ≡ true → IsFew (number_of_asked asked) bytes
   few_asked (asks.Run mode k) bytes is = few_of_call mode k bytes ((are_tested mode c (operations.Run (record { program = k; argument = bytes }))).0 is)
   few_asked (asks.Install mode arg_len) bytes is =
       let h = (are_tested Update c (operations.Install (record { mode = mode; arg_len = arg_len; bytes = bytes }))).0 is in
-      let few : length bytes ≤ 192 = h.few in
-      let short : arg_len ≤ 64 = h.argument in
-      (omega (arith, short), omega (arith, few))
+      let few = h.few in
+      let short = h.argument in
+      let long = lines.1 in
+      (omega (arith, short, long), omega (arith, few, long))
 
   -- ---- the texts
 
@@ -153,7 +154,7 @@ module _ (c : CatalogueView) (whole : IsCatalogue c) (lines : FitLines c) where
     where
       by : (o : Option Entry) → slice_get c.programs k ≡ o → IsField 32 (name_or k o)
       by None is = let short = number_short k small in (number_printed k small, omega (arith, short))
-      by (Some e) is = let name = (lines k e is).0 in (name_printed e.name name, name_short e.name name)
+      by (Some e) is = let name = (lines.0 k e is).0 in (name_printed e.name name, name_short e.name name)
 
   asked_field : (asked : Asked) → number_of_asked asked < 2 ^ 64 → IsField 32 (asked_text c asked)
   asked_field (asks.Run mode k) small = name_field k small
@@ -199,7 +200,7 @@ module _ (c : CatalogueView) (whole : IsCatalogue c) (lines : FitLines c) where
     where
       by : (o : Option Entry) → slice_get c.programs k ≡ o → IsKey (key_told k o)
       by None is = small
-      by (Some e) is = (lines k e is).0
+      by (Some e) is = (lines.0 k e is).0
 
   -- NAME and HEX before what follows
   key_first : (k : ℕ) (digits rest : List ℕ) → (name_or k (slice_get c.programs k) ++ 32 ∷ digits) ++ 32 ∷ rest ≡ key_text (key_at c k) ++ 32 ∷ (digits ++ 32 ∷ rest)

@@ -6,7 +6,7 @@ use Rattle.std.specs.Option.{option_copied}
 use Rattle.std.proofs.lemmas.Bool.{and_parts, leb-true}
 use Rattle.oplog.specs.declared.configuration.Config.{Config}
 use Rattle.oplog.specs.Limits.{IsConfig}
-use Rattle.loader.specs.CatalogueView.{CatalogueView, opened_on, with_places}
+use Rattle.loader.specs.CatalogueView.{CatalogueView, opened_on, with_places, sizes_for}
 use Rattle.loader.specs.StoreState.{StoreState}
 use Rattle.loader.specs.Loading.{Outcome}
 use Rattle.dumps.specs.Loading.{Outcome as StateOutcome, loaded_state}
@@ -43,20 +43,20 @@ sizes_from config e =
 -- ---- what was opened with the places of these sizes
 
 -- a catalogue has them, and so the sizes are within their limits
-opened_so : (config : Config) (o : Outcome) (state : List ℕ) (c : CatalogueView) → Ok c ≡ opening_of (places_in config) o state → IsConfig config × (c.places ≡ config.spare)
+opened_so : (config : Config) (o : Outcome) (state : List ℕ) (c : CatalogueView) → Ok c ≡ opening_of (places_in config) o state → IsConfig config × (c.places ≡ config.spare) × (c.long ≡ 0)
 opened_so config (Err refusal) state c is = absurd cc
 opened_so config (Ok base) state c is = by (are_sizes config) refl is
   where
-    of_text : (r : StateOutcome) → Ok c ≡ on_loaded (with_places base config.spare) r → c.places ≡ config.spare
-    of_text (Ok s) e = let same : c ≡ opened_on (with_places base config.spare) s = cc in ap (λ (x : CatalogueView). x.places) same
+    of_text : (r : StateOutcome) → Ok c ≡ on_loaded (with_places base config.spare) r → (c.places ≡ config.spare) × (c.long ≡ 0)
+    of_text (Ok s) e = let same : c ≡ opened_on (with_places base config.spare) s = cc in (ap (λ (x : CatalogueView). x.places) same, ap (λ (x : CatalogueView). x.long) same)
     of_text (Err refusal) e = absurd cc
 
-    of_state : (b : Bool) → Ok c ≡ (if b then Ok (with_places base config.spare) else on_text (with_places base config.spare) state) → c.places ≡ config.spare
-    of_state true e = let same : c ≡ with_places base config.spare = cc in ap (λ (x : CatalogueView). x.places) same
-    of_state false e = of_text (loaded_state base.shapes config.spare state) e
+    of_state : (b : Bool) → Ok c ≡ (if b then Ok (with_places base config.spare) else on_text (with_places base config.spare) state) → (c.places ≡ config.spare) × (c.long ≡ 0)
+    of_state true e = let same : c ≡ with_places base config.spare = cc in (ap (λ (x : CatalogueView). x.places) same, ap (λ (x : CatalogueView). x.long) same)
+    of_state false e = of_text (loaded_state (sizes_for (with_places base config.spare)) state) e
 
-    by : (b : Bool) → are_sizes config ≡ b → Ok c ≡ opening_of (if b then Some config.spare else None) (Ok base) state → IsConfig config × (c.places ≡ config.spare)
-    by true sizes e = (sizes_from config sizes, of_state (length state == 0) e)
+    by : (b : Bool) → are_sizes config ≡ b → Ok c ≡ opening_of (if b then Some config.spare else None) (Ok base) state → IsConfig config × (c.places ≡ config.spare) × (c.long ≡ 0)
+    by true sizes e = let opened = of_state (length state == 0) e in (sizes_from config sizes, opened.0, opened.1)
     by false sizes e = absurd cc
 
 pub config_opened : (config : Config) (t : TextsRead) (c : CatalogueView) → Ok c ≡ opening (places_in config) t → IsConfig config
@@ -65,9 +65,12 @@ config_opened config t c is = (opened_so config (loaded_by t) t.state c is).0
 pub places_opened : (config : Config) (t : TextsRead) (c : CatalogueView) → Ok c ≡ opening (places_in config) t → c.places ≡ config.spare
 places_opened config t c is = (opened_so config (loaded_by t) t.state c is).1
 
+long_opened : (config : Config) (t : TextsRead) (c : CatalogueView) → Ok c ≡ opening (places_in config) t → c.long ≡ 0
+long_opened config t c is = (opened_so config (loaded_by t) t.state c is).2
+
 -- ---- what a store opens on
 
 pub may_open : (config : Config) (t : TextsRead) (c : CatalogueView) (lent : Option (Bor StoreState)) (state : Option StoreState) → Ok c ≡ opening (places_in config) t → option_copied lent ≡ state
     → IsOpened (On c state) → MayOpen config c lent
 may_open config t c lent state said same opened =
-    record { within = config_opened config t c said; places = places_opened config t c said; fits = fits_on c lent state same opened; opens = opens_on c lent state same opened }
+    record { within = config_opened config t c said; places = places_opened config t c said; long = long_opened config t c said; fits = fits_on c lent state same opened; opens = opens_on c lent state same opened }

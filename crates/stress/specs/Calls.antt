@@ -7,6 +7,7 @@ use Rattle.verifier.specs.declared.refusal.Mode.TheVariants.{Update, Read}
 use Rattle.text.specs.Lines.{next_line}
 use Rattle.text.specs.Fields.{split_at_space}
 use Rattle.loader.specs.CatalogueView.{CatalogueView, number_named}
+use Rattle.oplog.specs.Calls.{NewProgram}
 use Rattle.oplog.specs.Operations.{Operation}
 use Rattle.oplog.specs.declared.records.Op.TheVariants as operations
 use Rattle.replica.specs.StoreMeaning.{program_at}
@@ -31,7 +32,7 @@ operation_on (asks.Install mode arg_len) bytes = operations.Install (record { mo
 -- the operation's refusal before anything is done
 abbrev pub asked_refusal : CatalogueView → Asked → List ℕ → Option StoreRefused
 asked_refusal c (asks.Run mode k) bytes = early_refusal c mode k bytes
-asked_refusal c (asks.Install mode arg_len) bytes = install_refusal c.shapes (record { mode = mode; arg_len = arg_len; bytes = bytes })
+asked_refusal c (asks.Install mode arg_len) bytes = install_refusal c.shapes c.long (record { mode = mode; arg_len = arg_len; bytes = bytes })
 
 -- an install is told what an update is told
 abbrev pub told_as : Asked → Mode
@@ -49,6 +50,10 @@ program_named c call =
 -- what is asked for, unless it is refused with these bytes
 abbrev pub asked_with : CatalogueView → List ℕ → Asked → Option Asked
 asked_with c bytes asked = unless_barred asked (asked_refusal c asked bytes)
+
+-- the install of a program alike
+abbrev pub install_with : CatalogueView → NewProgram → Option Asked
+install_with c new = asked_with c new.bytes (asks.Install new.mode new.arg_len)
 
 -- what stands behind the first field of a text
 abbrev pub behind_field : List ℕ → List ℕ

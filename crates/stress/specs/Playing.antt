@@ -66,6 +66,7 @@ IsScriptRun config timed c calls s = MatchResult calls (λ calls. IsRun config t
 pub record MayOpen (config : Config) (c : CatalogueView) (state : Option (Bor StoreState)) : Type 0 where
   pub within : IsConfig config
   pub places : c.places ≡ config.spare
+  pub long : c.long ≡ 0
   pub fits : IfSome state (λ s. MayOpenOn c s.now)
   pub opens : OpensOn c state
 

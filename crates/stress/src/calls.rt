@@ -4,10 +4,9 @@ ghost use Rattle.std.specs.Prelude.{◌≡◌, ◌≤◌, ◌<◌, length, IfOk,
 ghost use Rattle.text.specs.Lines.{lines_of};
 ghost use Rattle.loader.specs.CatalogueView.{CatalogueView};
 ghost use Rattle.replica.specs.Refusals.{IsRoomFor};
-ghost use Rattle.scripts.specs.ScriptShown.{call_of};
+ghost use Rattle.scripts.specs.ScriptShown.{call_of, program_of};
 ghost use Rattle.stress.specs.declared.calls.Asked.TheVariants.{Run, Install};
-ghost use Rattle.stress.specs.declared.calls.Asked.TheVariants as asks;
-ghost use Rattle.stress.specs.Calls.{asked_refusal, program_named, asked_with, behind_field, one_call, script_calls};
+ghost use Rattle.stress.specs.Calls.{asked_refusal, program_named, asked_with, behind_field, install_with, one_call, script_calls};
 ghost use Rattle.stress.specs.Playing.{IsReady, IsReadyLine, AreReady, line_calls};
 ghost use Rattle.stress.specs.Shown.{calls_in, ReadAs};
 
@@ -81,8 +80,8 @@ fn program_numbered(catalogue: &Catalogue, mode: Mode, call: &NumberedCall) -> O
 // The install of a program, unless it is refused.
 fn program_installed(room: &mut Installed, text: &ProgramText) -> Option<Asked>
     requires room { 0 < room.old.places }
-    ensures room { IsRoomFor room.old.shapes room.new }
-    ensures asked { (c : CatalogueView) → c.shapes ≡ room.old.shapes → result ≡ asked_with c text.now.bytes.items (asks.Install text.now.mode text.now.arg_len) }
+    ensures room { IsRoomFor room.old.shapes room.old.long room.new }
+    ensures asked { (c : CatalogueView) → IsRoomFor c.shapes c.long room.old → result ≡ install_with c (program_of text.now) }
 {
     check_install(room, text.mode, text.arg_len, text.bytes.as_slice()).ok()?;
     Some(Asked::Install {
@@ -125,8 +124,8 @@ fn call_of_line<'a>(
     number: u32,
     line: &'a str,
 ) -> LineCall<'a>
-    requires room { IsRoomFor catalogue.now.shapes room.old }
-    ensures room { IsRoomFor catalogue.now.shapes room.new }
+    requires room { IsRoomFor catalogue.now.shapes catalogue.now.long room.old }
+    ensures room { IsRoomFor catalogue.now.shapes catalogue.now.long room.new }
     ensures said { calls_in result ≡ line_calls catalogue.now number line.now }
     ensures ready { IsReadyLine catalogue.now result }
 {
@@ -164,7 +163,7 @@ pub(crate) fn read_calls<'a>(
     ensures calls { IfOk result (ReadAs (script_calls catalogue.now 1 (lines_of script.now))) }
     ensures ready { IfOk result (AreReady catalogue.now) }
 {
-    let mut room = Installed::open(alloc, catalogue.shapes(), 1)?;
+    let mut room = Installed::open(alloc, catalogue.shapes(), 1, catalogue.long())?;
     let mut calls = Vec::new(alloc);
     let mut lines = NumberedLines::new(script);
     while let Some((number, line)) = lines.take_line() {

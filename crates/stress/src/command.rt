@@ -20,10 +20,9 @@ use crate::left_texts::{Leaving, LeftTexts, left_texts};
 use crate::lines::WrittenCalls;
 use crate::sharing::Left;
 use crate::stressed::Stressed;
-use dumps::Watcher;
 use engine::{
-    Folder, Gathered, Inputs, Opened, Performed, ReadFault, Reply, Sink, Source, Status, Texts,
-    Verdict, gather, hand_back, not_text, open_texts, report,
+    Folder, Gathered, Inputs, Opened, Performed, ReadFault, Reply, Sink, Source, Status,
+    StoreWatcher, Texts, Verdict, gather, hand_back, not_text, open_texts, report,
 };
 use loader::{Catalogue, StoreState};
 use oplog::Config;
@@ -59,7 +58,7 @@ pub struct Stress<'a, R, G, C, V> {
     pub has_history: bool,
     /// The clock that calls are timed by, where they are.
     pub clock: Option<&'a C>,
-    /// What is told how much of the state is loaded.
+    /// What is told how much of the state is loaded, and when the store opens.
     pub watcher: &'a V,
 }
 
@@ -75,7 +74,7 @@ fn places_in(config: Config) -> Option<usize>
     }
 }
 
-impl<'a, R: Threads + Wait + Sync, G: Gate + Sync, C: Clock + Sync, V: Watcher> Stress<
+impl<'a, R: Threads + Wait + Sync, G: Gate + Sync, C: Clock + Sync, V: StoreWatcher> Stress<
     'a,
     R,
     G,

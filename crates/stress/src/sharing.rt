@@ -17,6 +17,7 @@ use crate::players::Playground;
 use crate::playing::play;
 use crate::teams::{Team, batches_in, dissolve, enter, leave, rooms, team_size};
 use crate::watching::{Spent, batches_of, nanoseconds_since, time};
+use engine::StoreWatcher;
 use loader::{Catalogue, StoreState};
 use oplog::{Config, OpenError};
 use std::alloc::{AllocError, Global};
@@ -146,7 +147,13 @@ fn written(
     write_told(alloc, catalogue, timed, told?, spent)
 }
 
-impl<'t, R: Threads + Wait + Sync, G: Gate + Sync, C: Clock + Sync, V> Stress<'t, R, G, C, V> {
+impl<'t, R: Threads + Wait + Sync, G: Gate + Sync, C: Clock + Sync, V: StoreWatcher> Stress<
+    't,
+    R,
+    G,
+    C,
+    V,
+> {
     // Makes the calls on a store that opens on a state, or on a new one, and closes it. What is left of it.
     pub(crate) fn tell_all(
         &self,
@@ -163,7 +170,10 @@ impl<'t, R: Threads + Wait + Sync, G: Gate + Sync, C: Clock + Sync, V> Stress<'t
         let count = (config.nodes * config.slots) as usize;
         let together = team_size(config, self.together);
         let teams = rooms(alloc, count / together, together)?;
-        let Ok((store, mut sessions)) = open(alloc, config, catalogue, state) else {
+        self.watcher.opens();
+        let opened = open(alloc, config, catalogue, state);
+        self.watcher.opened();
+        let Ok((store, mut sessions)) = opened else {
             dissolve(teams);
             return Err(AllocError);
         };

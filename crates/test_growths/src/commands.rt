@@ -170,7 +170,10 @@ pub fn ended<R: Threads + Wait + Sync>(
             answered(alloc, &command, only_file(BUMP_LINE), reads, out)
         }
         Command::Schedule => {
-            let command = Schedule { config: SIZES };
+            let command = Schedule {
+                config: SIZES,
+                watcher: &Unwatched,
+            };
             answered(alloc, &command, with_manifest(STEPS), reads, out)
         }
         Command::Replay => {

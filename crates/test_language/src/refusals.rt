@@ -97,7 +97,7 @@ fn install_each(rt: &HostRuntime) -> io::Result<()> {
     if shapes_ok(&MAPS).is_err() {
         return Ok(());
     }
-    let Ok(mut installed) = Installed::open(rt.alloc(), &MAPS, 2) else {
+    let Ok(mut installed) = Installed::open(rt.alloc(), &MAPS, 2, 0) else {
         return Ok(());
     };
     install(rt, &mut installed, &SEVEN)?;

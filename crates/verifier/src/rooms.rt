@@ -3,19 +3,20 @@
 ghost use Rattle.std.specs.Prelude.{◌≡◌, IfOk};
 ghost use Rattle.insn.specs.Encoding.{HasEncoding};
 ghost use Rattle.maps.specs.Shapes.{AreShapesSupported};
-ghost use Rattle.verifier.specs.Accepted.{zero_reply, empty_room};
+ghost use Rattle.verifier.specs.Accepted.{accepted_with, zero_reply, empty_room};
 
 use crate::accepted::Accepted;
 use crate::refusal::{Mode, VerifyError};
-use crate::verification::verify;
-use insn::{Form, Insn, MAX_INSTALLED_SLOTS, Operation, Source};
+use crate::signature::Signature;
+use crate::verification::accept;
+use insn::{Form, Insn, Operation, Source};
 use maps::Shape;
 use regkind::Frame;
 use std::alloc::{AllocError, Global};
 use std::marker::Model;
 
-/// Room to verify a program of at most [`MAX_INSTALLED_SLOTS`] slots in: the frames before its instructions, and what else a
-/// pass needs. What stands there between two calls means nothing.
+/// Room to verify programs in: the frames before their instructions, and what else a pass needs. What stands there between two
+/// calls means nothing; what is known of it is how many slots a program may have.
 ///
 /// # Examples
 ///
@@ -26,7 +27,7 @@ use std::marker::Model;
 ///
 /// let shapes = [Shape::Array { value: 8, entries: 16 }];
 /// let signature = Signature::new(&shapes, 0, Mode::Read);
-/// let (mut scratch, mut room) = (Scratch::open(rt.alloc())?, Accepted::room(rt.alloc(), &shapes)?);
+/// let (mut scratch, mut room) = (Scratch::open(rt.alloc(), 24)?, Accepted::room(rt.alloc(), &shapes, 24)?);
 /// let exit = decode(rt.alloc(), &[0x95, 0, 0, 0, 0, 0, 0, 0])?;
 /// assert!(rt; verify_into(&exit, &signature, &mut scratch, &mut room).is_err());
 /// // The same room serves the next program.
@@ -38,22 +39,21 @@ pub struct Scratch {
     pub(crate) frames: Vec<Option<Frame>>,
     // For each slot the index of its instruction.
     pub(crate) places: Vec<u16>,
+    slots: usize,
 }
 
 impl Model for Scratch {
-    ghost use Rattle.std.specs.Prelude.{◌≤◌, vec_capacity};
-    ghost use Rattle.insn.specs.declared.decoding.TheConstants.{MAX_INSTALLED_SLOTS};
+    ghost use Rattle.std.specs.Prelude.{ℕ, ◌≤◌, vec_capacity};
 
-    ghost Value = { Unit {0} };
+    ghost Value = { ℕ };
 
-    // Nothing that a caller could want to know.
-    ghost view = { λ s. tt };
+    ghost view = { λ s. s.slots };
 
-    ghost invariant = { λ s. (MAX_INSTALLED_SLOTS ≤ vec_capacity s.frames) × (MAX_INSTALLED_SLOTS ≤ vec_capacity s.places) };
+    ghost invariant = { λ s. (s.slots ≤ vec_capacity s.frames) × (s.slots ≤ vec_capacity s.places) };
 }
 
 impl Scratch {
-    /// Takes the room.
+    /// Takes the room for programs of at most `slots` slots.
     ///
     /// # Errors
     ///
@@ -67,23 +67,26 @@ impl Scratch {
     /// use verifier::{Accepted, Mode, Scratch, Signature, verify_into};
     ///
     /// let shapes = [Shape::Array { value: 8, entries: 16 }];
-    /// let mut scratch = Scratch::open(rt.alloc())?;
-    /// let mut room = Accepted::room(rt.alloc(), &shapes)?;
+    /// let mut scratch = Scratch::open(rt.alloc(), 2)?;
+    /// let mut room = Accepted::room(rt.alloc(), &shapes, 2)?;
     /// let seven = decode(rt.alloc(), &[0xb7, 0, 0, 0, 7, 0, 0, 0, 0x95, 0, 0, 0, 0, 0, 0, 0])?; // mov64 r0, 7; exit
     /// let answer = verify_into(&seven, &Signature::new(&shapes, 0, Mode::Read), &mut scratch, &mut room);
     /// assert_eq!(rt; answer, Ok(()));
     /// ```
-    pub fn open(alloc: Global) -> Result<Scratch, AllocError> {
+    pub fn open(alloc: Global, slots: usize) -> Result<Scratch, AllocError>
+        ensures slots { IfOk result (λ s. s ≡ slots) }
+    {
         Ok(Scratch {
-            frames: Vec::with_capacity(alloc, MAX_INSTALLED_SLOTS)?,
-            places: Vec::with_capacity(alloc, MAX_INSTALLED_SLOTS)?,
+            frames: Vec::with_capacity(alloc, slots)?,
+            places: Vec::with_capacity(alloc, slots)?,
+            slots,
         })
     }
 }
 
 impl Accepted {
-    /// Takes room for any program of at most [`MAX_INSTALLED_SLOTS`] slots. Until one is put there it is the program that
-    /// replies 0, for maps of these shapes.
+    /// Takes room for any program of at most `slots` slots. Until one is put there it is the program that replies 0, for maps of
+    /// these shapes.
     ///
     /// # Errors
     ///
@@ -97,15 +100,16 @@ impl Accepted {
     /// use verifier::Accepted;
     ///
     /// let shapes = [Shape::Array { value: 8, entries: 16 }];
-    /// let room = Accepted::room(rt.alloc(), &shapes)?;
+    /// let room = Accepted::room(rt.alloc(), &shapes, 24)?;
     /// assert_eq!(rt; room.program()[0].form(), Form::Alu { w64: true, op: Operation::Mov, dst: 0, src: Source::Imm(0) });
     /// assert_eq!(rt; room.program()[1].form(), Form::Exit);
     /// ```
-    pub fn room(alloc: Global, shapes: &[Shape]) -> Result<Accepted, AllocError>
+    pub fn room(alloc: Global, shapes: &[Shape], slots: usize) -> Result<Accepted, AllocError>
         requires shapes { AreShapesSupported shapes.now }
-        ensures empty { IfOk result (λ a. a ≡ empty_room shapes.now) }
+        ensures empty { IfOk result (λ a. a ≡ accepted_with (empty_room shapes.now) slots) }
     {
-        match verify(alloc, zero_reply(alloc)?, shapes, 0, Mode::Read) {
+        let signature = Signature::new(shapes, 0, Mode::Read);
+        match accept(alloc, zero_reply(alloc)?, &signature, slots) {
             Ok(accepted) => Ok(accepted),
             Err(VerifyError::NoMemory) => Err(AllocError),
             Err(VerifyError::Refused(_)) => unreachable!(),
@@ -117,7 +121,7 @@ impl Accepted {
 fn zero_reply(alloc: Global) -> Result<Vec<Insn>, AllocError>
     ensures { IfOk result (λ v. v.items ≡ zero_reply) }
 {
-    let mut program = Vec::with_capacity(alloc, MAX_INSTALLED_SLOTS)?;
+    let mut program = Vec::with_capacity(alloc, 2)?;
     program.push_reserved(instruction(Form::Alu {
         w64: true,
         op: Operation::Mov,

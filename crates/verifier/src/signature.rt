@@ -21,7 +21,7 @@ use std::marker::Model;
 /// use verifier::{Accepted, Mode, Scratch, Signature, verify_into};
 ///
 /// let shapes = [Shape::Array { value: 8, entries: 16 }];
-/// let (mut scratch, mut room) = (Scratch::open(rt.alloc())?, Accepted::room(rt.alloc(), &shapes)?);
+/// let (mut scratch, mut room) = (Scratch::open(rt.alloc(), 2)?, Accepted::room(rt.alloc(), &shapes, 2)?);
 /// // r0 = *(u64 *)(r1 + 0), the first 8 bytes of the argument; exit
 /// let program = decode(rt.alloc(), &[0x79, 0x10, 0, 0, 0, 0, 0, 0, 0x95, 0, 0, 0, 0, 0, 0, 0])?;
 /// let seven_bytes = Signature::new(&shapes, 7, Mode::Read);

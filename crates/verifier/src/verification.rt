@@ -1,14 +1,13 @@
 // The verifier: structure first, then one pass over the instructions in program order.
 
 ghost use Rattle.std.specs.Prelude.{◌≡◌, ◌<◌, ◌≤◌, None, Some, length, replicate, slice_set, vec_capacity, IfOk, IfErr, IsOk, OnOk, OnErr, MatchResult};
-ghost use Rattle.insn.specs.declared.decoding.TheConstants.{MAX_INSTALLED_SLOTS};
 ghost use Rattle.std.specs.List.{AllByRecursion};
 ghost use Rattle.insn.specs.Encoding.{HasEncoding};
 ghost use Rattle.insn.specs.Layout.{size};
 ghost use Rattle.regkind.specs.Frames.{entry_frame};
 ghost use Rattle.flow.specs.Structure.{IsStructured, HasGoodSize};
 ghost use Rattle.maps.specs.Shapes.{AreShapesSupported};
-ghost use Rattle.verifier.specs.Accepted.{checked};
+ghost use Rattle.verifier.specs.Accepted.{accepted_with, checked, checked_in};
 ghost use Rattle.verifier.specs.Signature.{Signature, signature, IsSignatureOk};
 ghost use Rattle.verifier.specs.Typing.{IsTypable, Refuses, RefusedByStructure, RefusedByKinds, structure_reason, IsNoMemory, IfRefused};
 ghost use Rattle.verifier.specs.Pass.{IsTypedBy};
@@ -21,7 +20,7 @@ use crate::rooms::Scratch;
 use crate::signature::Signature;
 use crate::visiting::visit;
 use flow::{StructureRule, structure};
-use insn::{Insn, MAX_INSTALLED_SLOTS, MAX_SLOTS};
+use insn::{Insn, MAX_SLOTS};
 use maps::{MOST_ARG_LEN, Shape};
 use regkind::Frame;
 use std::alloc::{AllocError, Global};
@@ -59,7 +58,7 @@ pub fn verify(
     requires shapes { AreShapesSupported shapes.now }
     requires argument { arg_len ≤ MOST_ARG_LEN }
     // What is handed back is the program, with what it was checked for.
-    ensures accepted { IfOk result (λ a. a ≡ checked program.items shapes.now arg_len mode) }
+    ensures accepted { IfOk result (λ a. checked_in a ≡ checked program.items shapes.now arg_len mode) }
     ensures typable { OnOk result (IsTypable program.items (signature shapes.now arg_len mode)) }
     // A typable program is not accepted only where there is no memory left.
     ensures only { IsTypable program.items (signature shapes.now arg_len mode)
@@ -69,16 +68,33 @@ pub fn verify(
     // The answer is the computed verdict.
     ensures reading { IsVerdictOrNoMemory (verdict program.items (signature shapes.now arg_len mode)) result }
 {
-    let l = Signature::new(shapes, arg_len, mode);
+    let signature = Signature::new(shapes, arg_len, mode);
+    accept(alloc, program, &signature, 0)
+}
+
+// What `verify` answers, with room for a program of so many slots in the place of this one.
+pub(crate) fn accept(
+    alloc: Global,
+    program: Vec<Insn>,
+    l: &Signature,
+    room: usize,
+) -> Result<Accepted, VerifyError>
+    requires limits { IsSignatureOk l.now }
+    ensures accepted { IfOk result (λ a. a ≡ accepted_with (checked program.items l.now.shapes l.now.arg_len l.now.mode) room) }
+    ensures typable { OnOk result (IsTypable program.items l.now) }
+    ensures only { IsTypable program.items l.now → IfErr result IsNoMemory }
+    ensures refused { IfErr result (IfRefused (Refuses program.items l.now)) }
+    ensures reading { IsVerdictOrNoMemory (verdict program.items l.now) result }
+{
     check_structure(&program)?;
     let mut frames = Vec::with_capacity(alloc, count_slots(&program))?;
-    check_kinds(&program, &l, &mut frames)?;
-    let accepted = Accepted::of(alloc, program, &frames, &l)?;
+    check_kinds(&program, l, &mut frames)?;
+    let accepted = Accepted::of(alloc, program, &frames, l, room)?;
     Ok(accepted)
 }
 
-/// What `verify` answers of a program of at most [`MAX_INSTALLED_SLOTS`] slots, in room that is lent. No memory is taken. An accepted program
-/// takes the place of the one that was there; where it is refused, that one stays.
+/// What `verify` answers of a program for which there is room, in room that is lent. No memory is taken. An accepted program takes the
+/// place of the one that was there; where it is refused, that one stays.
 ///
 /// # Examples
 ///
@@ -88,7 +104,7 @@ pub fn verify(
 /// use verifier::{Accepted, Mode, Scratch, Signature, verify_into};
 ///
 /// let shapes = [Shape::Array { value: 8, entries: 16 }];
-/// let (mut scratch, mut room) = (Scratch::open(rt.alloc())?, Accepted::room(rt.alloc(), &shapes)?);
+/// let (mut scratch, mut room) = (Scratch::open(rt.alloc(), 24)?, Accepted::room(rt.alloc(), &shapes, 24)?);
 /// let seven = decode(rt.alloc(), &[0xb7, 0, 0, 0, 7, 0, 0, 0, 0x95, 0, 0, 0, 0, 0, 0, 0])?; // mov64 r0, 7; exit
 /// let answer = verify_into(&seven, &Signature::new(&shapes, 0, Mode::Update), &mut scratch, &mut room);
 /// assert_eq!(rt; answer, Ok(()));
@@ -100,10 +116,12 @@ pub fn verify_into(
     scratch: &mut Scratch,
     room: &mut Accepted,
 ) -> Result<(), Refused>
-    requires few { size program.now ≤ MAX_INSTALLED_SLOTS }
+    requires few { size program.now ≤ scratch.old }
+    requires room { size program.now ≤ room.old.room }
     requires limits { IsSignatureOk signature.now }
-    ensures accepted { OnOk result (room.new ≡ checked program.now signature.now.shapes signature.now.arg_len signature.now.mode) }
+    ensures accepted { OnOk result (room.new ≡ accepted_with (checked program.now signature.now.shapes signature.now.arg_len signature.now.mode) room.old.room) }
     ensures same { OnErr result (room.new ≡ room.old) }
+    ensures scratch { scratch.new ≡ scratch.old }
     ensures typable { OnOk result (IsTypable program.now signature.now) }
     ensures refused { IfErr result (Refuses program.now signature.now) }
     ensures reading { IsVerdict (verdict program.now signature.now) result }

@@ -64,8 +64,9 @@ class ProgramInfo(NamedTuple):
 
 
 class StoreInfo(NamedTuple):
-    """The sizes of a store, how many maps it has, and how many programs its manifest has. The numbers of the spare places
-    come after theirs."""
+    """The sizes of a store, how many maps it has, and how many programs its manifest has. The numbers of the spare
+    places come after theirs. Last, the most bytes of an installed program, and of its argument, if that is more than
+    192 and 64."""
 
     nodes: int
     slots: int
@@ -74,6 +75,7 @@ class StoreInfo(NamedTuple):
     spare: int
     maps: int
     programs: int
+    long_bytes: int
 
 
 class Counts(NamedTuple):

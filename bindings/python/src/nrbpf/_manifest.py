@@ -59,7 +59,8 @@ LARGE = Limits(value=16_384, entries=1 << 31, bytes=1 << 40, argument=16_384)
 
 class Sizes(NamedTuple):
     """The sizes of a store: its nodes, the sessions of each, the updates that the log keeps, those that its history may
-    have (0: no end), the programs that may be installed later, and how large maps and arguments may be."""
+    have (0: no end), the programs that may be installed later, how large maps and arguments may be, and the most bytes
+    of an installed program, and of its argument, if that is more than 192 and 64."""
 
     nodes: int = 1
     slots: int = 1
@@ -67,14 +68,16 @@ class Sizes(NamedTuple):
     limit: int = 0
     spare: int = 0
     limits: Limits = STANDARD
+    long_bytes: int = 0
 
     def native(self) -> _native.Config:
-        for name in ("nodes", "slots", "window", "limit", "spare"):
+        for name in ("nodes", "slots", "window", "limit", "spare", "long_bytes"):
             if not 0 <= getattr(self, name) < 1 << 32:
                 raise ValueError(f"{name} is a number from 0 to 2^32 - 1")
         config = _native.Config()
         _native.library.nrbpf_config_init(config, _native.VERSION, self.nodes, self.slots)
         config.window, config.limit, config.spare = self.window, self.limit, self.spare
+        config.long_bytes = self.long_bytes
         for name, number in self.limits._asdict().items():
             if not 0 < number < 1 << (64 if name in ("entries", "bytes") else 32):
                 raise ValueError(f"{name} is a number from 1 on, of as many bits as it has")

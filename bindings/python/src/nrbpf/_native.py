@@ -1,4 +1,4 @@
-"""The functions and structs of nrbpf.h, version 2.5, by ctypes, which lets the interpreter's lock go while a call is
+"""The functions and structs of nrbpf.h, version 2.6, by ctypes, which lets the interpreter's lock go while a call is
 made."""
 
 from __future__ import annotations
@@ -8,7 +8,7 @@ import os
 import platform
 import sys
 
-VERSION = 2005
+VERSION = 2006
 
 
 class File(c.Structure):
@@ -27,6 +27,7 @@ class Config(c.Structure):
     _fields_ = (
         *((name, c.c_uint32) for name in ("version", "nodes", "slots", "window", "limit", "spare")),
         ("limits", Limits),
+        ("long_bytes", c.c_uint32),
     )
 
 
@@ -82,7 +83,8 @@ class ProgramFacts(c.Structure):
 
 class StoreFacts(c.Structure):
     _fields_ = tuple(
-        (name, c.c_uint32) for name in ("nodes", "slots", "window", "limit", "spare", "maps", "programs")
+        (name, c.c_uint32)
+        for name in ("nodes", "slots", "window", "limit", "spare", "maps", "programs", "long_bytes")
     )
 
 

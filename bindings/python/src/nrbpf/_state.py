@@ -35,11 +35,13 @@ class State:
         self._lock = threading.Lock()
 
     @classmethod
-    def load(cls, manifest: Manifest, dump: Buffer, *, spare: int = 0, limits: Limits = STANDARD) -> State:
-        """The state that a dump says, for stores of this manifest with so many spare places. An empty dump is a new
-        store's."""
+    def load(
+        cls, manifest: Manifest, dump: Buffer, *, spare: int = 0, limits: Limits = STANDARD, long_bytes: int = 0
+    ) -> State:
+        """The state that a dump says, for stores of this manifest with so many spare places, for programs of so many
+        bytes. An empty dump is a new store's."""
         out, fault, text = ctypes.c_void_p(), _native.Fault(), as_bytes(dump)
-        config = Sizes(spare=spare, limits=limits).native()
+        config = Sizes(spare=spare, limits=limits, long_bytes=long_bytes).native()
         check(_library.nrbpf_state_load(config, *manifest.native(), text, len(text), out, fault), fault)
         return cls(out.value)
 

@@ -171,6 +171,7 @@ def open(
     limit: int = 0,
     spare: int = 0,
     limits: Limits = STANDARD,
+    long_bytes: int = 0,
     state: State | None = None,
 ) -> Store:
     """Opens a store of a manifest, or goes on from a state, which may be opened on again.
@@ -181,5 +182,7 @@ def open(
     limit: the updates of the whole history, behind which there is S4; ENDLESS, 0: no end
     spare: 0 to 4,096, the programs that may be installed later
     limits: STANDARD, LARGE or others: how large the maps and the arguments of programs may be
+    long_bytes: 0 to 16,384, the most bytes of an installed program, and of its argument, if that is more than 192 and
+        64. The log and each node keep so many bytes for each update of the window
     """
-    return Store(manifest, Sizes(nodes, slots, window, limit, spare, limits), state)
+    return Store(manifest, Sizes(nodes, slots, window, limit, spare, limits, long_bytes), state)

@@ -2,10 +2,10 @@
 
 use crate::commands::options;
 use crate::keeping::perform_noting;
-use crate::progress::{Progress, Screen};
-use crate::tasks::{Call, Task};
+use crate::progress::Screen;
+use crate::tasks::{Asked, Task};
 use clap::{ArgMatches, Command, arg};
-use engine::{Folder, Inputs, Status};
+use engine::{Folder, Inputs, Status, StoreWatcher};
 use realtime::ReplayTimed;
 use replaying::Replay;
 use std::alloc::{AllocError, Global};
@@ -85,18 +85,24 @@ pub fn task<'a>(matches: &ArgMatches<'a>) -> Option<Task<'a>> {
 }
 
 /// Replays a transcript, with so many places for installed programs. Judges the times of its calls too, if they are given.
-pub fn perform<R: AllocGlobal + Screen, F: Folder, I: Read + Drop, W: Write>(
+pub fn perform<R: AllocGlobal + Screen, F: Folder, I: Read + Drop, W: Write, V: StoreWatcher>(
     rt: &R,
-    spare: u32,
-    call: &Call<'_>,
+    asked: Asked<'_, u32>,
+    watcher: &V,
     inputs: &mut Inputs<'_, F, I>,
     writer: &mut W,
 ) -> Status {
-    let watcher = &Progress::of_state(rt, call.state);
+    let Asked { task, call } = asked;
     if inputs.history.is_some() {
-        let command = ReplayTimed { spare, watcher };
+        let command = ReplayTimed {
+            spare: task,
+            watcher,
+        };
         return perform_noting(rt, &command, call.telling, inputs, writer);
     }
-    let command = Replay { spare, watcher };
+    let command = Replay {
+        spare: task,
+        watcher,
+    };
     perform_noting(rt, &command, call.telling, inputs, writer)
 }

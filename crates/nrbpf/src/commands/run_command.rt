@@ -3,10 +3,10 @@
 use crate::commands::options;
 use crate::keeping::{destination_of, elsewhere};
 use crate::output::{Target, no_memory, put_after};
-use crate::progress::{Progress, Screen};
-use crate::tasks::{Call, Running, Task};
+use crate::progress::Screen;
+use crate::tasks::{Asked, Running, Task};
 use clap::{ArgMatches, Command, arg};
-use engine::{Folder, Inputs, Notes, Performed, Sink, Source, Status, perform_kept};
+use engine::{Folder, Inputs, Notes, Performed, Sink, Source, Status, StoreWatcher, perform_kept};
 use running::{CalledRun, DumpedRun, Run};
 use std::alloc::{AllocError, Global};
 use std::rt::Files;
@@ -98,26 +98,32 @@ pub fn task<'a>(matches: &ArgMatches<'a>) -> Option<Task<'a>> {
 }
 
 /// Runs a script. Puts the state that it leaves into its file, if no line was bad and all was written.
-pub fn perform<R: Files + AllocGlobal + Screen, F: Folder, I: Source + Drop, W: Sink>(
+pub fn perform<
+    R: Files + AllocGlobal + Screen,
+    F: Folder,
+    I: Source + Drop,
+    W: Sink,
+    V: StoreWatcher,
+>(
     rt: &R,
-    asked: Running,
-    call: &Call<'_>,
+    asked: Asked<'_, Running>,
+    watcher: &V,
     inputs: &mut Inputs<'_, F, I>,
     writer: &mut W,
 ) -> Status {
-    let loading = Progress::of_state(rt, call.state);
+    let Asked { task, call } = asked;
     let Ok(target) = Target::of(rt.alloc(), call.output) else {
         return no_memory(writer);
     };
     let run = DumpedRun {
         run: Run {
-            is_signed: asked.is_signed,
-            watcher: &loading,
+            is_signed: task.is_signed,
+            watcher,
         },
         dump: destination_of(call.output),
     };
     let mut notes = Notes::none(rt.alloc());
-    let Performed { status, made } = if asked.has_values {
+    let Performed { status, made } = if task.has_values {
         perform_kept(rt.alloc(), &CalledRun { run }, inputs, &mut notes, writer)
     } else {
         perform_kept(rt.alloc(), &run, inputs, &mut notes, writer)

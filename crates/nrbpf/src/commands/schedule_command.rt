@@ -2,13 +2,14 @@
 
 use crate::commands::options;
 use crate::keeping::perform_noting;
-use crate::tasks::{Task, config_of};
+use crate::progress::Screen;
+use crate::tasks::{Asked, Task, config_of};
 use clap::{ArgMatches, Command, arg};
-use engine::{Folder, Inputs, Status, Telling};
+use engine::{Folder, Inputs, Status, StoreWatcher};
 use oplog::Config;
 use scheduling::Schedule;
 use std::alloc::{AllocError, Global};
-use std::io::{Eprint, Read, Write};
+use std::io::{Read, Write};
 
 // The help's text after the arguments.
 const HELP: &str = "\
@@ -93,12 +94,16 @@ pub fn task<'a>(matches: &ArgMatches<'a>) -> Option<Task<'a>> {
 }
 
 /// Takes a list of steps on a store of these sizes.
-pub fn perform<R: AllocGlobal + Eprint, F: Folder, I: Read + Drop, W: Write>(
+pub fn perform<R: AllocGlobal + Screen, F: Folder, I: Read + Drop, W: Write, V: StoreWatcher>(
     rt: &R,
-    config: Config,
-    telling: Telling,
+    asked: Asked<'_, Config>,
+    watcher: &V,
     inputs: &mut Inputs<'_, F, I>,
     writer: &mut W,
 ) -> Status {
-    perform_noting(rt, &Schedule { config }, telling, inputs, writer)
+    let command = Schedule {
+        config: asked.task,
+        watcher,
+    };
+    perform_noting(rt, &command, asked.call.telling, inputs, writer)
 }

@@ -4,11 +4,11 @@ use crate::commands::options;
 use crate::disk::LateFile;
 use crate::keeping::destination_of;
 use crate::output::{Target, no_memory, put_after};
-use crate::progress::{Progress, Screen};
-use crate::tasks::{Call, Task};
+use crate::progress::Screen;
+use crate::tasks::{Asked, Task};
 use clap::{ArgMatches, Command};
 use dumps::StateText;
-use engine::{Destination, Folder, Handed, Inputs, Sink, Source, Status};
+use engine::{Destination, Folder, Handed, Inputs, Sink, Source, Status, StoreWatcher};
 use loader::StoreState;
 use running::dump_to;
 use serving::{ServeEnd, ServeOptions, Server};
@@ -85,20 +85,26 @@ fn dump_after<W: Sink>(alloc: Global, state: &StoreState, writer: &mut W) -> Sta
 }
 
 /// Answers the lines of standard input while they arrive. Puts the state that they leave into its file, if standard input has ended.
-pub fn perform<R: Files + Input + AllocGlobal + Screen, F: Folder, I: Source + Drop, W: Sink>(
+pub fn perform<
+    R: Files + Input + AllocGlobal + Screen,
+    F: Folder,
+    I: Source + Drop,
+    W: Sink,
+    V: StoreWatcher,
+>(
     rt: &R,
-    options: ServeOptions,
-    call: &Call<'_>,
+    asked: Asked<'_, ServeOptions>,
+    watcher: &V,
     inputs: &mut Inputs<'_, F, I>,
     writer: &mut W,
 ) -> Status {
+    let Asked { task, call } = asked;
     let mut lines = LateFile::lines(rt);
     let Ok(target) = Target::of(rt.alloc(), call.output) else {
         return no_memory(writer);
     };
-    let loading = Progress::of_state(rt, call.state);
-    let server = Server { watcher: &loading };
-    let ServeEnd { status, state } = server.serve(rt.alloc(), options, inputs, &mut lines, writer);
+    let server = Server { watcher };
+    let ServeEnd { status, state } = server.serve(rt.alloc(), task, inputs, &mut lines, writer);
     match (destination_of(call.output), state) {
         (Destination::Writer, Some(state)) => dump_after(rt.alloc(), &state, writer),
         (Destination::Elsewhere, Some(state)) => match StateText::new(rt.alloc(), state) {

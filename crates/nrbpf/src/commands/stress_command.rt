@@ -3,10 +3,10 @@
 use crate::commands::options;
 use crate::keeping::destination_of;
 use crate::output::{Target, no_memory, put_after, put_state};
-use crate::progress::{Progress, Screen};
-use crate::tasks::{Call, Stressing, Task, config_of};
+use crate::progress::Screen;
+use crate::tasks::{Asked, Call, Stressing, Task, config_of};
 use clap::{ArgMatches, Command, arg};
-use engine::{Destination, Folder, Inputs, Performed, Status};
+use engine::{Destination, Folder, Inputs, Performed, Status, StoreWatcher};
 use std::alloc::{AllocError, Global};
 use std::io::{Eprint, Read, Write};
 use std::rt::Files;
@@ -138,22 +138,23 @@ pub fn perform<
     F: Folder,
     I: Read + Drop,
     W: Write,
+    V: StoreWatcher,
 >(
     rt: &R,
-    asked: Stressing,
-    call: &Call<'_>,
+    asked: Asked<'_, Stressing>,
+    watcher: &V,
     inputs: &mut Inputs<'_, F, I>,
     writer: &mut W,
 ) -> Status {
-    let loading = Progress::of_state(rt, call.state);
+    let Asked { task, call } = asked;
     let command = Stress {
         rt,
-        config: asked.config,
-        together: asked.together,
+        config: task.config,
+        together: task.together,
         gate: &OpenGate,
         has_history: call.times.is_some(),
         clock: if call.has_stats { Some(rt) } else { None },
-        watcher: &loading,
+        watcher,
     };
     let (Ok(times), Ok(state)) = (
         Target::of(rt.alloc(), call.times),
@@ -163,7 +164,7 @@ pub fn perform<
     };
     let Performed { status, made } = command.perform_kept(
         rt.alloc(),
-        leaving_of(call),
+        leaving_of(&call),
         inputs,
         writer,
     );

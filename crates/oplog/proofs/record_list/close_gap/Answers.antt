@@ -2,7 +2,7 @@ use Rattle.std.proofs.Common.{rules, vec_len, ◌≡◌, ℕ, ◌-◌, ◌≤◌
 use Rattle.std.proofs.lemmas.List.{take_all, length-drop}
 use Rattle.std.specs.List.{copy_within}
 use Rattle.oplog.specs.declared.rows.Row.{Row}
-use Rattle.oplog.specs.Laid.{records_in, pulled_rows, begin_of, AreLaid}
+use Rattle.oplog.specs.Laid.{records_in, begin_of, AreLaid}
 use Rattle.oplog.proofs.Laying.{begins_within, rows_pulled, laid_pulled, begin_pulled}
 use Rattle.oplog.proofs.Rooms.{moved_to_front}
 use Rattle.oplog.proofs.record_list.close_gap.Goals as goal

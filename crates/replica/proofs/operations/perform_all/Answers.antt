@@ -18,7 +18,7 @@ loop-k-preserved c =
     subst (λ (op : Operation). updated c.args.catalogue.now op before ≡ Some (answered c.perform.result after)) (sym c.op-op.ensures.op.2) c.perform.ensures.updated in
     record {
       shapes = c.perform.ensures.shapes;
-      programs = c.perform.ensures.sizes.0 ∙ c.loop-k.invariant.programs;
+      programs = (c.perform.ensures.sizes.0 ∙ c.loop-k.invariant.programs.0, c.perform.ensures.sizes.2 ∙ c.loop-k.invariant.programs.1);
       state =
           after_one_more c.args.catalogue.now opening before after c.args.records.now c.loop-k.k r c.op-op.ensures.op.1 c.loop-k.invariant.state
           (leaves c.args.catalogue.now r.op before after c.perform.result does);

@@ -19,7 +19,7 @@ loop-k-preserved c =
     subst (λ (op : Operation). updated c.args.catalogue.now op before ≡ Some (answered c.perform-outcome.result after)) (sym c.op-op.ensures.op.2) c.perform-outcome.ensures.updated in
     record {
       shapes = c.perform-outcome.ensures.shapes;
-      sizes = (c.perform-outcome.ensures.sizes.0 ∙ c.loop-k.invariant.sizes.0, c.perform-outcome.ensures.sizes.1 ∙ c.loop-k.invariant.sizes.1);
+      sizes = (c.perform-outcome.ensures.sizes.0 ∙ c.loop-k.invariant.sizes.0, c.perform-outcome.ensures.sizes.1 ∙ c.loop-k.invariant.sizes.1, c.perform-outcome.ensures.sizes.2 ∙ c.loop-k.invariant.sizes.2);
       state = after_one_more c.args.catalogue.now opening before after c.args.records.now c.loop-k.k r there c.loop-k.invariant.state (leaves c.args.catalogue.now r.op before after c.perform-outcome.result does);
       kept =
           keeps_one_more c.args.catalogue.now opening before c.args.first c.args.first c.args.records.now

@@ -19,16 +19,11 @@ returns-in-Some-clause-taken c = λ limit h follows.
     let node = c.check.new.self in
     let log = ap (λ (g : Log). tail_of g) c.check.ensures.log in
     let here : Follows limit catalogue h node = record { limit_is = ap (λ (g : Log). g.limit) c.check.ensures.log ∙ follows.limit_is; count = log ∙ follows.count; state = ap (λ (n : NodeReplica). n.replica.state) c.check.ensures.own ∙ follows.state } in
-    let none : install_refusal catalogue.shapes (program_of c.args.text.now) ≡ None = search rules in
-    let p = c.in-Ok.program in
-    let asked : c.install-install.result ≡ Install p =
-    c.install-install.ensures.program ∙ (λ i. Install (record { mode = c.mode.ensures.mode i; arg_len = c.arg_len.ensures.length i; bytes = c.bytes.ensures.bytes i })) in
-    let updated = subst (λ (o : Operation). IsUpdated catalogue o node c.submit.new.self c.in-Some.outcome) asked c.in-Some.ensures.updated in
-    let wrote =
-    install_turn limit catalogue h node here (Install c.in-Ok.program) c.put_install.result c.tail-index.result c.submit.new.self c.in-Some.outcome
-    c.args.out.now.items c.put_install.new.out.items (c.tail-index.ensures ∙ sym log) updated c.put_install.ensures in
+    let none : install_refusal catalogue.shapes catalogue.long (program_of c.args.text.now) ≡ None = search rules in
+    let program : NewProgram = program_of c.args.text.now in
+    let updated = subst (λ (o : Operation). IsUpdated catalogue o node c.submit.new.self c.in-Some.outcome) c.in-Ok.ensures.program.0 c.in-Some.ensures.updated in
     let said =
-    subst (λ (p : NewProgram). OnOk c.put_install.result (IsTaken limit catalogue (submitted limit install_told catalogue h (Install p)) c.submit.new.self c.args.out.now.items c.put_install.new.out.items))
-    c.in-Ok.ensures.program.0 wrote in
+    install_turn limit catalogue h node here (Install program) c.put_install.result c.tail-index.result c.submit.new.self c.in-Some.outcome
+    c.args.out.now.items c.put_install.new.out.items (c.tail-index.ensures ∙ sym log) updated c.put_install.ensures in
     subst (λ o. OnOk c.put_install.result (IsTaken limit catalogue (option_map_or (refused h) o (submitted limit install_told catalogue h (Install (program_of c.args.text.now)))) c.submit.new.self c.args.out.now.items c.put_install.new.out.items))
     (sym none) said

@@ -24,7 +24,7 @@ new-requires c =
     let n = next_seat c.args.setup.now.config c.args.setup.now.catalogue _ _ c.loop-number.number _ _ lt g in
     let t = c.split-own.ensures.apart _ _ n.2 in
     let popped : c.loop-number.rooms.items ≡ c.pop.new.self.items ++ c.in-Some.room ∷ [] = search rules in
-    let room = (All-pop (IsRoomFor c.args.setup.now.catalogue.shapes) c.loop-number.rooms.items c.pop.new.self.items (Some c.in-Some.room) popped c.loop-number.invariant.rooms).1 in
+    let room = (All-pop (IsRoomFor c.args.setup.now.catalogue.shapes c.args.setup.now.catalogue.long) c.loop-number.rooms.items c.pop.new.self.items (Some c.in-Some.room) popped c.loop-number.invariant.rooms).1 in
     record { room = subst (λ z. HasRoom c.in-Some.room (record { shelf = c.split-own.result.shelf; sessions = z })) (sym t.1) room; idle = starts_idle c.args.setup.now.config c.args.setup.now.catalogue c.split-own.result c.caller_of-caller.result c.loop-number.number t.1 lt c.caller_of-caller.ensures.own c.caller_of-caller.ensures.within }
 
 pub push_reserved-requires : goal.push_reserved-requires
@@ -44,7 +44,7 @@ loop-number-preserved c =
     let popped : c.loop-number.rooms.items ≡ c.pop.new.self.items ++ c.in-Some.room ∷ [] = search rules in
     let fewer = ap length popped ∙ length-append c.pop.new.self.items (c.in-Some.room ∷ []) in
     record {
-      rooms = (All-pop (IsRoomFor c.args.setup.now.catalogue.shapes) c.loop-number.rooms.items c.pop.new.self.items (Some c.in-Some.room) popped c.loop-number.invariant.rooms).0;
+      rooms = (All-pop (IsRoomFor c.args.setup.now.catalogue.shapes c.args.setup.now.catalogue.long) c.loop-number.rooms.items c.pop.new.self.items (Some c.in-Some.room) popped c.loop-number.invariant.rooms).0;
       left = omega (arith, fewer, c.loop-number.invariant.left);
       seated = seated_more c.args.setup.now.config c.args.setup.now.catalogue c.args.shelf.now.id (sessions_of c.args.setup.now.config) c.loop-number.number _ c.loop-number.seat c.split-own.new.seat c.split-own.result c.loop-number.sessions.items c.push_reserved.new.self.items c.new.result refl lt g c.split-own.ensures.same.0 c.split-own.ensures.same.1 c.split-own.ensures.apart c.new.ensures.session c.push_reserved.ensures.items;
       capacity = c.push_reserved.ensures.capacity ∙ c.loop-number.invariant.capacity;

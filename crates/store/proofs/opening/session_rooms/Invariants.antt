@@ -5,4 +5,4 @@ use Rattle.replica.specs.Refusals.{IsRoomFor}
 use Rattle.store.proofs.opening.session_rooms.Given as goal
 
 abbrev pub invariant-loop-session : goal.invariant-loop-session
-invariant-loop-session l = record { rooms : All (IsRoomFor l.shapes) l.rooms.items; count : length l.rooms.items ≡ l._session; capacity : l.count ≤ vec_capacity l.rooms }
+invariant-loop-session l = record { rooms : All (IsRoomFor l.catalogue.shapes l.catalogue.long) l.rooms.items; count : length l.rooms.items ≡ l._session; capacity : l.count ≤ vec_capacity l.rooms }

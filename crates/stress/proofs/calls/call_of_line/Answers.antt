@@ -74,7 +74,7 @@ returns-in-Some-Install-clause-said c =
     let is = c.behind_field-in-Some-Install-3.ensures.behind ∙ ap behind_field (c.behind_field-in-Some-Install-2.ensures.behind ∙ ap behind_field first) in
     let asked = c.program_installed-asked in
     line_said c.args.catalogue.now c.args.number line _ _ _ asked.result _ _ (means line c.in-Some-Install.field-0-is c.in-Some-Install.ensures) c.one_call-in-Some-Install.ensures.said is
-    (asked.ensures.asked c.args.catalogue.now (sym c.requires.room.0)) refl
+    (asked.ensures.asked c.args.catalogue.now c.requires.room) refl
 
 pub returns-in-Some-Install-clause-ready : goal.returns-in-Some-Install-clause-ready
 returns-in-Some-Install-clause-ready c =
@@ -88,6 +88,6 @@ returns-in-Some-Install-clause-ready c =
     let short : length third.result.now ≤ length line = omega arith in
     let asked = c.program_installed-asked in
     let hex = install_hex line new (sym (means line c.in-Some-Install.field-0-is c.in-Some-Install.ensures)) in
-    let free = free_with catalogue new.bytes (asks.Install new.mode new.arg_len) asked.result (asked.ensures.asked catalogue (sym c.requires.room.0)) in
+    let free = free_with catalogue new.bytes (asks.Install new.mode new.arg_len) asked.result (asked.ensures.asked catalogue c.requires.room) in
     c.one_call-in-Some-Install.ensures.ready catalogue
     (ready_call catalogue c.args.number line new.bytes (behind_field (behind_field (behind_field line))) third.result asked.result hex short is free)

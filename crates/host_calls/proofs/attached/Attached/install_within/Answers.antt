@@ -11,7 +11,7 @@ use Rattle.host_calls.proofs.attached.Attached.install_within.Goals as goal
 pub returns-in-Ok-Some-clause-tells : goal.returns-in-Ok-Some-clause-tells
 returns-in-Ok-Some-clause-tells c =
     let op = install_of c.args.mode c.args.argument c.args.bytes.now in
-    let refused : StoreView → Option StoreRefused = λ z. within_refusal z.catalogue.shapes c.args.maps (new_program c.args.mode c.args.argument c.args.bytes.now) in
+    let refused : StoreView → Option StoreRefused = λ z. within_refusal z.catalogue.shapes z.catalogue.long c.args.maps (new_program c.args.mode c.args.argument c.args.bytes.now) in
     let old = c.self.inside.session in
     let is_old : old ≡ c.args.self.now.session = search rules in
     let is_of : c.deref.result.now ≡ c.args.self.now.store = search rules in

@@ -1,12 +1,11 @@
-use Rattle.std.proofs.Common.{◌≡◌, ◌<◌, true, [], ◌∷◌, ◌++◌, length, refl, sym, ap, subst, ◌∙◌, arith}
+use Rattle.std.proofs.Common.{◌≡◌, [], ◌∷◌, ◌++◌, length, refl, sym, ap, subst, ◌∙◌, arith}
 use Rattle.verifier.specs.declared.refusal.Mode.TheVariants.{Update}
-use Rattle.oplog.specs.Operations.{Operation, FitsIn}
+use Rattle.oplog.specs.Operations.{FitsIn}
 use Rattle.oplog.specs.Lists.{RecordListView}
 use Rattle.oplog.specs.declared.records.Record.{Record}
 use Rattle.oplog.specs.History.{History, AllFit}
-use Rattle.replica.specs.StoreMeaning.{is_operation}
 use Rattle.node.specs.Following.{grown, replies_for}
-use Rattle.loader.specs.CatalogueView.{longest_argument}
+use Rattle.loader.specs.CatalogueView.{longest_part}
 use Rattle.replica.proofs.Export.{operation_fits}
 use Rattle.running.proofs.OneUpdate.{is_next, updated, not_ended}
 use Rattle.running.proofs.single_node.SingleNode.submit.Goals as goal
@@ -21,7 +20,7 @@ push-requires-clause-room c =
 pub push-requires-clause-fits : goal.push-requires-clause-fits
 push-requires-clause-fits c =
     let steady = c.make_room.ensures.steady in
-    let long : c.clear.new.self.long ≡ longest_argument c.args.catalogue.now = ap (λ (v : RecordListView). v.long) c.clear.ensures.empty ∙ steady.next.0 ∙ steady.long.0 in
+    let long : c.clear.new.self.long ≡ longest_part c.args.catalogue.now = ap (λ (v : RecordListView). v.long) c.clear.ensures.empty ∙ steady.next.0 ∙ steady.long.0 in
     subst (λ n. FitsIn n c.args.op.now) (sym long) (operation_fits Update c.args.catalogue.now c.args.op.now c.requires.update)
 
 pub append-requires-clause-fit : goal.append-requires-clause-fit

@@ -9,6 +9,6 @@ use Rattle.store.proofs.polled.Polled.try_install_within.Goals as goal
 pub post-requires-clause-update : goal.post-requires-clause-update
 post-requires-clause-update c =
     let new = program_within c.args.asked in
-    let none : within_refusal c.args.store.now.catalogue.shapes c.args.asked.maps new ≡ None = search rules in
+    let none : within_refusal c.args.store.now.catalogue.shapes c.args.store.now.catalogue.long c.args.asked.maps new ≡ None = search rules in
     subst (λ o. is_operation Update c.args.store.now.catalogue o ≡ true) (sym c.install-op.ensures.program)
-    (may_install c.args.store.now.catalogue new (installs_too c.args.store.now.catalogue.shapes c.args.asked.maps new none) c.install-op.ensures.bytes)
+    (may_install c.args.store.now.catalogue new (installs_too c.args.store.now.catalogue.shapes c.args.store.now.catalogue.long c.args.asked.maps new none) c.install-op.ensures.bytes)

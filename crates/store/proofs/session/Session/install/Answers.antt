@@ -10,6 +10,6 @@ use Rattle.store.proofs.session.Session.install.Goals as goal
 pub perform-requires-clause-update : goal.perform-requires-clause-update
 perform-requires-clause-update g c =
     let asked : NewProgram = new_program c.args.mode c.args.arg_len c.args.bytes.now in
-    let none : install_refusal c.args.store.now.catalogue.shapes asked ≡ None = search rules in
+    let none : install_refusal c.args.store.now.catalogue.shapes c.args.store.now.catalogue.long asked ≡ None = search rules in
     subst (λ o. is_operation Update c.args.store.now.catalogue o ≡ true) (sym c.install-op.ensures.program)
     (may_install c.args.store.now.catalogue asked none c.install-op.ensures.bytes)

@@ -9,6 +9,6 @@ use Rattle.store.proofs.session.Session.install_within.Goals as goal
 pub perform-requires-clause-update : goal.perform-requires-clause-update
 perform-requires-clause-update g c =
     let asked = program_within c.args.wanted in
-    let none : within_refusal c.args.store.now.catalogue.shapes c.args.wanted.maps asked ≡ None = search rules in
+    let none : within_refusal c.args.store.now.catalogue.shapes c.args.store.now.catalogue.long c.args.wanted.maps asked ≡ None = search rules in
     subst (λ o. is_operation Update c.args.store.now.catalogue o ≡ true) (sym c.install-op.ensures.program)
-    (may_install c.args.store.now.catalogue asked (installs_too c.args.store.now.catalogue.shapes c.args.wanted.maps asked none) c.install-op.ensures.bytes)
+    (may_install c.args.store.now.catalogue asked (installs_too c.args.store.now.catalogue.shapes c.args.store.now.catalogue.long c.args.wanted.maps asked none) c.install-op.ensures.bytes)

@@ -39,7 +39,7 @@ invariant_of-self g c =
     let seat = c.ask_at_once-given.new.seat in
     let grown = has_grown c.args.store.now (session_view old) (session_view seat) old.shelf seat.shelf k a.after op c.ask_at_once-given.result v (seen_as old k c.self.invariant.0.is) (seen_as seat a.after a.is) in (
       is_idle k a.after op c.ask_at_once-given.result v old seat c.self.inside.caller c.self.invariant.0 refl a.is,
-      (c.self.invariant.1.0 ∙ ap (λ (x : CatalogueView). x.shapes) grown.catalogue, c.self.invariant.1.1),
+      (c.self.invariant.1.0 ∙ ap (λ (x : CatalogueView). x.shapes) grown.catalogue, c.self.invariant.1.1 ∙ ap (λ (x : CatalogueView). x.long) grown.catalogue, c.self.invariant.1.2),
     )
 
 pub returns-then-at_once : goal.returns-then-at_once
@@ -80,7 +80,7 @@ invariant_of-self-2 g c =
     let seat = c.complete-reply.new.seat in
     let grown = has_grown c.args.store.now (session_view old) (session_view seat) old.shelf seat.shelf k f.0 op c.complete-reply.result v (seen_as old k c.self.invariant.0.is) (seen_as seat f.0 f.1) in (
       is_idle k f.0 op c.complete-reply.result v old seat c.self.inside.caller c.self.invariant.0 refl f.1,
-      (c.self.invariant.1.0 ∙ ap (λ (x : CatalogueView). x.shapes) grown.catalogue, c.self.invariant.1.1),
+      (c.self.invariant.1.0 ∙ ap (λ (x : CatalogueView). x.shapes) grown.catalogue, c.self.invariant.1.1 ∙ ap (λ (x : CatalogueView). x.long) grown.catalogue, c.self.invariant.1.2),
     )
 
 pub returns : goal.returns

@@ -1,11 +1,11 @@
-use Rattle.std.proofs.Common.{◌≡◌, ℕ, ◌+◌, ◌++◌, ◌≤◌, List, length, take, drop, ap, ◌∙◌, subst, rules, arith}
+use Rattle.std.proofs.Common.{◌≡◌, ℕ, ◌+◌, ◌++◌, ◌≤◌, List, length, take, drop, ap, ◌∙◌, subst, arith}
 use Rattle.oplog.proofs.Laying.{keeps_apart}
-use Rattle.oplog.proofs.laid.LongCall.at.Goals as goal
+use Rattle.oplog.proofs.long.LongOp.at.Goals as goal
 
 pub returns-clause-apart : goal.returns-clause-apart
 returns-clause-apart c =
     let old : List ℕ = c.args.beside.now.items in
-    let text : List ℕ = c.args.argument.now in
+    let text : List ℕ = c.args.text.now in
     let begin : ℕ = c.args.begin in
     let rest : List ℕ = c.reach.ensures.more.0 in
     let grown : c.reach.new.beside.items ≡ old ++ rest = c.reach.ensures.more.1 in

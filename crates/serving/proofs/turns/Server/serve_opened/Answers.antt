@@ -7,8 +7,8 @@ use Rattle.engine.specs.Engine.{Writes}
 use Rattle.engine.specs.Opening.{on_which}
 use Rattle.engine.specs.Report.{answer_of}
 use Rattle.serving.proofs.ServedAll.{in_place, served_there, service_of, unopened}
-use Rattle.serving.proofs.turns.serve_opened.Goals.{in-Ok-Refused, in-Err}
-use Rattle.serving.proofs.turns.serve_opened.Goals as goal
+use Rattle.serving.proofs.turns.Server.serve_opened.Goals.{in-Ok-Refused, in-Err}
+use Rattle.serving.proofs.turns.Server.serve_opened.Goals as goal
 
 pub returns-clause-served : goal.returns-clause-served
 returns-clause-served g c = λ on such.

@@ -1,8 +1,8 @@
-use Rattle.std.proofs.Common.{◌≡◌, ℕ, suc, ◌+◌, ◌≤◌, max, List, [], ◌∷◌, ◌++◌, length, take, get_or, sym, ap, ◌∙◌, arith, rules}
+use Rattle.std.proofs.Common.{◌≡◌, ℕ, suc, ◌+◌, max, List, [], ◌∷◌, ◌++◌, take, sym, ap, ◌∙◌, arith, rules}
 use Rattle.std.proofs.Math.Seq.{take-suc}
 use Rattle.std.proofs.lemmas.List.{take_all}
-use Rattle.loader.specs.CatalogueView.{Entry, longest_of}
-use Rattle.loader.proofs.catalogue.Catalogue.longest_argument.Goals as goal
+use Rattle.loader.specs.CatalogueView.{CatalogueView, Entry, longest_of}
+use Rattle.loader.proofs.catalogue.Catalogue.longest_part.Goals as goal
 
 longest_onto : (xs : List Entry) (e : Entry) → longest_of (xs ++ e ∷ []) ≡ max (longest_of xs) e.checked.arg_len
 longest_onto [] e = omega arith
@@ -26,4 +26,6 @@ loop-named-preserved c =
 
 pub returns-clause-longest : goal.returns-clause-longest
 returns-clause-longest c =
-    c.loop-named.invariant.so_far ∙ ap longest_of (take_all c.loop-named.named-index c.deref-named-items.result.now c.loop-named-test.false) ∙ ap longest_of c.deref-named-items.ensures.value ∙ ap (λ v. longest_of v.programs) c.self.view_is
+    let programs = c.loop-named.invariant.so_far ∙ ap longest_of (take_all c.loop-named.named-index c.deref-named-items.result.now c.loop-named-test.false) ∙ ap longest_of c.deref-named-items.ensures.value ∙ ap (λ v. longest_of v.programs) c.self.view_is in
+    let long = ap (λ (v : CatalogueView). v.long) c.self.view_is in
+    omega (arith, programs, long, c.max.ensures)
