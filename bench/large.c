@@ -2,7 +2,8 @@
    (16 and 20 if there is none) it opens a store, fills the hash, and prints a row. "Memory" is what the process holds more than before, then what the
    formula of docs/PERFORMANCE.md says. Keys are drawn: each call asks for another. Times are the processor's, which other processes change less; those of
    calls are the median of some rounds. Then it takes a snapshot, dumps it twice (to nothing, then into memory), loads it, opens a store on it, and checks
-   that it is dumped the same. 2^24 entries take some 3.5 GB. It runs in the top folder. */
+   that it is dumped the same. 2^24 entries take some 3.5 GB. Last it times updates of one program with arguments of 4 bytes and of 4 KiB. It runs
+   in the top folder. */
 
 #include "../embed/nrbpf.h"
 #include <stdio.h>
@@ -10,8 +11,10 @@
 #include <string.h>
 #include <time.h>
 
-enum { ROUNDS = 7, CALLS = 100000, PAGE = 256, WINDOW = 4096 };
+enum { ROUNDS = 7, CALLS = 100000, PAGE = 256, WINDOW = 4096, LONG = 4096 };
 enum { put, look, bump, programs };
+/* The program `bump` twice, in a store without a hash. */
+enum { bump_short, bump_long };
 
 /* A key and its value in map 0. */
 static const char *const put_hex = "bf12000000000000 bf13000000000000 0703000008000000 1851000000000000 0000000000000000 "
@@ -124,6 +127,19 @@ static void bump_often(long times) {
         EXPECT(answer.reply > 0);
     }
 }
+
+static void bump_of(uint16_t program, size_t len, long times) {
+    static uint32_t argument[LONG / 4];
+    nrbpf_answer answer;
+    for (long i = 0; i < times; i++) {
+        argument[0] = (uint32_t)i % 16;
+        CHECK(nrbpf_update(session, program, argument, len, &answer));
+        EXPECT(answer.reply > 0);
+    }
+}
+
+static void bump_short_often(long times) { bump_of(bump_short, 4, times); }
+static void bump_long_often(long times) { bump_of(bump_long, LONG, times); }
 
 static int by_size(const void *a, const void *b) {
     double x = *(const double *)a, y = *(const double *)b;
@@ -260,6 +276,17 @@ static void row_of(int power) {
     printf("%9.1f\n", reopen);
 }
 
+/* Updates of one program with a short and with a long argument. */
+static void row_of_lengths(void) {
+    double open;
+    snprintf(manifest, sizeof manifest, "map array 8 16\nmap array 8 16\nprogram short update 4 bump.hex\nprogram long update %d bump.hex\n", LONG);
+    nrbpf_store *store = opened(NULL, &open);
+    CHECK(nrbpf_attach(store, 0, &session));
+    double brief = time_of(bump_short_often), lengthy = time_of(bump_long_often);
+    ended(store);
+    printf("an update with an argument of 4 bytes: %.0f ns, of %d: %.0f ns\n", brief, LONG, lengthy);
+}
+
 int main(int count, char **words) {
     const char *const names[programs] = {"put.hex", "look.hex", "bump.hex"}, *const texts[programs] = {put_hex, look_hex, bump_hex};
     const nrbpf_limits large = NRBPF_LARGE;
@@ -270,5 +297,6 @@ int main(int count, char **words) {
            "dump", "above", "load", "reopen");
     if (count < 2) row_of(16), row_of(20);
     for (int i = 1; i < count; i++) row_of(atoi(words[i]));
+    row_of_lengths();
     return 0;
 }

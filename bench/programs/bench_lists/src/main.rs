@@ -324,8 +324,9 @@ fn run<R: Threads + Wait + Sync + Input + Print>(rt: &R, alloc: Global, layout: 
         nodes: layout.nodes,
         slots,
         window: layout.window,
-        limit: ENDLESS,
         spare: 0,
+        long: 0,
+        limit: ENDLESS,
     };
     let Ok((store, mut sessions)) = Store::open_sized(alloc, sizes, catalogue) else {
         return false;

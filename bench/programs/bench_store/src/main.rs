@@ -426,6 +426,7 @@ fn run<R: Threads + Wait + Sync + Input + Print>(rt: &R, alloc: Global, layout: 
         window: layout.window,
         limit: ENDLESS,
         spare: 0,
+        long: 0,
     };
     let Ok((store, mut sessions)) = Store::open_sized(alloc, sizes, catalogue) else {
         return false;

@@ -33,6 +33,7 @@ fn answers_lines(rt: HostRuntime) -> Result<(), Fail> {
         window: LAYOUT.window,
         limit: ENDLESS,
         spare: 0,
+        long: 0,
     };
     let catalogue = catalogue(alloc, &LAYOUT).ok_or("a catalogue")?;
     let (store, mut sessions) = Store::open_sized(alloc, sizes, catalogue)?;
