@@ -22,6 +22,7 @@ use crate::steps::{Caller, Here, Question, Shared};
 use crate::values::Value;
 use crate::visits::turn_and_put;
 use combiner::{Batch, Reply};
+use crossbeam_utils::Backoff;
 use oplog::OpRef;
 use ownlock::{Held, Seat};
 use replica::Replies;
@@ -253,12 +254,15 @@ fn post_each<R: Wait>(
     ensures same { SameSpots members.old members.new }
     ensures posted { LooksAndPosts members.old members.new calls.now room.new.combining.batch }
 {
+    // Each try takes the desk from the one that combines, so the pauses between them grow.
+    let backoff = Backoff::new();
     for _ in rt.forever() {
         let batch = &mut room.combining.batch;
         match try_post_each(shared, members, calls, batch) {
             Ok(()) => return,
             Err(place) => watch(shared.shelf, place),
         }
+        backoff.snooze();
     }
     unreachable!()
 }
