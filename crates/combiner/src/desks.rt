@@ -78,6 +78,7 @@ impl Desk {
     /// # Errors
     ///
     /// B1 where the slot has a request already; nothing is changed then.
+    #[inline(always)]
     pub fn post(&mut self, slot: usize, op: &OpRef<'_>) -> Result<(), DeskRefused>
         requires slot { slot < length self.old.slots }
         ensures posted { MatchResult result (λ _. posted slot op.now self.old ≡ Some self.new) (λ e. (e ≡ SlotBusy) × (posted slot op.now self.old ≡ None)) }

@@ -69,6 +69,7 @@ impl Place {
 
     // Posts an operation, where there is no request. What is too long for a record is written among the bytes, from a place on. There is
     // room for the longest.
+    #[inline(always)]
     pub(crate) fn post(
         &mut self,
         op: &OpRef<'_>,
