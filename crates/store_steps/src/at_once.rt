@@ -152,10 +152,12 @@ pub fn ask_at_once<R: Wait>(
             Turn::Combines => {
                 append_and_replay(rt, here, seat, &room.batch, &mut room.replies);
                 room.count_batch();
+                room.pauses.shorten();
                 at = hand_over_and_turn(rt, here, seat, &mut room.batch, &room.replies);
             }
             Turn::Waits => {
                 watch(here.shared.shelf, 1 + here.caller.node);
+                room.pauses.pause();
                 at = turn(rt, here, seat, &mut room.batch);
             }
         }

@@ -2,6 +2,7 @@
 
 ghost use Rattle.std.specs.Prelude.{◌≡◌};
 
+use crate::pauses::Pauses;
 use combiner::Batch;
 use replica::Replies;
 use std::alloc::{AllocError, Global};
@@ -13,6 +14,8 @@ pub struct Room {
     pub batch: Batch,
     /// For what their programs answer.
     pub replies: Replies,
+    // How long the session pauses while another one combines.
+    pub(crate) pauses: Pauses,
     // How many batches of one request the session has combined.
     singles: u64,
     // The other batches that it has combined.
@@ -34,6 +37,7 @@ impl Room {
         Room {
             batch,
             replies: Replies::new(0, 0),
+            pauses: Pauses::new(),
             singles: 0,
             shared: Batches::none(),
         }
@@ -44,6 +48,7 @@ impl Room {
         let Room {
             batch,
             replies: _replies,
+            pauses: _pauses,
             singles: _singles,
             shared: _shared,
         } = self;

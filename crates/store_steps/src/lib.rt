@@ -12,6 +12,7 @@ mod getting;
 mod looks;
 mod measuring;
 mod passing;
+mod pauses;
 mod pipelines;
 mod polling;
 mod polling_each;

@@ -22,7 +22,6 @@ use crate::steps::{Caller, Here, Question, Shared};
 use crate::values::Value;
 use crate::visits::turn_and_put;
 use combiner::{Batch, Reply};
-use crossbeam_utils::Backoff;
 use oplog::OpRef;
 use ownlock::{Held, Seat};
 use replica::Replies;
@@ -254,15 +253,14 @@ fn post_each<R: Wait>(
     ensures same { SameSpots members.old members.new }
     ensures posted { LooksAndPosts members.old members.new calls.now room.new.combining.batch }
 {
-    // Each try takes the desk from the one that combines, so the pauses between them grow.
-    let backoff = Backoff::new();
     for _ in rt.forever() {
         let batch = &mut room.combining.batch;
         match try_post_each(shared, members, calls, batch) {
             Ok(()) => return,
             Err(place) => watch(shared.shelf, place),
         }
-        backoff.snooze();
+        // (Each try takes the desk from the session that combines.)
+        room.combining.pauses.pause();
     }
     unreachable!()
 }
@@ -290,6 +288,7 @@ fn combine_each<R: Wait>(
     let Room { batch, replies, .. } = &mut room.combining;
     append_and_replay(rt, here, &mut first.seat, batch, replies);
     room.combining.count_batch();
+    room.combining.pauses.shorten();
 }
 
 // `try_give_each`, but waits while another session holds the desk.

@@ -144,8 +144,12 @@ pub fn complete<R: Wait>(rt: &R, here: Here<'_>, seat: &mut Seat<Value>, room: &
             Turn::Combines => {
                 combine(rt, here, seat, &mut room.batch, &mut room.replies);
                 room.count_batch();
+                room.pauses.shorten();
             }
-            Turn::Waits => watch(here.shared.shelf, 1 + here.caller.node),
+            Turn::Waits => {
+                watch(here.shared.shelf, 1 + here.caller.node);
+                room.pauses.pause();
+            }
         }
     }
     unreachable!()

@@ -1,0 +1,36 @@
+// How long a session pauses while another one combines.
+
+use std::hint;
+
+// How often the longest pause spins. It takes some ten microseconds.
+const LONGEST: u32 = 512;
+
+/// How long a session pauses while another session of its node combines. Each pause is twice as long as the one before, and each batch that the session
+/// combines itself halves the next one. So if sessions of a node often wait for each other, one of them goes on for longer before another one comes, and has
+/// what they share in its cache.
+#[derive(Drop)]
+pub(crate) struct Pauses {
+    // How often the next pause spins.
+    spins: u32,
+}
+
+impl Pauses {
+    /// The pauses of a session that has not waited yet.
+    pub(crate) fn new() -> Pauses {
+        Pauses { spins: 1 }
+    }
+
+    /// Pauses.
+    #[inline(never)]
+    pub(crate) fn pause(&mut self) {
+        for _ in 0..self.spins {
+            hint::spin_loop();
+        }
+        self.spins = self.spins.saturating_mul(2).min(LONGEST);
+    }
+
+    /// Halves the next pause.
+    pub(crate) fn shorten(&mut self) {
+        self.spins = (self.spins / 2).max(1);
+    }
+}
