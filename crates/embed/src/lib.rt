@@ -29,7 +29,7 @@ use host_calls::describing::{
     MapWords, ProgramWords, StoreWords, describe_map, describe_program, describe_store,
 };
 use host_calls::handles::{
-    Asking, LaneHandle, Opening, Outcome, SessionHandle, StateHandle, StoreHandle, TextHandle,
+    LaneHandle, Opening, Outcome, SessionHandle, StateHandle, StoreHandle, TextHandle,
 };
 use host_calls::lanes::{drop_lane, join, leave, make_lane, update_each};
 use host_calls::loading::load_text;
@@ -39,6 +39,7 @@ use host_calls::opening::{open, open_on};
 use host_calls::states::{drop_text, dump_state, make_state, part};
 use host_calls::stores::{attach, close, detach, find_number};
 use std::alloc::Global;
+use store::Question;
 
 // The interface that a host is compiled for: 1000 times the major number, and the minor one.
 const VERSION: u32 = 2_000;
@@ -246,7 +247,7 @@ pub unsafe extern "C" fn nrbpf_raw_leave(at: *mut u8, room: *mut u8)
 #[unsafe(no_mangle)]
 pub unsafe extern "C" fn nrbpf_raw_update_each(
     at: *mut u8,
-    questions: &[Asking],
+    questions: &[Question],
     outcomes: &mut [Outcome],
 )
     ghost before: { LaneHandle }
@@ -297,7 +298,11 @@ pub unsafe extern "C" fn nrbpf_raw_scan(
 
 /// Answers several questions at one point, each in `replies` at its number. With none it brings the session's node up to that point.
 #[unsafe(no_mangle)]
-pub unsafe extern "C" fn nrbpf_raw_read_each(at: *mut u8, questions: &[Asking], replies: &mut [u64])
+pub unsafe extern "C" fn nrbpf_raw_read_each(
+    at: *mut u8,
+    questions: &[Question],
+    replies: &mut [u64],
+)
     ghost before: { SessionHandle }
     requires* { sem 𝓛 (holds_session at before) }
     ensures* { ∃ₛ (λ after. sem 𝓛 (holds_session at after) ∗ ⌜ Answers questions.now replies.old replies.new before after ⌝) }

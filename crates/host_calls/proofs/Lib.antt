@@ -1,7 +1,6 @@
 mod Sessions
 mod Posted
 mod Looking
-mod Asked
 mod Reasons
 mod Opened
 mod Seats

@@ -6,14 +6,13 @@ use Rattle.store_steps.specs.Views.{SessionView}
 use Rattle.store.specs.Pipelines.{EachGoesOn, OthersStay}
 use Rattle.store.specs.PolledPipelines.{AreWaiting}
 use Rattle.store.specs.Sessions.{StoreView}
-use Rattle.host_calls.specs.declared.handles.Asking.{Asking}
+use Rattle.store_steps.specs.declared.steps.Question.{Question}
 use Rattle.host_calls.specs.declared.handles.Outcome.{Outcome}
 use Rattle.host_calls.specs.declared.lanes.Home.{Home}
 use Rattle.host_calls.specs.declared.lanes.Listed.{Listed}
 use Rattle.host_calls.specs.declared.lanes.Listed.TheVariants.{Answered, NoWord}
 use Rattle.host_calls.specs.Homes.{AreAtHome, attached_of}
 use Rattle.host_calls.specs.Lanes.{AreOneLane, AreSame, HasRoomFor, TellsBegun, TellsList, TellsOutList, sessions_in}
-use Rattle.host_calls.specs.Looks.{questions_of}
 use Rattle.host_calls.specs.Views.{AttachedView}
 use Rattle.host_calls.proofs.Homes.{as_long, home_on, same_on, same_self, seen, sessions_are, store_of}
 use Rattle.host_calls.proofs.Sessions.{stands}
@@ -29,7 +28,7 @@ module _ (homes : List Home) (ss : List SessionView) (lane : List AttachedView) 
   pub long_lane : length lane ≡ length ss
   long_lane = ap length (sym is) ∙ as_long homes ss home.count
 
-  module _ (asked : List Asking) (before : List Outcome) (out : ℕ) (waits : AreWaiting out ss) (few : out ≤ length ss) where
+  module _ (asked : List Question) (before : List Outcome) (out : ℕ) (waits : AreWaiting out ss) (few : out ≤ length ss) where
     waiting : AreWaiting out (sessions_in lane) × (out ≤ length lane)
     waiting = let long = long_lane in (subst (AreWaiting out) (sym sessions) waits, omega (arith, few, long))
 
@@ -100,7 +99,7 @@ module _ (homes : List Home) (ss : List SessionView) (lane : List AttachedView) 
         long = λ none _. absurd (omega (arith, none, some));
       }
 
-      pub tells_begun : out ≡ 0 → 0 < length asked → length asked ≤ length ss → length asked ≤ length before → OthersStay (length asked) ss new → TellsBegun store (questions_of asked) before after ss new told
+      pub tells_begun : out ≡ 0 → 0 < length asked → length asked ≤ length ss → length asked ≤ length before → OthersStay (length asked) ss new → TellsBegun store asked before after ss new told
           → TellsList asked before after lane (attached_of homes new) told
       tells_begun none some fits room others t = record {
         out = out;
@@ -110,7 +109,7 @@ module _ (homes : List Home) (ss : List SessionView) (lane : List AttachedView) 
         short = λ more _. absurd (omega (arith, none, more));
         begins = λ _ _ _. (
           both (OthersStay (length asked)) others,
-          λ z one. (goes z one, both (λ x y. TellsBegun z (questions_of asked) before after x y told) (subst (λ (y : StoreView). TellsBegun y (questions_of asked) before after ss new told) (only z one) t)),
+          λ z one. (goes z one, both (λ x y. TellsBegun z asked before after x y told) (subst (λ (y : StoreView). TellsBegun y asked before after ss new told) (only z one) t)),
         );
         none = λ _ empty. absurd (omega (arith, some, empty));
         long = λ _ never. absurd (never ((let long = long_lane in omega (arith, fits, long)), room));

@@ -13,7 +13,6 @@ use Rattle.store.specs.Pipelines.{AreInOrder, EachGoesOn, OthersStay}
 use Rattle.store.specs.PolledPipelines.{AreWaiting, EachAsks, EachIsTold, EachLooks, MayFollow}
 use Rattle.store.specs.Sessions.{StoreView}
 use Rattle.host_calls.specs.declared.attached.Attached.{Attached}
-use Rattle.host_calls.specs.declared.handles.Asking.{Asking}
 use Rattle.host_calls.specs.declared.handles.LaneAnswered.{LaneAnswered}
 use Rattle.host_calls.specs.declared.handles.LaneHandle.{LaneHandle}
 use Rattle.host_calls.specs.declared.handles.Outcome.{Outcome}
@@ -21,7 +20,6 @@ use Rattle.host_calls.specs.declared.handles.SessionHandle.{SessionHandle}
 use Rattle.host_calls.specs.declared.lanes.Lane.{Lane}
 use Rattle.host_calls.specs.declared.lanes.Listed.{Listed}
 use Rattle.host_calls.specs.declared.lanes.Listed.TheVariants.{Busy, Again, Answered, Refused, NotOpen, NoWord}
-use Rattle.host_calls.specs.Looks.{questions_of}
 use Rattle.host_calls.specs.Statuses.{again, busy, done, ended, is_out, no_memory, no_word, not_open, not_ours, refusal, letter_S}
 use Rattle.host_calls.specs.Views.{AttachedView, IsSame}
 
@@ -87,11 +85,11 @@ abbrev pub TellsNoList : List Outcome → List Outcome → (old new : List Attac
 TellsNoList before after old new told words = (told ≡ words) × (after ≡ before) × (new ≡ old)
 
 -- there is a session for each, and room for what becomes of it
-abbrev pub HasRoomFor : List Asking → List Outcome → List AttachedView → Type 0
+abbrev pub HasRoomFor : List Question → List Outcome → List AttachedView → Type 0
 HasRoomFor asked before old = (length asked ≤ length old) × (length asked ≤ length before)
 
 -- the whole: by whether a list is out, which has so many calls
-pub record TellsList (asked : List Asking) (before after : List Outcome) (old new : List AttachedView) (told : Listed) : Type 0 where
+pub record TellsList (asked : List Question) (before after : List Outcome) (old new : List AttachedView) (told : Listed) : Type 0 where
   pub out : ℕ
   pub waiting : AreWaiting out (sessions_in old) × (out ≤ length old)
   pub same : AreSame old new
@@ -99,7 +97,7 @@ pub record TellsList (asked : List Asking) (before after : List Outcome) (old ne
       × ((store : StoreView) → AreOneLane store old → EachGoesOn store (sessions_in old) (sessions_in new))
   pub short : 0 < out → length before < out → TellsNoList before after old new told NoWord
   pub begins : out ≡ 0 → 0 < length asked → HasRoomFor asked before old → OthersStay (length asked) (sessions_in old) (sessions_in new)
-      × ((store : StoreView) → AreOneLane store old → EachGoesOn store (sessions_in old) (sessions_in new) × TellsBegun store (questions_of asked) before after (sessions_in old) (sessions_in new) told)
+      × ((store : StoreView) → AreOneLane store old → EachGoesOn store (sessions_in old) (sessions_in new) × TellsBegun store asked before after (sessions_in old) (sessions_in new) told)
   pub none : out ≡ 0 → length asked ≡ 0 → TellsNoList before after old new told (Answered 0)
   pub long : out ≡ 0 → (HasRoomFor asked before old → ⊥) → TellsNoList before after old new told NoWord
 
@@ -127,7 +125,7 @@ list_noted before told = record (with_count before told) { status = list_status 
 
 -- ---- by a handle
 
-pub record UpdatesEach (asked : List Asking) (outcomes given : List Outcome) (before after : LaneHandle) : Type 0 where
+pub record UpdatesEach (asked : List Question) (outcomes given : List Outcome) (before after : LaneHandle) : Type 0 where
   pub told : Listed
   pub noted : after.answered ≡ list_noted before.answered told
   pub tells : MatchOption before.own ((told ≡ NotOpen) × (after.own ≡ None) × (given ≡ outcomes)) (λ l. MatchOption after.own ⊥ (λ l'. TellsList asked outcomes given l l' told))

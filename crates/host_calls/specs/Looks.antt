@@ -23,7 +23,6 @@ use Rattle.store.specs.Looks.{HaveReplies, IsSight, IsTaken}
 use Rattle.host_calls.specs.declared.attached.Looked.{Looked}
 use Rattle.host_calls.specs.declared.attached.Looked.TheVariants.{Busy, Seen, Refused, NotOpen, IsOut, NoWord}
 use Rattle.host_calls.specs.declared.handles.Answered.{Answered}
-use Rattle.host_calls.specs.declared.handles.Asking.{Asking}
 use Rattle.host_calls.specs.declared.handles.SessionHandle.{SessionHandle}
 use Rattle.host_calls.specs.declared.handles.StateHandle.{StateHandle}
 use Rattle.host_calls.specs.declared.handles.TheConstants.{MOST_ASKED, AT_END}
@@ -92,12 +91,6 @@ TellsScanned map from keys keys' values values' old new told =
 
 -- ---- several reads
 
-abbrev pub question_of : Asking → Question
-question_of a = record { program = a.program; argument = a.argument }
-
-abbrev pub questions_of : List Asking → List Question
-questions_of asked = each question_of asked
-
 abbrev pub no_read : QuestionRefused → Looked
 no_read why = Refused (refusal letter_S (store_fault_number why.refused)) why.number
 
@@ -132,12 +125,12 @@ TellsAnswers questions before replies old new told =
     old.session new.session told
 
 -- no more than may be asked at once, and a reply for each
-abbrev pub AreFew : List Asking → (replies : List ℕ) → Type 0
+abbrev pub AreFew : List Question → (replies : List ℕ) → Type 0
 AreFew asked replies = (length asked ≤ MOST_ASKED) × (length replies ≡ length asked)
 
 -- else nothing is asked
-pub record TellsMany (asked : List Asking) (before replies : List ℕ) (old new : AttachedView) (told : Looked) : Type 0 where
-  pub few : AreFew asked before → TellsAnswers (questions_of asked) before replies old new told
+pub record TellsMany (asked : List Question) (before replies : List ℕ) (old new : AttachedView) (told : Looked) : Type 0 where
+  pub few : AreFew asked before → TellsAnswers asked before replies old new told
   pub many : (AreFew asked before → ⊥) → TellsNo (replies ≡ before) NoWord old.session new.session told
 
 -- ---- a snapshot
@@ -195,7 +188,7 @@ Gets map key before value = Looks (value ≡ before) (TellsGot map key before va
 abbrev pub Scans : (map from : ℕ) → (keys keys' values values' : List ℕ) → (before after : SessionHandle) → Type 0
 Scans map from keys keys' values values' = Looks ((keys' ≡ keys) × (values' ≡ values)) (TellsScanned map from keys keys' values values')
 
-abbrev pub Answers : List Asking → (before replies : List ℕ) → (before' after : SessionHandle) → Type 0
+abbrev pub Answers : List Question → (before replies : List ℕ) → (before' after : SessionHandle) → Type 0
 Answers asked before replies = Looks (replies ≡ before) (TellsMany asked before replies)
 
 -- into a state: where the handle has none, it says so

@@ -7,11 +7,11 @@ ghost use Rattle.store.specs.Sessions.{IsOf};
 ghost use Rattle.replica.specs.Refusals.{early_refusal};
 ghost use Rattle.verifier.specs.declared.refusal.Mode.TheVariants.{Update};
 ghost use Rattle.host_calls.specs.Calls.{TellsCall, asks_install, asks_post, asks_read, asks_update, asks_within, check_result};
-ghost use Rattle.host_calls.specs.Looks.{TellsAnswers, TellsGot, TellsMany, TellsScanned, TellsSnapped, look_each, next_word, questions_of};
+ghost use Rattle.host_calls.specs.Looks.{TellsAnswers, TellsGot, TellsMany, TellsScanned, TellsSnapped, look_each, next_word};
 ghost use Rattle.host_calls.specs.CallResults.{HasGrown, TellsOut};
 ghost use Rattle.host_calls.specs.Views.{IsSame};
 
-use crate::handles::{AT_END, Asking, MOST_ASKED};
+use crate::handles::{AT_END, MOST_ASKED};
 use crate::statuses::{OTHER_SIZES, refusal};
 use replica::check_call;
 use std::alloc::Global;
@@ -110,38 +110,6 @@ fn look_each(tried: Result<Option<u64>, QuestionRefused>, count: u64) -> Looked
             next: AT_END,
         },
     }
-}
-
-// The questions, and behind them some that nobody asks.
-pub(crate) fn questions<'a>(asked: &[Asking<'a>]) -> [Question<'a>; MOST_ASKED]
-    requires few { length asked.now ≤ MOST_ASKED }
-    ensures { take (length asked.now) result ≡ questions_of asked.now }
-{
-    let none = Question {
-        program: 0,
-        argument: &[],
-    };
-    let mut questions = [none; MOST_ASKED];
-    for k in 0..asked.len() {
-        questions[k] = Question {
-            program: asked[k].program,
-            argument: asked[k].argument,
-        };
-    }
-    questions
-}
-
-// The first of them, as many as are asked.
-pub(crate) fn those_asked<'q, 'a>(
-    questions: &'q [Question<'a>; MOST_ASKED],
-    asked: &[Asking<'a>],
-) -> &'q [Question<'a>]
-    requires few { length asked.now ≤ MOST_ASKED }
-    requires questions { take (length asked.now) questions.now ≡ questions_of asked.now }
-    ensures asked { result.now ≡ questions_of asked.now }
-    ensures count { length result.now ≡ length asked.now }
-{
-    &questions[..asked.len()]
 }
 
 impl Attached {
@@ -383,15 +351,14 @@ impl Attached {
     }
 
     /// Answers several questions at one point, where no update is out and there is a reply for each.
-    pub fn read_each(&mut self, asked: &[Asking<'_>], replies: &mut [u64]) -> Looked
+    pub fn read_each(&mut self, asked: &[Question<'_>], replies: &mut [u64]) -> Looked
         ensures same { IsSame self.old self.new }
         ensures tells { TellsMany asked.now replies.old replies.new self.old self.new result }
     {
         if asked.len() > MOST_ASKED || replies.len() != asked.len() {
             return Looked::NoWord;
         }
-        let questions = questions(asked);
-        self.answer(those_asked(&questions, asked), replies)
+        self.answer(asked, replies)
     }
 
     /// Makes a state that of the store at one point of the history, where no update is out and the state has the store's sizes.

@@ -134,15 +134,6 @@ pub struct SessionHandle {
     pub own: Option<Attached>,
 }
 
-/// A read, one of several: a program, by its number, and its argument.
-#[repr(C)]
-pub struct Asking<'a> {
-    /// The argument.
-    pub argument: &'a [u8],
-    /// The program's number.
-    pub program: u16,
-}
-
 /// What became of an update of a list.
 #[repr(C)]
 #[derive(Clone, Copy)]

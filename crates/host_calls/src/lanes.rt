@@ -7,8 +7,8 @@ ghost use Rattle.store.specs.Pipelines.{EachGoesOn, OthersStay};
 ghost use Rattle.store.specs.PolledPipelines.{AreWaiting};
 ghost use Rattle.host_calls.specs.Lanes.{AreOneLane, IsIdleLane, IsNewLane, JoinsOneStore, Joins, Leaves, MayJoin, TellsBegun, TellsList, TellsOutList, UpdatesEach, has_outcomes, list_noted, list_status, outcome_of};
 
-use crate::attached::{Attached, questions, those_asked};
-use crate::handles::{Asking, LaneAnswered, LaneHandle, MOST_ASKED, Outcome, SessionHandle};
+use crate::attached::Attached;
+use crate::handles::{LaneAnswered, LaneHandle, MOST_ASKED, Outcome, SessionHandle};
 use crate::statuses::{
     AGAIN, BUSY, DONE, ENDED, IS_OUT, NO_MEMORY, NO_WORD, NOT_OPEN, NOT_OURS, refusal,
 };
@@ -199,7 +199,7 @@ impl Lane {
     }
 
     /// Asks for a list of updates, or goes on with the one that is out.
-    pub fn update_each(&mut self, asked: &[Asking<'_>], outcomes: &mut [Outcome]) -> Listed
+    pub fn update_each(&mut self, asked: &[Question<'_>], outcomes: &mut [Outcome]) -> Listed
         ensures tells { TellsList asked.now outcomes.old outcomes.new self.old self.new result }
     {
         let Lane { sessions, homes } = self;
@@ -219,9 +219,7 @@ impl Lane {
         if asked.is_empty() {
             return Listed::Answered { count: 0 };
         }
-        let questions = questions(asked);
-        let calls = those_asked(&questions, asked);
-        begin(sessions, &homes[0].store, calls, outcomes)
+        begin(sessions, &homes[0].store, asked, outcomes)
     }
 }
 
@@ -320,7 +318,7 @@ pub fn leave(handle: &mut LaneHandle) -> SessionHandle
 }
 
 /// Asks for a list of updates, or goes on with the one that is out, and puts what became of each into `outcomes`.
-pub fn update_each(handle: &mut LaneHandle, asked: &[Asking<'_>], outcomes: &mut [Outcome])
+pub fn update_each(handle: &mut LaneHandle, asked: &[Question<'_>], outcomes: &mut [Outcome])
     ensures updates { UpdatesEach asked.now outcomes.old outcomes.new handle.old handle.new }
 {
     let LaneHandle { own, answered } = handle;

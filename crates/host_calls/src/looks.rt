@@ -4,9 +4,9 @@ ghost use Rattle.std.specs.Prelude.{◌≡◌};
 ghost use Rattle.host_calls.specs.Looks.{Answers, Gets, Scans, Snaps, look_number, look_status, noted};
 
 use crate::attached::Looked;
-use crate::handles::{Answered, Asking, SessionHandle, StateHandle};
+use crate::handles::{Answered, SessionHandle, StateHandle};
 use crate::statuses::{BUSY, DONE, IS_OUT, NO_WORD, NOT_OPEN};
-use store::{Beginning, MapKey};
+use store::{Beginning, MapKey, Question};
 
 // The status of what is told.
 fn status_of(told: Looked) -> u64
@@ -73,7 +73,7 @@ pub fn scan(handle: &mut SessionHandle, map: u32, from: u32, keys: &mut [u8], va
 }
 
 /// Answers several questions at one point, each in `replies` at its number.
-pub fn read_each(handle: &mut SessionHandle, asked: &[Asking<'_>], replies: &mut [u64])
+pub fn read_each(handle: &mut SessionHandle, asked: &[Question<'_>], replies: &mut [u64])
     ensures answers { Answers asked.now replies.old replies.new handle.old handle.new }
 {
     let SessionHandle { own, answered, .. } = handle;

@@ -65,13 +65,14 @@ pub struct Here<'a> {
     pub caller: Caller,
 }
 
-/// What a read or an update asks for.
+/// What a read or an update asks for. Hosts in C write it as it is.
 #[derive(Clone, Copy)]
+#[repr(C)]
 pub struct Question<'a> {
-    /// A program, by its number.
-    pub program: u16,
     /// The program's argument.
     pub argument: &'a [u8],
+    /// A program, by its number.
+    pub program: u16,
 }
 
 // Raises the completed tail to this one, which the history has reached. The session may hold the log meanwhile.

@@ -3,7 +3,7 @@ use Rattle.embed.proofs.Steps.{[], ◌∷◌, ◌++◌, ℕ, List, refl, ap, pro
 use Rattle.embed.proofs.Lending.{lend, loan}
 use Rattle.host_calls.specs.Looks.{Answers}
 use Rattle.host_calls.specs.contracts.handles.SessionHandle.{the_row as R}
-use Rattle.host_calls.specs.contracts.handles.Asking.{the_row as Q}
+use Rattle.store_steps.specs.contracts.steps.Question.{the_row as Q}
 use Rattle.embed.specs.contracts.nrbpf_raw_read_each as f
 use Rattle.embed.proofs.nrbpf_raw_read_each.Statement.{statement}
 use Rattle.embed.proofs.nrbpf_raw_read_each.Code as code

@@ -3,7 +3,7 @@ use Rattle.embed.proofs.Steps.{[], ◌∷◌, ◌++◌, List, refl, ap, proved, 
 use Rattle.embed.proofs.Lending.{lend, loan}
 use Rattle.host_calls.specs.Lanes.{UpdatesEach}
 use Rattle.host_calls.specs.contracts.handles.LaneHandle.{the_row as R}
-use Rattle.host_calls.specs.contracts.handles.Asking.{the_row as Q}
+use Rattle.store_steps.specs.contracts.steps.Question.{the_row as Q}
 use Rattle.host_calls.specs.contracts.handles.Outcome.{the_row as O}
 use Rattle.host_calls.specs.declared.handles.Outcome.{Outcome}
 use Rattle.embed.specs.contracts.nrbpf_raw_update_each as f

@@ -89,10 +89,7 @@ returns c =
     let h = c.index-2.result.now in let is : arc_value h.store ≡ c.deref-2.result.now = search rules in
     let there : h ≡ get_or homes 0 h = search rules in let first = first_at homes h some there in
     let store = c.deref-2.result.now in
-    let calls = c.those_asked-calls in
-    let told = subst (λ (q : List Question). TellsBegun store q c.args.outcomes.now c.begin.new.outcomes l.sessions c.begin.new.sessions c.begin.result) calls.ensures.asked c.begin.ensures.tells in
-    let others = subst (λ n. OthersStay n l.sessions c.begin.new.sessions) calls.ensures.count c.begin.ensures.others in
     record {
       tells = tells_begun homes l.sessions c.args.self.now home c.self.view_is c.args.asked.now c.args.outcomes.now out.result out.ensures.waiting out.ensures.few c.begin.new.sessions c.begin.new.outcomes c.begin.result h first store is c.begin.ensures.sessions
-          none asks fits c.if-outcomes-asked.false others told;
+          none asks fits c.if-outcomes-asked.false c.begin.ensures.others c.begin.ensures.tells;
     }
