@@ -4,10 +4,21 @@
 
 enum { LONGEST_KEY = 64 };
 
-// Lets another session go on, after so many tries of a call. The first time counts the call as one that waits.
-static void wait_behind(struct place *place, unsigned tries) {
-    if (tries == 0) place->waits = place->waits + 1;
-    pause_behind(tries);
+// Lets another session go on. The first time it counts the call as one that waits.
+static void wait_behind(struct place *place, int *has_waited) {
+    if (!*has_waited) {
+        place->waits = place->waits + 1;
+        *has_waited = 1;
+    }
+    pause_behind(place);
+}
+
+// What a call answers.
+static inline nrbpf_status ended(nrbpf_session *session, nrbpf_status status, int has_waited) {
+    if (status == NRBPF_OK && !has_waited) {
+        shorten_pause(place_of(session));
+    }
+    return status;
 }
 
 // Whether the session of this handle takes a call: H2, H3.
@@ -53,10 +64,9 @@ static nrbpf_status go_on(struct place *place, struct nrbpf_raw_bytes bytes, nrb
 // Goes on until a call that was tried with these bytes is answered.
 static nrbpf_status wait_for(struct place *place, struct nrbpf_raw_bytes bytes, nrbpf_answer *out, nrbpf_error *why) {
     nrbpf_status status;
-    unsigned tries = 0;
+    place->waits = place->waits + 1;
     do {
-        wait_behind(place, tries);
-        tries = one_more(tries);
+        pause_behind(place);
         status = go_on(place, bytes, out, why);
     } while (status == NRBPF_BUSY || status == NRBPF_POSTED);
     return status;
@@ -93,7 +103,7 @@ nrbpf_status nrbpf_update(nrbpf_session *session, uint16_t program, const void *
     if (status == NRBPF_BUSY || status == NRBPF_POSTED) {
         return wait_for(place_of(session), lent(argument, len), out, NULL);
     }
-    return status;
+    return ended(session, status, 0);
 }
 
 nrbpf_status nrbpf_read(nrbpf_session *session, uint16_t program, const void *argument, size_t len, nrbpf_answer *out) {
@@ -101,7 +111,7 @@ nrbpf_status nrbpf_read(nrbpf_session *session, uint16_t program, const void *ar
     if (status == NRBPF_BUSY) {
         return wait_for(place_of(session), lent(argument, len), out, NULL);
     }
-    return status;
+    return ended(session, status, 0);
 }
 
 // Installs a program, NRBPF_RAW_INSTALL or NRBPF_RAW_INSTALL_WITHIN.
@@ -193,13 +203,12 @@ nrbpf_status nrbpf_try_get(nrbpf_session *session, uint32_t map, const void *key
 
 nrbpf_status nrbpf_get(nrbpf_session *session, uint32_t map, const void *key, size_t key_len, void *value, size_t value_len, nrbpf_found *out) {
     nrbpf_status status = nrbpf_try_get(session, map, key, key_len, value, value_len, out);
-    unsigned tries = 0;
+    int has_waited = 0;
     while (status == NRBPF_BUSY) {
-        wait_behind(place_of(session), tries);
-        tries = one_more(tries);
+        wait_behind(place_of(session), &has_waited);
         status = nrbpf_try_get(session, map, key, key_len, value, value_len, out);
     }
-    return status;
+    return ended(session, status, has_waited);
 }
 
 nrbpf_status nrbpf_try_scan(nrbpf_session *session, uint32_t map, uint32_t from, void *keys, size_t keys_room, void *values, size_t values_room,
@@ -229,30 +238,17 @@ nrbpf_status nrbpf_try_scan(nrbpf_session *session, uint32_t map, uint32_t from,
 nrbpf_status nrbpf_scan(nrbpf_session *session, uint32_t map, uint32_t from, void *keys, size_t keys_room, void *values, size_t values_room,
                         nrbpf_scanned *out) {
     nrbpf_status status = nrbpf_try_scan(session, map, from, keys, keys_room, values, values_room, out);
-    unsigned tries = 0;
+    int has_waited = 0;
     while (status == NRBPF_BUSY) {
-        wait_behind(place_of(session), tries);
-        tries = one_more(tries);
+        wait_behind(place_of(session), &has_waited);
         status = nrbpf_try_scan(session, map, from, keys, keys_room, values, values_room, out);
     }
-    return status;
-}
-
-// The questions, which are at most 16, as the proved library takes them: H7.
-static nrbpf_status questions_of(const nrbpf_question *questions, size_t count, struct nrbpf_raw_question *asked) {
-    for (size_t i = 0; i < count; i++) {
-        if (!questions[i].argument && questions[i].len > 0) {
-            return NRBPF_H7;
-        }
-        asked[i].argument = lent(questions[i].argument, questions[i].len);
-        asked[i].program = questions[i].program;
-    }
-    return NRBPF_OK;
+    return ended(session, status, has_waited);
 }
 
 nrbpf_status nrbpf_try_read_each(nrbpf_session *session, const nrbpf_question *questions, size_t count, uint64_t *replies, uint64_t *point,
                                  nrbpf_error *why) {
-    struct nrbpf_raw_question asked[NRBPF_MOST_QUESTIONS];
+    struct nrbpf_raw_question room[NRBPF_MOST_QUESTIONS];
     uint64_t own_replies[NRBPF_MOST_QUESTIONS]; // copied at the end: arguments may be where the replies are written
     if (!session || (!questions && count > 0) || (!replies && count > 0) || !point) {
         return refused(why, NRBPF_H7);
@@ -265,9 +261,9 @@ nrbpf_status nrbpf_try_read_each(nrbpf_session *session, const nrbpf_question *q
     if (count > NRBPF_MOST_QUESTIONS) {
         return refused(why, NRBPF_H5);
     }
-    status = questions_of(questions, count, asked);
-    if (status != NRBPF_OK) {
-        return refused(why, status);
+    const struct nrbpf_raw_question *const asked = questions_of(questions, count, room);
+    if (!asked) {
+        return refused(why, NRBPF_H7);
     }
     nrbpf_raw_read_each(place->raw, asked, count, own_replies, count);
     status = told(place->raw, why);
@@ -283,13 +279,12 @@ nrbpf_status nrbpf_try_read_each(nrbpf_session *session, const nrbpf_question *q
 nrbpf_status nrbpf_read_each(nrbpf_session *session, const nrbpf_question *questions, size_t count, uint64_t *replies, uint64_t *point,
                              nrbpf_error *why) {
     nrbpf_status status = nrbpf_try_read_each(session, questions, count, replies, point, why);
-    unsigned tries = 0;
+    int has_waited = 0;
     while (status == NRBPF_BUSY) {
-        wait_behind(place_of(session), tries);
-        tries = one_more(tries);
+        wait_behind(place_of(session), &has_waited);
         status = nrbpf_try_read_each(session, questions, count, replies, point, why);
     }
-    return status;
+    return ended(session, status, has_waited);
 }
 
 nrbpf_status nrbpf_try_snapshot(nrbpf_session *session, nrbpf_state *into, uint64_t *point) {
@@ -311,13 +306,12 @@ nrbpf_status nrbpf_try_snapshot(nrbpf_session *session, nrbpf_state *into, uint6
 
 nrbpf_status nrbpf_snapshot(nrbpf_session *session, nrbpf_state *into, uint64_t *point) {
     nrbpf_status status = nrbpf_try_snapshot(session, into, point);
-    unsigned tries = 0;
+    int has_waited = 0;
     while (status == NRBPF_BUSY) {
-        wait_behind(place_of(session), tries);
-        tries = one_more(tries);
+        wait_behind(place_of(session), &has_waited);
         status = nrbpf_try_snapshot(session, into, point);
     }
-    return status;
+    return ended(session, status, has_waited);
 }
 
 // ---- What a store is
@@ -349,13 +343,12 @@ nrbpf_status nrbpf_try_map_info(nrbpf_session *session, uint32_t map, nrbpf_map_
 
 nrbpf_status nrbpf_map_info(nrbpf_session *session, uint32_t map, nrbpf_map_facts *out, size_t size) {
     nrbpf_status status = nrbpf_try_map_info(session, map, out, size);
-    unsigned tries = 0;
+    int has_waited = 0;
     while (status == NRBPF_BUSY) {
-        wait_behind(place_of(session), tries);
-        tries = one_more(tries);
+        wait_behind(place_of(session), &has_waited);
         status = nrbpf_try_map_info(session, map, out, size);
     }
-    return status;
+    return ended(session, status, has_waited);
 }
 
 // The facts of a program, from its words.
@@ -396,13 +389,12 @@ nrbpf_status nrbpf_try_program_info(nrbpf_session *session, uint16_t program, nr
 
 nrbpf_status nrbpf_program_info(nrbpf_session *session, uint16_t program, nrbpf_program_facts *out, size_t size) {
     nrbpf_status status = nrbpf_try_program_info(session, program, out, size);
-    unsigned tries = 0;
+    int has_waited = 0;
     while (status == NRBPF_BUSY) {
-        wait_behind(place_of(session), tries);
-        tries = one_more(tries);
+        wait_behind(place_of(session), &has_waited);
         status = nrbpf_try_program_info(session, program, out, size);
     }
-    return status;
+    return ended(session, status, has_waited);
 }
 
 // ---- What a store does
@@ -440,11 +432,10 @@ nrbpf_status nrbpf_try_stats(nrbpf_session *session, nrbpf_counts *out, size_t s
 
 nrbpf_status nrbpf_stats(nrbpf_session *session, nrbpf_counts *out, size_t size) {
     nrbpf_status status = nrbpf_try_stats(session, out, size);
-    unsigned tries = 0;
+    int has_waited = 0;
     while (status == NRBPF_BUSY) {
-        wait_behind(place_of(session), tries);
-        tries = one_more(tries);
+        wait_behind(place_of(session), &has_waited);
         status = nrbpf_try_stats(session, out, size);
     }
-    return status;
+    return ended(session, status, has_waited);
 }

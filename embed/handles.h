@@ -4,12 +4,14 @@
 
 #include "nrbpf.h"
 #include "nrbpf_raw.h"
+#include <assert.h>
 #include <pthread.h>
 #include <sched.h>
 #include <stdalign.h>
+#include <stddef.h>
 #include <string.h>
 
-enum { MOST_SESSIONS = 128, TURNS = 512, SPINS = 9 };
+enum { MOST_SESSIONS = 128, TURNS = 512, MOST_DOUBLINGS = 9 };
 
 // A place for a session. Its sessions come one after another, and each has a handle of its own: the
 // address of the place, with the session's turn in its low bits. No code reads through a handle.
@@ -23,6 +25,7 @@ struct place {
     uint32_t node;                              // of the session that is attached, and what it was asked for since it was:
     uint64_t updates;                           // updates and installs
     uint64_t waits;                             // calls that waited for another session
+    uint32_t doublings;                         // how often its shortest pause is doubled, when it waits next
     nrbpf_store *of;
     nrbpf_lane *lane;                           // of a lane's place: the lane's handle; else null
     uint32_t slots;                             // of the same: how many the lane has
@@ -71,19 +74,52 @@ static inline struct nrbpf_raw_bytes lent(const void *at, size_t len) {
     return bytes;
 }
 
-// Lets another session go on, behind so many tries: spins for longer from try to try, 16 us or so in all, and then lets another thread run.
-static inline void pause_behind(unsigned tries) {
-    if (tries >= SPINS) {
-        sched_yield();
-        return;
+static_assert(sizeof(nrbpf_question) == sizeof(struct nrbpf_raw_question) &&
+                  offsetof(nrbpf_question, argument) == offsetof(struct nrbpf_raw_question, argument.at) &&
+                  offsetof(nrbpf_question, len) == offsetof(struct nrbpf_raw_question, argument.length) &&
+                  offsetof(nrbpf_question, program) == offsetof(struct nrbpf_raw_question, program),
+              "a host's question is one that the library reads");
+
+// The host's questions, at most 16, as the library reads them. If one has a null pointer to no bytes, they are copied into `room`. Null if one
+// has a null pointer to bytes: H7.
+static inline const struct nrbpf_raw_question *questions_of(const nrbpf_question *questions, size_t count, struct nrbpf_raw_question *room) {
+    int is_copied = count == 0;
+    for (size_t i = 0; i < count; i++) {
+        if (!questions[i].argument) {
+            if (questions[i].len > 0) {
+                return NULL;
+            }
+            is_copied = 1;
+        }
     }
-    for (volatile unsigned spin = 0; spin < 16u << tries;) {
+    if (!is_copied) {
+        return (const struct nrbpf_raw_question *)questions;
+    }
+    for (size_t i = 0; i < count; i++) {
+        room[i].argument = lent(questions[i].argument, questions[i].len);
+        room[i].program = questions[i].program;
+    }
+    return room;
+}
+
+// Lets another session go on: spins, each time for twice as long, 15 us or so at most, and then lets another thread run, too. The more often sessions
+// are in each other's way, the longer one of them goes on alone, and has what they share in its cache.
+static inline void pause_behind(struct place *place) {
+    for (volatile unsigned spin = 0; spin < 16u << place->doublings;) {
         spin = spin + 1;
+    }
+    if (place->doublings < MOST_DOUBLINGS) {
+        place->doublings = place->doublings + 1;
+    } else {
+        sched_yield();
     }
 }
 
-static inline unsigned one_more(unsigned tries) {
-    return tries < SPINS ? tries + 1 : tries;
+// Halves the next pause, after a call that had not to wait.
+static inline void shorten_pause(struct place *place) {
+    if (place->doublings > 0) {
+        place->doublings = place->doublings - 1;
+    }
 }
 
 // A state's handle is the raw one. A dump has the state out of it, and puts it back before it returns.

@@ -96,15 +96,6 @@ nrbpf_status nrbpf_detach_lane(nrbpf_lane *lane) {
 
 // ---- Lists
 
-static int has_null(const nrbpf_question *calls, size_t count) {
-    for (size_t i = 0; i < count; i++) {
-        if (!calls[i].argument && calls[i].len > 0) {
-            return 1;
-        }
-    }
-    return 0;
-}
-
 // Asks for these updates, or goes on with the list that is posted. The host's outcomes are written last, and may be where its calls are.
 static nrbpf_status go_on(struct place *place, const struct nrbpf_raw_question *asked, size_t count, nrbpf_outcome *outcomes, nrbpf_error *why) {
     struct nrbpf_raw_outcome told[NRBPF_MOST_SLOTS];
@@ -129,15 +120,7 @@ static nrbpf_status go_on(struct place *place, const struct nrbpf_raw_question *
     return status;
 }
 
-// The updates of a list, as the library reads them.
-static void write_questions(struct nrbpf_raw_question *asked, const nrbpf_question *calls, size_t count) {
-    for (size_t i = 0; i < count; i++) {
-        asked[i].argument = lent(calls[i].argument, calls[i].len);
-        asked[i].program = calls[i].program;
-    }
-}
-
-// Whether the lane takes this list: H7, H2, H3, H5.
+// Whether the lane takes a list of so many updates: H7, H2, H3, H5.
 static nrbpf_status may_begin(const nrbpf_lane *lane, const nrbpf_question *calls, size_t count, const nrbpf_outcome *outcomes) {
     if (!lane || (!calls && count > 0) || (!outcomes && count > 0)) {
         return NRBPF_H7;
@@ -147,14 +130,17 @@ static nrbpf_status may_begin(const nrbpf_lane *lane, const nrbpf_question *call
     if (status != NRBPF_OK) {
         return status;
     }
-    if (count > place->slots) {
-        return NRBPF_H5;
-    }
-    return has_null(calls, count) ? NRBPF_H7 : NRBPF_OK;
+    return count > place->slots ? NRBPF_H5 : NRBPF_OK;
+}
+
+// Goes on with the list that is posted.
+static nrbpf_status poll_list(struct place *place, nrbpf_outcome *outcomes, nrbpf_error *why) {
+    const struct nrbpf_raw_question none = {{(const uint8_t *)"", 0}, 0};
+    return go_on(place, &none, 0, outcomes, why);
 }
 
 nrbpf_status nrbpf_try_update_each(nrbpf_lane *lane, const nrbpf_question *calls, size_t count, nrbpf_outcome *outcomes, nrbpf_error *why) {
-    struct nrbpf_raw_question asked[NRBPF_MOST_SLOTS];
+    struct nrbpf_raw_question room[NRBPF_MOST_SLOTS];
     const nrbpf_status status = may_begin(lane, calls, count, outcomes);
     if (status != NRBPF_OK) {
         return refused(why, status);
@@ -162,32 +148,23 @@ nrbpf_status nrbpf_try_update_each(nrbpf_lane *lane, const nrbpf_question *calls
     if (count == 0) {
         return NRBPF_OK;
     }
-    write_questions(asked, calls, count);
-    return go_on(place_of_lane(lane), asked, count, outcomes, why);
+    const struct nrbpf_raw_question *const asked = questions_of(calls, count, room);
+    return asked ? go_on(place_of_lane(lane), asked, count, outcomes, why) : refused(why, NRBPF_H7);
 }
 
 nrbpf_status nrbpf_update_each(nrbpf_lane *lane, const nrbpf_question *calls, size_t count, nrbpf_outcome *outcomes, nrbpf_error *why) {
-    struct nrbpf_raw_question asked[NRBPF_MOST_SLOTS];
-    nrbpf_status status = may_begin(lane, calls, count, outcomes);
-    unsigned tries = 0;
-    if (status != NRBPF_OK) {
-        return refused(why, status);
+    nrbpf_status status = nrbpf_try_update_each(lane, calls, count, outcomes, why);
+    if (status == NRBPF_OK && count > 0) {
+        shorten_pause(place_of_lane(lane));
     }
-    if (count == 0) {
-        return NRBPF_OK;
-    }
-    write_questions(asked, calls, count);
-    status = go_on(place_of_lane(lane), asked, count, outcomes, why);
     while (status == NRBPF_BUSY || status == NRBPF_POSTED) {
-        pause_behind(tries);
-        tries = one_more(tries);
-        status = go_on(place_of_lane(lane), asked, count, outcomes, why);
+        pause_behind(place_of_lane(lane));
+        status = status == NRBPF_BUSY ? nrbpf_try_update_each(lane, calls, count, outcomes, why) : poll_list(place_of_lane(lane), outcomes, why);
     }
     return status;
 }
 
 nrbpf_status nrbpf_poll_each(nrbpf_lane *lane, nrbpf_outcome *outcomes) {
-    const struct nrbpf_raw_question none = {{(const uint8_t *)"", 0}, 0};
     if (!lane || !outcomes) {
         return NRBPF_H7;
     }
@@ -195,8 +172,5 @@ nrbpf_status nrbpf_poll_each(nrbpf_lane *lane, nrbpf_outcome *outcomes) {
     if (place->lane != lane) {
         return NRBPF_H2;
     }
-    if (!place->is_posted) {
-        return NRBPF_H11;
-    }
-    return go_on(place, &none, 0, outcomes, NULL);
+    return place->is_posted ? poll_list(place, outcomes, NULL) : NRBPF_H11;
 }
