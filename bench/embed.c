@@ -3,7 +3,8 @@
    same store by lists, which are as long as the slots of a node allow (16 for one thread, 4 for four), a mutex round one session of a store of one
    node, which is one replica of the same machine, and a mutex round the interpreter of threaded.c, which trusts every program. All threads begin
    at once, behind a barrier, and a round is long enough that they run beside each other. With two words, `update N`, `list N` or `read N`, one
-   session or one lane makes so many calls and nothing is timed, to count their processor instructions. It runs in the top folder. */
+   session or one lane makes so many calls and nothing is timed, to count their processor instructions. With the word `waits` it prints how long each
+   call takes instead. It runs in the top folder. */
 
 #include "threaded.c"
 
@@ -279,8 +280,62 @@ static int make_calls(const char *call, long times) {
     return 0;
 }
 
+/* ---- How long each call takes */
+
+enum { TIMED = 100000 };
+
+static uint32_t took[MOST_THREADS * TIMED]; /* nanoseconds, of each thread in a part of its own */
+
+static void *time_each(void *of) {
+    struct worker *mine = of;
+    uint32_t *next = &took[mine->number * TIMED], *end = next + TIMED;
+    pthread_barrier_wait(&start);
+    for (uint64_t i = 0; next < end; i++) {
+        const uint8_t argument[4] = {(uint8_t)(i % ENTRIES)};
+        const double from = now();
+        mine->kind->update(mine->number, argument);
+        *next = (uint32_t)(now() - from);
+        next += mine->kind->update != update_listed || lists[mine->number].count == 0; /* an update that only joined its list is no call */
+    }
+    return NULL;
+}
+
+static int is_longer(const void *a, const void *b) {
+    const uint32_t *x = a, *y = b;
+    return (*x > *y) - (*x < *y);
+}
+
+/* Prints the microseconds that so many of a thousand calls take at most, while four threads update. */
+static void print_waits(const struct kind *kind, struct load load) {
+    const size_t of_1000[] = {500, 900, 990, 999}, count = (size_t)load.threads * TIMED;
+    struct worker all[MOST_THREADS];
+    kind->open(load);
+    EXPECT(pthread_barrier_init(&start, NULL, (unsigned)load.threads) == 0);
+    for (int i = 0; i < load.threads; i++) {
+        all[i] = (struct worker){.kind = kind, .load = load, .number = i};
+        EXPECT(pthread_create(&all[i].thread, NULL, time_each, &all[i]) == 0);
+    }
+    for (int i = 0; i < load.threads; i++) EXPECT(pthread_join(all[i].thread, NULL) == 0);
+    pthread_barrier_destroy(&start);
+    kind->close(load);
+    qsort(took, count, sizeof *took, is_longer);
+    printf("%-8d%-18s", load.nodes, kind->name);
+    for (int i = 0; i < 4; i++) printf("%10.1f", took[count * of_1000[i] / 1000] / 1e3);
+    printf("\n");
+}
+
+static int print_all_waits(void) {
+    printf("Microseconds that a call takes at most, while four threads update: half of all calls, 90, 99 and 99.9 of 100\n");
+    printf("%-8s%-18s%10s%10s%10s%10s\n", "nodes", "", "half", "90", "99", "99.9");
+    for (int nodes = 1; nodes <= 2; nodes++) {
+        for (int k = 0; k < KINDS; k++) print_waits(&kinds[k], (struct load){4, nodes, 0, 0});
+    }
+    return 0;
+}
+
 int main(int count, char **words) {
     if (count == 3) return make_calls(words[1], strtol(words[2], NULL, 10));
+    if (count == 2) return print_all_waits();
     const int spreads[][2] = {{1, 1}, {2, 1}, {2, 2}, {4, 1}, {4, 2}};
     const uint64_t mixes[] = {0, 90, 100};
     printf("Millions of calls a second, the median of %d rounds\n%-8s%-8s%-8s", ROUNDS, "threads", "nodes", "reads");

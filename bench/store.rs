@@ -2,7 +2,7 @@
 //! checks that all give the same replies, and prints what an update and a ready read cost, an update by the bytes of the maps and the
 //! window, the longest pause of one, and what a scan of a hash and a snapshot cost; then it prints how many calls a second several threads make, what an
 //! update costs beside a node that is idle, and what memory the store has as its history grows: the last two, and the snapshots, with the word
-//! `idle`, `endless` or `snapshots` after the path alone. With `lists` it times updates by the list (bench/programs/bench_lists). With `replicated` or `locked`, `update` or `read`, and a number in place of the path it makes so many
+//! `idle`, `endless`, `threads` or `snapshots` after the path alone. With `lists` it times updates by the list (bench/programs/bench_lists). With `replicated` or `locked`, `update` or `read`, and a number in place of the path it makes so many
 //! calls of that twin alone, for a tool that counts processor instructions.
 
 mod classic;
@@ -157,6 +157,10 @@ fn main() {
         [_, path, part] if part == "idle" => {
             host::print();
             idle::print(path);
+        }
+        [_, path, part] if part == "threads" => {
+            host::print();
+            threads::print(path);
         }
         [_, path, part] if part == "snapshots" => {
             host::print();
