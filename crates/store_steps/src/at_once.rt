@@ -13,6 +13,7 @@ use crate::batches::Room;
 use crate::combining::append_and_replay;
 use crate::desks;
 use crate::desks::Turn;
+use crate::pauses::Waiting;
 use crate::requests::{turn, watch};
 use crate::steps::Here;
 use crate::values::Value;
@@ -150,7 +151,14 @@ pub fn ask_at_once<R: Wait>(
         match at {
             Turn::Collects(reply) => return reply,
             Turn::Combines => {
-                append_and_replay(rt, here, seat, &room.batch, &mut room.replies);
+                let pauses = &mut room.pauses;
+                append_and_replay(
+                    Waiting { rt, pauses },
+                    here,
+                    seat,
+                    &room.batch,
+                    &mut room.replies,
+                );
                 room.count_batch();
                 room.pauses.shorten();
                 at = hand_over_and_turn(rt, here, seat, &mut room.batch, &room.replies);

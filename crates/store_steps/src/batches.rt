@@ -14,7 +14,7 @@ pub struct Room {
     pub batch: Batch,
     /// For what their programs answer.
     pub replies: Replies,
-    // How long the session pauses while another one combines.
+    // How long the session pauses while it waits for another one.
     pub(crate) pauses: Pauses,
     // How many batches of one request the session has combined.
     singles: u64,

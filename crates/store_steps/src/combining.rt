@@ -10,6 +10,7 @@ ghost use Rattle.store_steps.specs.Trying.{IsStill};
 ghost use Rattle.store_steps.specs.Whole.{AnswersBy, CombinesBy, HandsOver};
 
 use crate::desks;
+use crate::pauses::{Pauses, Waiting};
 use crate::steps::{Here, Shared, replay_and_raise, try_append_and_copy};
 use crate::values::Value;
 use crate::visits::try_take_desk;
@@ -51,10 +52,10 @@ pub(crate) fn try_combine(
     Ok(())
 }
 
-// `try_combine`, but waits for the place that another session holds.
+// `try_combine`, but waits for the place that another session holds, and pauses then.
 #[inline(always)]
 pub(crate) fn append_and_replay<R: Wait>(
-    rt: &R,
+    waiting: Waiting<'_, '_, R>,
     here: Here<'_>,
     seat: &mut Seat<Value>,
     batch: &Batch,
@@ -66,10 +67,13 @@ pub(crate) fn append_and_replay<R: Wait>(
     ensures combined { Learns seat.old seat.new (λ k after. HasAnswered k after batch.now replies.new) }
     ensures goes { Relates seat.old seat.new (λ k after. AnswersBy here.entry.caller.node k after batch.now replies.new) }
 {
-    for _ in rt.forever() {
+    for _ in waiting.rt.forever() {
         match try_combine(here, seat, batch, replies) {
             Ok(()) => return,
-            Err(place) => here.shared.shelf.wait(rt, seat, place),
+            Err(place) => {
+                here.shared.shelf.wait(waiting.rt, seat, place);
+                waiting.pauses.pause();
+            }
         }
     }
     unreachable!()
@@ -91,7 +95,8 @@ pub(crate) fn combine<R: Wait>(
     ensures combined { Learns seat.old seat.new HasCombined }
     ensures goes { Relates seat.old seat.new (λ k after. CombinesBy k after batch.old batch.new) }
 {
-    append_and_replay(rt, here, seat, batch, replies);
+    let pauses = &mut Pauses::new();
+    append_and_replay(Waiting { rt, pauses }, here, seat, batch, replies);
     hand_over(rt, here, seat, batch, replies);
 }
 

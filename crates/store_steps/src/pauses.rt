@@ -1,13 +1,13 @@
-// How long a session pauses while another one combines.
+// How long a session pauses while it waits for another one.
 
 use std::hint;
 
 // How often the longest pause spins. It takes some ten microseconds.
 const LONGEST: u32 = 512;
 
-/// How long a session pauses while another session of its node combines. Each pause is twice as long as the one before, and each batch that the session
-/// combines itself halves the next one. So if sessions of a node often wait for each other, one of them goes on for longer before another one comes, and has
-/// what they share in its cache.
+/// How long a session pauses while another session of its node combines, or has the log. Each pause is twice as long as the one before, and each batch
+/// that the session combines itself halves the next one. So if sessions often wait for each other, one of them goes on for longer before another one comes,
+/// and has what they share in its cache.
 #[derive(Drop)]
 pub(crate) struct Pauses {
     // How often the next pause spins.
@@ -33,4 +33,11 @@ impl Pauses {
     pub(crate) fn shorten(&mut self) {
         self.spins = (self.spins / 2).max(1);
     }
+}
+
+/// How a session waits: by this runtime, and with these pauses.
+#[derive(Drop)]
+pub(crate) struct Waiting<'r, 'p, R> {
+    pub(crate) rt: &'r R,
+    pub(crate) pauses: &'p mut Pauses,
 }

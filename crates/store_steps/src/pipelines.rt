@@ -17,6 +17,7 @@ use crate::desks::Turn;
 use crate::passing::{
     give_and_settle, post_and_hand_on, post_and_settle, try_take_free, turn_and_hand_on,
 };
+use crate::pauses::Waiting;
 use crate::requests::watch;
 use crate::steps::{Caller, Here, Question, Shared};
 use crate::values::Value;
@@ -285,8 +286,15 @@ fn combine_each<R: Wait>(
         shared,
         caller: first.caller,
     };
-    let Room { batch, replies, .. } = &mut room.combining;
-    append_and_replay(rt, here, &mut first.seat, batch, replies);
+    let own = &mut room.combining;
+    let pauses = &mut own.pauses;
+    append_and_replay(
+        Waiting { rt, pauses },
+        here,
+        &mut first.seat,
+        &own.batch,
+        &mut own.replies,
+    );
     room.combining.count_batch();
     room.combining.pauses.shorten();
 }
