@@ -172,5 +172,8 @@ nrbpf_status nrbpf_poll_each(nrbpf_lane *lane, nrbpf_outcome *outcomes) {
     if (place->lane != lane) {
         return NRBPF_H2;
     }
-    return place->is_posted ? poll_list(place, outcomes, NULL) : NRBPF_H11;
+    if (!place->is_posted) {
+        return NRBPF_H11;
+    }
+    return poll_list(place, outcomes, NULL);
 }
