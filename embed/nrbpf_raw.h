@@ -57,7 +57,7 @@ struct nrbpf_raw_opening {
     struct nrbpf_raw_limits limits;
 };
 
-/* A read: a program, by its number, and its argument. */
+/* A read, or an update of a list: a program, by its number, and its argument. */
 struct nrbpf_raw_question { struct nrbpf_raw_bytes argument; uint16_t program; };
 
 /* ---- a store's handle */
