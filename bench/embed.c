@@ -4,7 +4,7 @@
    node, which is one replica of the same machine, and a mutex round the interpreter of threaded.c, which trusts every program. All threads begin
    at once, behind a barrier, and a round is long enough that they run beside each other. With two words, `update N`, `list N` or `read N`, one
    session or one lane makes so many calls and nothing is timed, to count their processor instructions. With the word `waits` it prints how long each
-   call takes instead. It runs in the top folder. */
+   call takes instead, with `one` what an update takes one thread, singly and by lists of sixteen. It runs in the top folder. */
 
 #include "threaded.c"
 
@@ -333,9 +333,23 @@ static int print_all_waits(void) {
     return 0;
 }
 
+/* ---- One thread: an update singly, and by a list of sixteen, in turn */
+
+static int print_one(void) {
+    enum { TURNS_OF_EACH = 20 };
+    double rates[2][TURNS_OF_EACH];
+    for (int turn = 0; turn < TURNS_OF_EACH; turn++) {
+        for (int k = 0; k < 2; k++) rates[k][turn] = rate_of(&kinds[k], (struct load){1, 1, 0, 0});
+    }
+    for (int k = 0; k < 2; k++) qsort(rates[k], TURNS_OF_EACH, sizeof *rates[k], is_above);
+    printf("Nanoseconds of an update, of %d rounds: the quickest quarter, half\n", TURNS_OF_EACH);
+    for (int k = 0; k < 2; k++) printf("%-18s%10.1f%10.1f\n", k ? "lists of 16" : "singly", 1e3 / rates[k][TURNS_OF_EACH * 3 / 4], 1e3 / rates[k][TURNS_OF_EACH / 2]);
+    return 0;
+}
+
 int main(int count, char **words) {
     if (count == 3) return make_calls(words[1], strtol(words[2], NULL, 10));
-    if (count == 2) return print_all_waits();
+    if (count == 2) return strcmp(words[1], "one") == 0 ? print_one() : print_all_waits();
     const int spreads[][2] = {{1, 1}, {2, 1}, {2, 2}, {4, 1}, {4, 2}};
     const uint64_t mixes[] = {0, 90, 100};
     printf("Millions of calls a second, the median of %d rounds\n%-8s%-8s%-8s", ROUNDS, "threads", "nodes", "reads");

@@ -1,5 +1,5 @@
 -- What a session tells of a look at the maps of its node: of a get, a scan, several reads, and a snapshot; and what is written of it.
-use Rattle.std.specs.Prelude.{◌≡◌, ℕ, ◌≤◌, List, ◌∷◌, length, map as each, None, Some, Option, MatchOption, Result, Ok, Err, if◌then◌else◌}
+use Rattle.std.specs.Prelude.{◌≡◌, ℕ, ◌≤◌, List, ◌∷◌, length, None, Some, Option, MatchOption, Result, Ok, Err, if◌then◌else◌}
 use Rattle.ownlock.specs.declared.known.ShelfStep.{ShelfStep}
 use Rattle.ownlock.specs.declared.known.ShelfStep.TheVariants.{Put}
 use Rattle.loader.specs.CatalogueView.{CatalogueView, sizes_for}
