@@ -13,7 +13,7 @@ static void wait_behind(struct place *place, int *has_waited) {
     pause_behind(place);
 }
 
-// What a call answers.
+// What a call answers. If it did not wait, the next pause of its session is half as long.
 static inline nrbpf_status ended(nrbpf_session *session, nrbpf_status status, int has_waited) {
     if (status == NRBPF_OK && !has_waited) {
         shorten_pause(place_of(session));

@@ -80,8 +80,8 @@ static_assert(sizeof(nrbpf_question) == sizeof(struct nrbpf_raw_question) &&
                   offsetof(nrbpf_question, program) == offsetof(struct nrbpf_raw_question, program),
               "a host's question is one that the library reads");
 
-// The host's questions, at most 16, as the library reads them. If one has a null pointer to no bytes, they are copied into `room`. Null if one
-// has a null pointer to bytes: H7.
+// The host's questions, at most 16, as the library reads them: the host's own array, or `room` with copies if one has a null pointer to no bytes or there
+// are none. Null if one has a null pointer to bytes: H7.
 static inline const struct nrbpf_raw_question *questions_of(const nrbpf_question *questions, size_t count, struct nrbpf_raw_question *room) {
     int is_copied = count == 0;
     for (size_t i = 0; i < count; i++) {
@@ -115,7 +115,7 @@ static inline void pause_behind(struct place *place) {
     }
 }
 
-// Halves the next pause, after a call that had not to wait.
+// Halves the next pause, after a call that did not wait.
 static inline void shorten_pause(struct place *place) {
     if (place->doublings > 0) {
         place->doublings = place->doublings - 1;
