@@ -250,7 +250,7 @@ static void read_each(void) {
         if (!chance(30) && asked[i].program < MODEL_PROGRAMS) asked[i].len = argument_of[asked[i].program];
         if (asked[i].words[0] == BESIDE) asked[i].words[0] = 0;
         asked[i].mode = NRBPF_MODE_READ;
-        questions[i] = (nrbpf_question){asked[i].words, asked[i].len, asked[i].program};
+        questions[i] = (nrbpf_question){asked[i].len > 0 || chance(2) ? asked[i].words : NULL, asked[i].len, asked[i].program};
         if (wanted_status) continue;
         wanted_status = refusal_of(&asked[i]);
         which = wanted_status ? (uint32_t)i : 0;

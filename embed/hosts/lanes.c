@@ -1,5 +1,5 @@
 // lanes.c: lists of updates by lanes. What they answer and refuse on one thread; lists of several threads on two nodes, and single calls among them; a list
-// that is posted and not answered; a list in which the history ends.
+// that is posted and not answered; a list in which the history ends; null pointers to no bytes.
 #include "fixture.h"
 #include <pthread.h>
 #include <stdatomic.h>
@@ -154,6 +154,29 @@ static void ends(void) {
     EXPECT_STATUS(nrbpf_close(store), NRBPF_OK);
 }
 
+// A null pointer to no bytes is an empty argument, next to others: in a list, and in several reads.
+static void takes_no_bytes(void) {
+    const char *manifest = "map array 8 16\nprogram five update 0 five\nprogram bump update 4 bump\nprogram eight read 0 eight\n";
+    const nrbpf_file files[] = {file_of("five", "b7000000050000009500000000000000"), file_of("bump", text_of(BUMP)),
+                                file_of("eight", "b7000000080000009500000000000000")};
+    const nrbpf_config config = NRBPF_CONFIG(1, 4);
+    const nrbpf_question calls[] = {{NULL, 0, 0}, {&keys[1], sizeof keys[1], 1}, {NULL, 0, 0}}, reads[] = {{"", 0, 2}, {NULL, 0, 2}};
+    const uint64_t wanted[] = {5, 1, 5};
+    nrbpf_outcome outcomes[3];
+    uint64_t replies[2], point;
+    EXPECT_STATUS(nrbpf_open(&config, manifest, strlen(manifest), files, 3, &store, NULL), NRBPF_OK);
+    nrbpf_lane *lane = attached_lane(0, 3);
+    nrbpf_session *session = attached(store, 0);
+    EXPECT_STATUS(nrbpf_update_each(lane, calls, 3, outcomes, NULL), NRBPF_OK);
+    for (uint64_t i = 0; i < 3; i++) EXPECT(outcomes[i].point == i && outcomes[i].reply == wanted[i] && outcomes[i].status == NRBPF_OK);
+    EXPECT_STATUS(nrbpf_read_each(session, reads, 2, replies, &point, NULL), NRBPF_OK);
+    EXPECT(point == 3 && replies[0] == 8 && replies[1] == 8);
+    EXPECT_STATUS(nrbpf_detach(session), NRBPF_OK);
+    EXPECT_STATUS(nrbpf_detach_lane(lane), NRBPF_OK);
+    EXPECT_STATUS(nrbpf_close(store), NRBPF_OK);
+    free((char *)files[1].text);
+}
+
 // ---- Threads
 
 enum { THREADS = 4, LISTS = 3000, SLOTS = 7 };
@@ -232,6 +255,7 @@ int main(void) {
     refuses();
     EXPECT_STATUS(nrbpf_close(store), NRBPF_OK);
     ends();
+    takes_no_bytes();
     int turns = 0;
     do meet(); while (!posted && ++turns < 20);
     if (!posted) printf("no list was ever posted and not answered\n");
