@@ -1,7 +1,7 @@
-"""What `.ci/refused` and `.ci/wrong` share: the file of an edit, and where a check says that it was refused.
+"""What `.ci/wrong` reads: the file of an edit, and where a check says that it was refused.
 
-An edit has lines `file: PATH`, `old: TEXT`, `new: TEXT` and `refused: PATH FUNCTION: GOAL`, each TEXT one line that its file has once. `rt` ignores the
-line `refused:`. That line has no line numbers, because these change with every edit of the file. A goal that a log cuts off ends in `..`.
+An edit has lines `file: PATH`, `old: TEXT`, `new: TEXT` and `refused: PATH FUNCTION: GOAL`, each TEXT one line that its file has once. The line
+`refused:` has no line numbers, because these change with every edit of the file. A goal that a log cuts off ends in `..`.
 """
 
 import os
