@@ -1,10 +1,11 @@
 // The command `asm`.
 
+use crate::commands::options;
 use crate::keeping::{destination_of, elsewhere};
 use crate::output::{Target, no_memory, put_after, say_text};
 use crate::progress::Screen;
 use crate::tasks::{Call, Task};
-use clap::{ArgMatches, Command, arg};
+use clap::{ArgMatches, Command};
 use console::Assemble;
 use engine::{Destination, Folder, Inputs, Notes, Performed, Sink, Source, Status, perform_kept};
 use std::alloc::{AllocError, Global};
@@ -63,11 +64,22 @@ pub fn arguments<'a>(alloc: Global) -> Result<Command<'a>, AllocError> {
     Command::new(alloc, "asm")
         .about("Assembles a program file from text")
         .after_help(HELP)
-        .arg(arg!(in alloc; -o --output <OUT>
-            "The path of the program file to write, instead of standard output"))?
-        .arg(arg!(in alloc; --explain
-            "Says on standard error what is wanted in a refused text, and where"))?
-        .arg(arg!(in alloc; <FILE> "The path of the assembler text"))
+        .args(vec![in alloc;
+            options::option(
+                alloc,
+                "output",
+                "output",
+                "OUT",
+                "The path of the program file to write, instead of standard output"
+            )
+            .short('o'),
+            options::flag(
+                alloc,
+                "explain",
+                "Says on standard error what is wanted in a refused text, and where"
+            ),
+            options::word(alloc, "FILE", "FILE", "The path of the assembler text"),
+        ]?)
 }
 
 /// The task that the command's words ask for.

@@ -52,9 +52,11 @@ pub fn arguments<'a>(alloc: Global) -> Result<Command<'a>, AllocError> {
     Command::new(alloc, "check")
         .about("Checks that the programs of a manifest are safe to run")
         .after_help(HELP)
-        .arg(options::large(alloc))?
-        .arg(options::maps(alloc))?
-        .arg(options::manifest(alloc))
+        .args(vec![in alloc;
+            options::large(alloc),
+            options::maps(alloc),
+            options::manifest(alloc),
+        ]?)
 }
 
 /// The task that the command's words ask for.

@@ -1,8 +1,9 @@
 // The command `decode`.
 
+use crate::commands::options;
 use crate::keeping::perform_noting;
 use crate::tasks::Task;
-use clap::{ArgMatches, Command, arg};
+use clap::{ArgMatches, Command};
 use console::Decode;
 use engine::{Folder, Inputs, Status, Telling};
 use std::alloc::{AllocError, Global};
@@ -47,8 +48,10 @@ pub fn arguments<'a>(alloc: Global) -> Result<Command<'a>, AllocError> {
     Command::new(alloc, "decode")
         .about("Writes the entries of a state as the numbers that a layout names")
         .after_help(HELP)
-        .arg(arg!(in alloc; FILE: <LAYOUT> "The path of the layout"))?
-        .arg(arg!(in alloc; load: <STATE> "The path of the state"))
+        .args(vec![in alloc;
+            options::word(alloc, "FILE", "LAYOUT", "The path of the layout"),
+            options::word(alloc, "load", "STATE", "The path of the state"),
+        ]?)
 }
 
 /// The task that the command's words ask for.

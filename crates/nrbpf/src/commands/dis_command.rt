@@ -1,8 +1,9 @@
 // The command `dis`.
 
+use crate::commands::options;
 use crate::keeping::perform_noting;
 use crate::tasks::Task;
-use clap::{ArgMatches, Command, arg};
+use clap::{ArgMatches, Command};
 use console::Disassemble;
 use engine::{Folder, Inputs, Status, Telling};
 use std::alloc::{AllocError, Global};
@@ -38,9 +39,15 @@ pub fn arguments<'a>(alloc: Global) -> Result<Command<'a>, AllocError> {
     Command::new(alloc, "dis")
         .about("Disassembles a program file into text")
         .after_help(HELP)
-        .arg(arg!(in alloc; "slots-and-bytes": --slots
-            "Writes the slot and the bytes of each instruction before its text"))?
-        .arg(arg!(in alloc; <FILE> "The path of the program file"))
+        .args(vec![in alloc;
+            options::flag(
+                alloc,
+                "slots-and-bytes",
+                "Writes the slot and the bytes of each instruction before its text"
+            )
+            .long("slots"),
+            options::word(alloc, "FILE", "FILE", "The path of the program file"),
+        ]?)
 }
 
 /// The task that the command's words ask for.

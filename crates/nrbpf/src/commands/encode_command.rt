@@ -1,10 +1,11 @@
 // The command `encode`.
 
+use crate::commands::options;
 use crate::disk::DASH;
 use crate::keeping::elsewhere;
 use crate::output::say_text;
 use crate::tasks::Task;
-use clap::{ArgMatches, Command, arg};
+use clap::{ArgMatches, Command};
 use console::Encode;
 use engine::{Folder, Handed, Inputs, Notes, Performed, Sink, Source, Status, perform_kept};
 use std::alloc::{AllocError, Global};
@@ -49,7 +50,11 @@ pub fn arguments<'a>(alloc: Global) -> Result<Command<'a>, AllocError> {
     Command::new(alloc, "encode")
         .about("Writes a script of calls whose arguments are numbers and texts")
         .after_help(HELP)
-        .arg(arg!(in alloc; [FILE] "The path of the calls").default_value(DASH))
+        .arg(
+            options::word(alloc, "FILE", "FILE", "The path of the calls")
+                .required(false)
+                .default_value(DASH),
+        )
 }
 
 /// The task that the command's words ask for.

@@ -3,7 +3,7 @@
 use crate::commands::options;
 use crate::keeping::perform_noting;
 use crate::tasks::{Explaining, Form, Task};
-use clap::{ArgMatches, Command, arg};
+use clap::{ArgMatches, Command};
 use console::{Draw, Explain, Find};
 use engine::{Folder, Inputs, Status, Telling};
 use std::alloc::{AllocError, Global};
@@ -59,12 +59,28 @@ pub fn arguments<'a>(alloc: Global) -> Result<Command<'a>, AllocError> {
             "Says what is known at each instruction of a manifest's programs, and what to do about refusals",
         )
         .after_help(HELP)
-        .arg(arg!(in alloc; --graph "Writes the programs as a graph for Graphviz instead"))?
-        .arg(arg!(in alloc; --json "Writes what is wrong as a JSON object a line instead"))?
-        .arg(options::large(alloc))?
-        .arg(options::maps(alloc))?
-        .arg(options::manifest(alloc))?
-        .arg(arg!(in alloc; [NAME] "The name of the only program to explain; by default all"))
+        .args(vec![in alloc;
+            options::flag(
+                alloc,
+                "graph",
+                "Writes the programs as a graph for Graphviz instead"
+            ),
+            options::flag(
+                alloc,
+                "json",
+                "Writes what is wrong as a JSON object a line instead"
+            ),
+            options::large(alloc),
+            options::maps(alloc),
+            options::manifest(alloc),
+            options::word(
+                alloc,
+                "NAME",
+                "NAME",
+                "The name of the only program to explain; by default all"
+            )
+            .required(false),
+        ]?)
 }
 
 /// The task that the command's words ask for.

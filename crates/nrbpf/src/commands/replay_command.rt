@@ -4,7 +4,7 @@ use crate::commands::options;
 use crate::keeping::perform_noting;
 use crate::progress::Screen;
 use crate::tasks::{Asked, Task};
-use clap::{ArgMatches, Command, arg};
+use clap::{ArgMatches, Command};
 use engine::{Folder, Inputs, Status, StoreWatcher};
 use realtime::ReplayTimed;
 use replaying::Replay;
@@ -68,15 +68,25 @@ pub fn arguments<'a>(alloc: Global) -> Result<Command<'a>, AllocError> {
     Command::new(alloc, "replay")
         .about("Runs the calls of a transcript again, and compares the replies")
         .after_help(HELP)
-        .arg(options::spare(alloc))?
-        .arg(options::large(alloc))?
-        .arg(options::load(alloc))?
-        .arg(arg!(in alloc; --history <FILE>
-            "The path of the times of the calls; they are judged too"))?
-        .arg(arg!(in alloc; --explain
-            "Says on standard error what a line that differs should have"))?
-        .arg(options::manifest(alloc))?
-        .arg(arg!(in alloc; FILE: <TRANSCRIPT> "The path of the transcript"))
+        .args(vec![in alloc;
+            options::spare(alloc),
+            options::large(alloc),
+            options::load(alloc),
+            options::option(
+                alloc,
+                "history",
+                "history",
+                "FILE",
+                "The path of the times of the calls; they are judged too"
+            ),
+            options::flag(
+                alloc,
+                "explain",
+                "Says on standard error what a line that differs should have"
+            ),
+            options::manifest(alloc),
+            options::word(alloc, "FILE", "TRANSCRIPT", "The path of the transcript"),
+        ]?)
 }
 
 /// The task that the command's words ask for.

@@ -5,7 +5,7 @@ use crate::keeping::{destination_of, elsewhere};
 use crate::output::{Target, no_memory, put_after};
 use crate::progress::Screen;
 use crate::tasks::{Asked, Running, Task};
-use clap::{ArgMatches, Command, arg};
+use clap::{ArgMatches, Command};
 use engine::{Folder, Inputs, Notes, Performed, Sink, Source, Status, StoreWatcher, perform_kept};
 use running::{CalledRun, DumpedRun, Run};
 use std::alloc::{AllocError, Global};
@@ -80,13 +80,19 @@ pub fn arguments<'a>(alloc: Global) -> Result<Command<'a>, AllocError> {
     Command::new(alloc, "run")
         .about("Runs a script of calls on the programs of a manifest")
         .after_help(HELP)
-        .arg(options::large(alloc))?
-        .arg(options::load(alloc))?
-        .arg(options::dump(alloc))?
-        .arg(options::calls(alloc))?
-        .arg(arg!(in alloc; --signed "Writes a negative reply also as a signed number"))?
-        .arg(options::manifest(alloc))?
-        .arg(options::script(alloc))
+        .args(vec![in alloc;
+            options::large(alloc),
+            options::load(alloc),
+            options::dump(alloc),
+            options::calls(alloc),
+            options::flag(
+                alloc,
+                "signed",
+                "Writes a negative reply also as a signed number"
+            ),
+            options::manifest(alloc),
+            options::script(alloc),
+        ]?)
 }
 
 /// The task that the command's words ask for.

@@ -4,7 +4,7 @@ use crate::commands::options;
 use crate::keeping::perform_noting;
 use crate::progress::Screen;
 use crate::tasks::{Asked, Task, config_of};
-use clap::{ArgMatches, Command, arg};
+use clap::{ArgMatches, Command};
 use engine::{Folder, Inputs, Status, StoreWatcher};
 use oplog::Config;
 use scheduling::Schedule;
@@ -78,14 +78,21 @@ pub fn arguments<'a>(alloc: Global) -> Result<Command<'a>, AllocError> {
     let command = Command::new(alloc, "schedule")
         .about("Takes a list of steps on a store of several nodes")
         .after_help(HELP);
-    options::sized(alloc, command)?
-        .arg(options::large(alloc))?
-        .arg(arg!(in alloc; --explain "Says on standard error why steps may not be taken now"))?
-        .arg(
-            arg!(in alloc; --lanes "Draws the steps on standard error, with a lane for each node"),
-        )?
-        .arg(options::manifest(alloc))?
-        .arg(arg!(in alloc; FILE: <STEPS> "The path of the steps"))
+    options::sized(alloc, command)?.args(vec![in alloc;
+        options::large(alloc),
+        options::flag(
+            alloc,
+            "explain",
+            "Says on standard error why steps may not be taken now"
+        ),
+        options::flag(
+            alloc,
+            "lanes",
+            "Draws the steps on standard error, with a lane for each node"
+        ),
+        options::manifest(alloc),
+        options::word(alloc, "FILE", "STEPS", "The path of the steps"),
+    ]?)
 }
 
 /// The task that the command's words ask for.

@@ -60,12 +60,14 @@ pub fn arguments<'a>(alloc: Global) -> Result<Command<'a>, AllocError> {
     Command::new(alloc, "serve")
         .about("Answers the lines of a script while they arrive on standard input")
         .after_help(HELP)
-        .arg(options::spare(alloc))?
-        .arg(options::calls(alloc))?
-        .arg(options::large(alloc))?
-        .arg(options::load(alloc))?
-        .arg(options::dump(alloc))?
-        .arg(options::manifest(alloc))
+        .args(vec![in alloc;
+            options::spare(alloc),
+            options::calls(alloc),
+            options::large(alloc),
+            options::load(alloc),
+            options::dump(alloc),
+            options::manifest(alloc),
+        ]?)
 }
 
 /// The task that the command's words ask for.

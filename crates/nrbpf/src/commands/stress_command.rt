@@ -5,7 +5,7 @@ use crate::keeping::destination_of;
 use crate::output::{Target, no_memory, put_after, put_state};
 use crate::progress::Screen;
 use crate::tasks::{Asked, Call, Stressing, Task, config_of};
-use clap::{ArgMatches, Command, arg};
+use clap::{ArgMatches, Command};
 use engine::{Destination, Folder, Inputs, Performed, Status, StoreWatcher};
 use std::alloc::{AllocError, Global};
 use std::io::{Eprint, Read, Write};
@@ -64,22 +64,31 @@ pub fn arguments<'a>(alloc: Global) -> Result<Command<'a>, AllocError> {
     let command = Command::new(alloc, "stress")
         .about("Makes the calls of a script on several threads, and writes a transcript")
         .after_help(HELP);
-    options::sized(alloc, command)?
-        .arg(options::large(alloc))?
-        .arg(options::load(alloc))?
-        .arg(options::dump(alloc))?
-        .arg(arg!(in alloc; times: --history <FILE>
-            "The path of the file for the times of the calls"))?
-        .arg(options::number(
+    options::sized(alloc, command)?.args(vec![in alloc;
+        options::large(alloc),
+        options::load(alloc),
+        options::dump(alloc),
+        options::option(
+            alloc,
+            "times",
+            "history",
+            "FILE",
+            "The path of the file for the times of the calls"
+        ),
+        options::number(
             alloc,
             "pipeline",
             "1",
             "Sessions of a node that share a thread; must divide --slots",
-        ))?
-        .arg(arg!(in alloc; --stats
-            "Says on standard error how many calls there were, how long they took, and how large the batches"))?
-        .arg(options::manifest(alloc))?
-        .arg(options::script(alloc))
+        ),
+        options::flag(
+            alloc,
+            "stats",
+            "Says on standard error how many calls there were, how long they took, and how large the batches"
+        ),
+        options::manifest(alloc),
+        options::script(alloc),
+    ]?)
 }
 
 /// The task that the command's words ask for.
