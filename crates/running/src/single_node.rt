@@ -3,10 +3,13 @@
 ghost use Rattle.std.specs.Prelude.{◌≡◌, ◌<◌, ◌≤◌, [], true, length, Some, IfOk, IfSome, IfNone};
 ghost use Rattle.maps.specs.MapSets.{maps_of};
 ghost use Rattle.verifier.specs.declared.refusal.Mode.TheVariants.{Update, Read};
-ghost use Rattle.loader.specs.CatalogueView.{OpensOn};
+ghost use Rattle.loader.specs.CatalogueView.{IsCatalogue, OpensOn, longest_part, opening_state};
+ghost use Rattle.loader.specs.Installed.{no_programs};
 ghost use Rattle.loader.specs.StoreState.{installed_in};
 ghost use Rattle.oplog.specs.Limits.{IsLimit};
-ghost use Rattle.oplog.specs.Logs.{tail_of, room_in};
+ghost use Rattle.oplog.specs.Lists.{new_list};
+ghost use Rattle.oplog.specs.Logs.{tail_of, room_in, opened_hand, opened_log};
+ghost use Rattle.oplog.specs.declared.configuration.TheConstants.{MAX_WINDOW};
 ghost use Rattle.oplog.specs.declared.records.Op.TheVariants.{Install};
 ghost use Rattle.replica.specs.StoreMeaning.{call_of, run_of, ran_to, is_operation};
 ghost use Rattle.replica.specs.Refusals.{install_refusal, IsRefusedAs};
@@ -36,6 +39,51 @@ pub struct SingleNode {
     next: RecordList,
 }
 
+// The log of a run, on what a catalogue opens on.
+fn open_log(
+    alloc: Global,
+    catalogue: &Catalogue,
+    opening: Option<&StoreState>,
+    limit: usize,
+) -> Result<LogState, AllocError>
+    requires opens { OpensOn catalogue.now opening }
+    requires limit { IsLimit limit }
+    ensures opened { IfOk result (λ g. g ≡ opened_log (opening_state catalogue.now) MAX_WINDOW (longest_part catalogue.now) limit) }
+{
+    let base = StoreState::opening(alloc, catalogue, opening)?;
+    let room = LogRoom {
+        window: MAX_WINDOW,
+        long: catalogue.longest_part(),
+    };
+    LogState::open(alloc, base, room, limit)
+}
+
+// The replica of a run, on what a catalogue opens on.
+fn open_replica(
+    alloc: Global,
+    catalogue: &Catalogue,
+    opening: Option<&StoreState>,
+) -> Result<NodeReplica, AllocError>
+    requires opens { OpensOn catalogue.now opening }
+    ensures replica { IfOk result (λ o. o.replica ≡ record { tail = 0; state = opening_state catalogue.now }) }
+    ensures hand { IfOk result (λ o. o.hand ≡ opened_hand MAX_WINDOW (longest_part catalogue.now)) }
+{
+    let hand = Hand::open(alloc, MAX_WINDOW, catalogue.longest_part())?;
+    let replica = Replica::open(StoreState::opening(alloc, catalogue, opening)?);
+    Ok(NodeReplica { replica, hand })
+}
+
+// The room for a program that is installed, and for the next record.
+fn open_rooms(alloc: Global, catalogue: &Catalogue) -> Result<(Installed, RecordList), AllocError>
+    ensures room { IfOk result (λ r. r.0 ≡ no_programs catalogue.now.shapes 1 catalogue.now.long) }
+    ensures whole { IfOk result (λ r. IsCatalogue catalogue.now) }
+    ensures next { IfOk result (λ r. r.1 ≡ new_list 1 (longest_part catalogue.now)) }
+{
+    let room = Installed::open(alloc, catalogue.shapes(), 1, catalogue.long())?;
+    let next = RecordList::open(alloc, 1, catalogue.longest_part())?;
+    Ok((room, next))
+}
+
 impl SingleNode {
     /// Takes all room that a run needs, on a copy of the state that is handed in, or on a new one. Its history may have up to `limit` updates.
     pub fn open(
@@ -49,19 +97,10 @@ impl SingleNode {
         ensures steady { IfOk result (λ n. IsSteady catalogue.now n) }
         ensures empty { IfOk result (λ n. Follows limit catalogue.now [] n) }
     {
-        let base = StoreState::opening(alloc, catalogue, opening)?;
-        let long = catalogue.longest_part();
-        let room = LogRoom {
-            window: MAX_WINDOW,
-            long,
-        };
-        let log = LogState::open(alloc, base, room, limit)?;
-        let hand = Hand::open(alloc, MAX_WINDOW, long)?;
-        let replica = Replica::open(StoreState::opening(alloc, catalogue, opening)?);
-        let own = NodeReplica { replica, hand };
+        let log = open_log(alloc, catalogue, opening, limit)?;
+        let own = open_replica(alloc, catalogue, opening)?;
         let replies = Replies::new(0, 0);
-        let room = Installed::open(alloc, catalogue.shapes(), 1, catalogue.long())?;
-        let next = RecordList::open(alloc, 1, long)?;
+        let (room, next) = open_rooms(alloc, catalogue)?;
         Ok(SingleNode {
             log,
             own,

@@ -1,11 +1,11 @@
 // A node, and its part of each step.
 
 ghost use Rattle.std.specs.Prelude.{◌≡◌, ◌↔◌, IsTrue, ◌+◌, ◌≤◌, ◌<◌, ◌^◌, true, false, length, Some, None, IfOk, replicate, slice_get, option_map, ◌≢◌};
-ghost use Rattle.loader.specs.CatalogueView.{OpensOn, sizes_for};
+ghost use Rattle.loader.specs.CatalogueView.{OpensOn, longest_part, opening_state, sizes_for};
 ghost use Rattle.loader.specs.StoreState.{sizes_of};
 ghost use Rattle.oplog.specs.declared.configuration.TheConstants.{MAX_NODES};
 ghost use Rattle.oplog.specs.Limits.{AreSizes};
-ghost use Rattle.oplog.specs.Logs.{Log};
+ghost use Rattle.oplog.specs.Logs.{Log, opened_hand};
 ghost use Rattle.oplog.specs.declared.records.Op.TheVariants.{Run};
 ghost use Rattle.replica.specs.StoreMeaning.{store_meaning};
 ghost use Rattle.replica.specs.Refusals.{IsRoomFor, IsRefusedAs, early_refusal, install_refusal};
@@ -96,6 +96,26 @@ fn no_reads(alloc: Global, count: usize) -> Result<Vec<ReadRoom>, AllocError>
     Ok(reads)
 }
 
+// The replica of a node of a new store, which opens on this state, if any is handed in.
+fn open_own(
+    alloc: Global,
+    opening: &Opening,
+    state: Option<&StoreState>,
+) -> Result<NodeReplica, AllocError>
+    requires config { AreSizes opening.now.config }
+    requires opens { OpensOn opening.now.catalogue state }
+    ensures replica { IfOk result (λ o. o.replica ≡ record { tail = 0; state = opening_state opening.now.catalogue }) }
+    ensures hand { IfOk result (λ o. o.hand ≡ opened_hand opening.now.config.window (longest_part opening.now.catalogue)) }
+{
+    let (window, long) = (
+        opening.config.window as usize,
+        opening.catalogue.longest_part(),
+    );
+    let hand = Hand::open(alloc, window, long)?;
+    let replica = Replica::open(StoreState::opening(alloc, &opening.catalogue, state)?);
+    Ok(NodeReplica { replica, hand })
+}
+
 impl Node {
     /// A node of a new store, which opens on this state, if any is handed in.
     ///
@@ -114,17 +134,12 @@ impl Node {
         ensures opened { IfOk result (λ node. node ≡ opened_node opening.now number) }
     {
         let slots = opening.config.slots as usize;
-        let replica = Replica::open(StoreState::opening(alloc, &opening.catalogue, state)?);
-        let (window, long) = (
-            opening.config.window as usize,
-            opening.catalogue.longest_part(),
-        );
-        let hand = Hand::open(alloc, window, long)?;
+        let own = open_own(alloc, opening, state)?;
         let desk = Desk::open(alloc, number, slots)?;
         let batch = BatchRoom::open(alloc)?;
         let reads = no_reads(alloc, slots)?;
         Ok(Node {
-            own: NodeReplica { replica, hand },
+            own,
             desk,
             batch,
             reads,

@@ -4,7 +4,7 @@ ghost use Rattle.std.specs.Prelude.{◌≡◌, ◌≢◌, ◌↔◌, ◌<◌, �
 ghost use Rattle.loader.specs.CatalogueView.{IsCatalogue, MayOpenOn, OpensOn, with_long_places, with_places};
 ghost use Rattle.oplog.specs.Limits.{sizes_in, AreSizes, IsConfig};
 ghost use Rattle.oplog.specs.declared.configuration.OpenError.TheVariants.{OtherState, OutOfLimits};
-ghost use Rattle.schedule.specs.Worlds.{opened_node, opened_nodes, opening_of, opening_on};
+ghost use Rattle.schedule.specs.Worlds.{new_log, opened_node, opened_nodes, opening_of, opening_on};
 ghost use Rattle.schedule.specs.Steps.{node_of, took, world_of};
 ghost use Rattle.schedule.specs.Blocking.{blocked, IsTakenUnless};
 ghost use Rattle.schedule.specs.Stands.{Stands};
@@ -63,6 +63,24 @@ fn open_nodes(
         nodes.push_reserved(node);
     }
     Ok(nodes)
+}
+
+// The log of a new store.
+fn open_log(
+    alloc: Global,
+    opening: &Opening,
+    state: Option<&StoreState>,
+) -> Result<LogState, AllocError>
+    requires config { AreSizes opening.now.config }
+    requires opens { OpensOn opening.now.catalogue state }
+    ensures log { IfOk result (λ g. g ≡ new_log opening.now) }
+{
+    let base = StoreState::opening(alloc, &opening.catalogue, state)?;
+    let room = LogRoom {
+        window: opening.config.window as usize,
+        long: opening.catalogue.longest_part(),
+    };
+    LogState::open(alloc, base, room, opening.config.limit as usize)
 }
 
 impl World {
@@ -176,16 +194,7 @@ impl World {
         ensures opened { IfOk result (λ w. w ≡ opened_store opening) }
         ensures stands { IfOk result (λ w. Stands w.opening w.world [] [] []) }
     {
-        let base = StoreState::opening(alloc, &opening.catalogue, state)?;
-        let log = LogState::open(
-            alloc,
-            base,
-            LogRoom {
-                window: opening.config.window as usize,
-                long: opening.catalogue.longest_part(),
-            },
-            opening.config.limit as usize,
-        )?;
+        let log = open_log(alloc, &opening, state)?;
         let room = Installed::open(
             alloc,
             opening.catalogue.shapes(),

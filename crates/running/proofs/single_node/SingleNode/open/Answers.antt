@@ -4,4 +4,4 @@ use Rattle.running.proofs.single_node.SingleNode.open.Goals as goal
 
 pub returns-clause-steady : goal.returns-clause-steady
 returns-clause-steady c =
-    steady_at c.args.catalogue.now c.shapes.ensures.whole _ _ _ _ _ _ c.args.limit (search rules) (search rules) (search rules) (search rules) (search rules)
+    steady_at c.args.catalogue.now (search rules) _ _ _ _ _ _ c.args.limit (search rules) (search rules) (search rules) (search rules) (search rules)
