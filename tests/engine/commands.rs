@@ -1,5 +1,5 @@
 //! How a command ends. What the commands answer to texts is in tests/rows, and where reads and writes fail in
-//! crates/test_growths.
+//! tests/growths.
 
 use engine::Status;
 
