@@ -4,7 +4,7 @@
 # make quick      what needs no proof: rows, programs in C, documents, hosts and packages, in five minutes
 # make test       the whole test suite, which proves and builds them too; make check is the same
 # make fmt        lays out the sources: crates, tests, and the prose of the documents
-# make docs       writes the documents anew that scripts write: manual page, completion, pictures, plots, CLAUSES, BELIEVED, LINES. The program must be built
+# make docs       writes the documents anew that scripts write: manual page, completion, pictures, plots, CLAUSES, BELIEVED, LINES, crates/README. The program must be built
 # make install    puts what is built below PREFIX, and builds nothing; DESTDIR is put before every path, as packages want it
 # make uninstall  takes it away
 # make dist       a tarball of the sources in out/, of the same bytes each time
@@ -68,6 +68,7 @@ docs: is-runnable
 	.ci/believed
 	.ci/promises
 	.ci/lines
+	.ci/crates
 
 is-runnable:
 	@test -n "$$NRBPF_PROGRAM" || test "$$(./nrbpf --which)" = "proved $(CURDIR)/$(program)" || { echo 'make: the program is not proved and built of these sources yet: ./nrbpf --prove' >&2; exit 1; }
