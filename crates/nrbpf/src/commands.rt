@@ -1,4 +1,4 @@
-// The commands. Each has a file with its options and help, the task that its words ask for, and what it does.
+// The commands. Each has a file with its usage, the task that its words ask for, and what it does.
 
 mod asm_command;
 mod check_command;
@@ -17,6 +17,7 @@ use crate::progress::Screen;
 use crate::tasks::{Asked, Call, Task};
 use clap::{ArgMatches, Command};
 use engine::{Folder, Inputs, Status, StoreWatcher};
+use options::{Usage, command_of};
 use std::alloc::{AllocError, Global};
 use std::io::{Input, Read, Write};
 use std::rt::Files;
@@ -24,57 +25,25 @@ use std::sync::Wait;
 use std::thread::Threads;
 
 // The commands, in the help's order.
-#[derive(Clone, Copy)]
-enum Name {
-    Check,
-    Explain,
-    Asm,
-    Dis,
-    Encode,
-    Decode,
-    Run,
-    Serve,
-    Replay,
-    Schedule,
-    Stress,
-}
-
-const NAMES: [Name; 11] = [
-    Name::Check,
-    Name::Explain,
-    Name::Asm,
-    Name::Dis,
-    Name::Encode,
-    Name::Decode,
-    Name::Run,
-    Name::Serve,
-    Name::Replay,
-    Name::Schedule,
-    Name::Stress,
+const COMMANDS: [Usage; 11] = [
+    check_command::USAGE,
+    explain_command::USAGE,
+    asm_command::USAGE,
+    dis_command::USAGE,
+    encode_command::USAGE,
+    decode_command::USAGE,
+    run_command::USAGE,
+    serve_command::USAGE,
+    replay_command::USAGE,
+    schedule_command::USAGE,
+    stress_command::USAGE,
 ];
-
-// The options and arguments of a command.
-fn arguments_of<'a>(alloc: Global, name: Name) -> Result<Command<'a>, AllocError> {
-    match name {
-        Name::Check => check_command::arguments(alloc),
-        Name::Explain => explain_command::arguments(alloc),
-        Name::Asm => asm_command::arguments(alloc),
-        Name::Dis => dis_command::arguments(alloc),
-        Name::Encode => encode_command::arguments(alloc),
-        Name::Decode => decode_command::arguments(alloc),
-        Name::Run => run_command::arguments(alloc),
-        Name::Serve => serve_command::arguments(alloc),
-        Name::Replay => replay_command::arguments(alloc),
-        Name::Schedule => schedule_command::arguments(alloc),
-        Name::Stress => stress_command::arguments(alloc),
-    }
-}
 
 /// Adds the commands to the program's line.
 pub fn add_all<'a>(alloc: Global, program: Command<'a>) -> Result<Command<'a>, AllocError> {
     let mut program = program;
-    for name in NAMES {
-        program = program.subcommand(arguments_of(alloc, name)?)?;
+    for usage in &COMMANDS {
+        program = program.subcommand(command_of(alloc, usage)?)?;
     }
     Ok(program)
 }

@@ -1,14 +1,13 @@
 // The command `asm`.
 
-use crate::commands::options;
+use crate::commands::options::{Argument, Spelling, Usage};
 use crate::keeping::{destination_of, elsewhere};
 use crate::output::{Target, no_memory, put_after, say_text};
 use crate::progress::Screen;
 use crate::tasks::{Call, Task};
-use clap::{ArgMatches, Command};
+use clap::ArgMatches;
 use console::Assemble;
 use engine::{Destination, Folder, Inputs, Notes, Performed, Sink, Source, Status, perform_kept};
-use std::alloc::{AllocError, Global};
 use std::rt::Files;
 
 // The help's text after the arguments.
@@ -59,28 +58,29 @@ Refusals:
 Exit statuses: 0 all is well; 2 the words of the command line are wrong; 3 refused; 4 `no memory`;
 5 `cannot read` or `cannot write`, on standard error.";
 
-/// The command's options, arguments and help.
-pub fn arguments<'a>(alloc: Global) -> Result<Command<'a>, AllocError> {
-    Command::new(alloc, "asm")
-        .about("Assembles a program file from text")
-        .after_help(HELP)
-        .args(vec![in alloc;
-            options::option(
-                alloc,
-                "output",
-                "output",
-                "OUT",
-                "The path of the program file to write, instead of standard output"
-            )
-            .short('o'),
-            options::flag(
-                alloc,
-                "explain",
-                "Says on standard error what is wanted in a refused text, and where"
-            ),
-            options::word(alloc, "FILE", "FILE", "The path of the assembler text"),
-        ]?)
-}
+/// The command's options, words and help.
+pub const USAGE: Usage = Usage {
+    name: "asm",
+    about: "Assembles a program file from text",
+    arguments: &[
+        Argument {
+            id: "output",
+            spelling: Spelling::Lettered('o', "output", "OUT"),
+            help: "The path of the program file to write, instead of standard output",
+        },
+        Argument {
+            id: "explain",
+            spelling: Spelling::Flag("explain"),
+            help: "Says on standard error what is wanted in a refused text, and where",
+        },
+        Argument {
+            id: "FILE",
+            spelling: Spelling::Word("FILE"),
+            help: "The path of the assembler text",
+        },
+    ],
+    help: HELP,
+};
 
 /// The task that the command's words ask for.
 pub fn task<'a>(_matches: &ArgMatches<'a>) -> Option<Task<'a>> {

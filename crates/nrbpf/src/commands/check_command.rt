@@ -1,12 +1,11 @@
 // The command `check`.
 
-use crate::commands::options;
+use crate::commands::options::{self, Usage};
 use crate::keeping::perform_noting;
 use crate::tasks::Task;
-use clap::{ArgMatches, Command};
+use clap::ArgMatches;
 use console::{Check, CheckMaps};
 use engine::{Folder, Inputs, Status, Telling};
-use std::alloc::{AllocError, Global};
 use std::io::{Eprint, Read, Write};
 
 // The help's text after the arguments.
@@ -47,17 +46,13 @@ Refusals, which `nrbpf explain` explains:
 Exit statuses: 0 all is well; 2 the words of the command line are wrong; 3 refused; 4 `no memory`;
 5 `cannot read` or `cannot write`, on standard error.";
 
-/// The command's options, arguments and help.
-pub fn arguments<'a>(alloc: Global) -> Result<Command<'a>, AllocError> {
-    Command::new(alloc, "check")
-        .about("Checks that the programs of a manifest are safe to run")
-        .after_help(HELP)
-        .args(vec![in alloc;
-            options::large(alloc),
-            options::maps(alloc),
-            options::manifest(alloc),
-        ]?)
-}
+/// The command's options, words and help.
+pub const USAGE: Usage = Usage {
+    name: "check",
+    about: "Checks that the programs of a manifest are safe to run",
+    arguments: &[options::LARGE, options::MAPS, options::MANIFEST],
+    help: HELP,
+};
 
 /// The task that the command's words ask for.
 pub fn task<'a>(matches: &ArgMatches<'a>) -> Option<Task<'a>> {

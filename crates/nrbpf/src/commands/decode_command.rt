@@ -1,12 +1,11 @@
 // The command `decode`.
 
-use crate::commands::options;
+use crate::commands::options::{Argument, Spelling, Usage};
 use crate::keeping::perform_noting;
 use crate::tasks::Task;
-use clap::{ArgMatches, Command};
+use clap::ArgMatches;
 use console::Decode;
 use engine::{Folder, Inputs, Status, Telling};
-use std::alloc::{AllocError, Global};
 use std::io::{Eprint, Read, Write};
 
 // The help's text after the arguments.
@@ -43,16 +42,24 @@ Refusals:
 Exit statuses: 0 all is well; 2 the words of the command line are wrong; 3 refused; 4 `no memory`;
 5 `cannot read` or `cannot write`, on standard error.";
 
-/// The command's options, arguments and help.
-pub fn arguments<'a>(alloc: Global) -> Result<Command<'a>, AllocError> {
-    Command::new(alloc, "decode")
-        .about("Writes the entries of a state as the numbers that a layout names")
-        .after_help(HELP)
-        .args(vec![in alloc;
-            options::word(alloc, "FILE", "LAYOUT", "The path of the layout"),
-            options::word(alloc, "load", "STATE", "The path of the state"),
-        ]?)
-}
+/// The command's options, words and help.
+pub const USAGE: Usage = Usage {
+    name: "decode",
+    about: "Writes the entries of a state as the numbers that a layout names",
+    arguments: &[
+        Argument {
+            id: "FILE",
+            spelling: Spelling::Word("LAYOUT"),
+            help: "The path of the layout",
+        },
+        Argument {
+            id: "load",
+            spelling: Spelling::Word("STATE"),
+            help: "The path of the state",
+        },
+    ],
+    help: HELP,
+};
 
 /// The task that the command's words ask for.
 pub fn task<'a>(_matches: &ArgMatches<'a>) -> Option<Task<'a>> {

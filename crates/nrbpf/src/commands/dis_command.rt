@@ -1,12 +1,11 @@
 // The command `dis`.
 
-use crate::commands::options;
+use crate::commands::options::{Argument, Spelling, Usage};
 use crate::keeping::perform_noting;
 use crate::tasks::Task;
-use clap::{ArgMatches, Command};
+use clap::ArgMatches;
 use console::Disassemble;
 use engine::{Folder, Inputs, Status, Telling};
-use std::alloc::{AllocError, Global};
 use std::io::{Eprint, Read, Write};
 
 // The help's text after the arguments.
@@ -34,21 +33,24 @@ Refusals:
 Exit statuses: 0 all is well; 2 the words of the command line are wrong; 3 refused; 4 `no memory`;
 5 `cannot read` or `cannot write`, on standard error.";
 
-/// The command's options, arguments and help.
-pub fn arguments<'a>(alloc: Global) -> Result<Command<'a>, AllocError> {
-    Command::new(alloc, "dis")
-        .about("Disassembles a program file into text")
-        .after_help(HELP)
-        .args(vec![in alloc;
-            options::flag(
-                alloc,
-                "slots-and-bytes",
-                "Writes the slot and the bytes of each instruction before its text"
-            )
-            .long("slots"),
-            options::word(alloc, "FILE", "FILE", "The path of the program file"),
-        ]?)
-}
+/// The command's options, words and help.
+pub const USAGE: Usage = Usage {
+    name: "dis",
+    about: "Disassembles a program file into text",
+    arguments: &[
+        Argument {
+            id: "slots-and-bytes",
+            spelling: Spelling::Flag("slots"),
+            help: "Writes the slot and the bytes of each instruction before its text",
+        },
+        Argument {
+            id: "FILE",
+            spelling: Spelling::Word("FILE"),
+            help: "The path of the program file",
+        },
+    ],
+    help: HELP,
+};
 
 /// The task that the command's words ask for.
 pub fn task<'a>(matches: &ArgMatches<'a>) -> Option<Task<'a>> {

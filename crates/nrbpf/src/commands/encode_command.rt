@@ -1,14 +1,13 @@
 // The command `encode`.
 
-use crate::commands::options;
+use crate::commands::options::{Argument, Spelling, Usage};
 use crate::disk::DASH;
 use crate::keeping::elsewhere;
 use crate::output::say_text;
 use crate::tasks::Task;
-use clap::{ArgMatches, Command};
+use clap::ArgMatches;
 use console::Encode;
 use engine::{Folder, Handed, Inputs, Notes, Performed, Sink, Source, Status, perform_kept};
-use std::alloc::{AllocError, Global};
 use std::io::Eprint;
 
 // The help's text after the arguments.
@@ -45,17 +44,17 @@ If the file is not UTF-8, standard output has
 Exit statuses: 0 all is well; 2 the words of the command line are wrong; 3 refused; 4 `no memory`;
 5 `cannot read` or `cannot write`, on standard error.";
 
-/// The command's options, arguments and help.
-pub fn arguments<'a>(alloc: Global) -> Result<Command<'a>, AllocError> {
-    Command::new(alloc, "encode")
-        .about("Writes a script of calls whose arguments are numbers and texts")
-        .after_help(HELP)
-        .arg(
-            options::word(alloc, "FILE", "FILE", "The path of the calls")
-                .required(false)
-                .default_value(DASH),
-        )
-}
+/// The command's options, words and help.
+pub const USAGE: Usage = Usage {
+    name: "encode",
+    about: "Writes a script of calls whose arguments are numbers and texts",
+    arguments: &[Argument {
+        id: "FILE",
+        spelling: Spelling::DefaultWord("FILE", DASH),
+        help: "The path of the calls",
+    }],
+    help: HELP,
+};
 
 /// The task that the command's words ask for.
 pub fn task<'a>(_matches: &ArgMatches<'a>) -> Option<Task<'a>> {

@@ -1,12 +1,11 @@
 // The command `explain`.
 
-use crate::commands::options;
+use crate::commands::options::{self, Argument, Spelling, Usage};
 use crate::keeping::perform_noting;
 use crate::tasks::{Explaining, Form, Task};
-use clap::{ArgMatches, Command};
+use clap::ArgMatches;
 use console::{Draw, Explain, Find};
 use engine::{Folder, Inputs, Status, Telling};
-use std::alloc::{AllocError, Global};
 use std::io::{Eprint, Read, Write};
 
 // The help's text after the arguments.
@@ -52,36 +51,32 @@ With `--large` maps may be as large as `nrbpf check --large` allows. Without it,
 Exit statuses are those of `check`: 0 all is well; 2 the words of the command line are wrong; 3 refused;
 4 `no memory`; 5 `cannot read` or `cannot write`, on standard error.";
 
-/// The command's options, arguments and help.
-pub fn arguments<'a>(alloc: Global) -> Result<Command<'a>, AllocError> {
-    Command::new(alloc, "explain")
-        .about(
-            "Says what is known at each instruction of a manifest's programs, and what to do about refusals",
-        )
-        .after_help(HELP)
-        .args(vec![in alloc;
-            options::flag(
-                alloc,
-                "graph",
-                "Writes the programs as a graph for Graphviz instead"
-            ),
-            options::flag(
-                alloc,
-                "json",
-                "Writes what is wrong as a JSON object a line instead"
-            ),
-            options::large(alloc),
-            options::maps(alloc),
-            options::manifest(alloc),
-            options::word(
-                alloc,
-                "NAME",
-                "NAME",
-                "The name of the only program to explain; by default all"
-            )
-            .required(false),
-        ]?)
-}
+/// The command's options, words and help.
+pub const USAGE: Usage = Usage {
+    name: "explain",
+    about: "Says what is known at each instruction of a manifest's programs, and what to do about refusals",
+    arguments: &[
+        Argument {
+            id: "graph",
+            spelling: Spelling::Flag("graph"),
+            help: "Writes the programs as a graph for Graphviz instead",
+        },
+        Argument {
+            id: "json",
+            spelling: Spelling::Flag("json"),
+            help: "Writes what is wrong as a JSON object a line instead",
+        },
+        options::LARGE,
+        options::MAPS,
+        options::MANIFEST,
+        Argument {
+            id: "NAME",
+            spelling: Spelling::OptionalWord("NAME"),
+            help: "The name of the only program to explain; by default all",
+        },
+    ],
+    help: HELP,
+};
 
 /// The task that the command's words ask for.
 pub fn task<'a>(matches: &ArgMatches<'a>) -> Option<Task<'a>> {

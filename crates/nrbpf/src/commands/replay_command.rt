@@ -1,14 +1,13 @@
 // The command `replay`.
 
-use crate::commands::options;
+use crate::commands::options::{self, Argument, Spelling, Usage};
 use crate::keeping::perform_noting;
 use crate::progress::Screen;
 use crate::tasks::{Asked, Task};
-use clap::{ArgMatches, Command};
+use clap::ArgMatches;
 use engine::{Folder, Inputs, Status, StoreWatcher};
 use realtime::ReplayTimed;
 use replaying::Replay;
-use std::alloc::{AllocError, Global};
 use std::io::{Read, Write};
 
 // The help's text after the arguments.
@@ -63,31 +62,33 @@ With `--explain` standard error says what a line that differs should have, or th
 Exit statuses: 0 all is well; 2 the words of the command line are wrong; 3 refused; 4 `no memory`; 5 `cannot read` or
 `cannot write`, on standard error; 6 `line N differs` or `history line N differs`.";
 
-/// The command's options, arguments and help.
-pub fn arguments<'a>(alloc: Global) -> Result<Command<'a>, AllocError> {
-    Command::new(alloc, "replay")
-        .about("Runs the calls of a transcript again, and compares the replies")
-        .after_help(HELP)
-        .args(vec![in alloc;
-            options::spare(alloc),
-            options::large(alloc),
-            options::load(alloc),
-            options::option(
-                alloc,
-                "history",
-                "history",
-                "FILE",
-                "The path of the times of the calls; they are judged too"
-            ),
-            options::flag(
-                alloc,
-                "explain",
-                "Says on standard error what a line that differs should have"
-            ),
-            options::manifest(alloc),
-            options::word(alloc, "FILE", "TRANSCRIPT", "The path of the transcript"),
-        ]?)
-}
+/// The command's options, words and help.
+pub const USAGE: Usage = Usage {
+    name: "replay",
+    about: "Runs the calls of a transcript again, and compares the replies",
+    arguments: &[
+        options::SPARE,
+        options::LARGE,
+        options::LOAD,
+        Argument {
+            id: "history",
+            spelling: Spelling::Valued("history", "FILE"),
+            help: "The path of the times of the calls; they are judged too",
+        },
+        Argument {
+            id: "explain",
+            spelling: Spelling::Flag("explain"),
+            help: "Says on standard error what a line that differs should have",
+        },
+        options::MANIFEST,
+        Argument {
+            id: "FILE",
+            spelling: Spelling::Word("TRANSCRIPT"),
+            help: "The path of the transcript",
+        },
+    ],
+    help: HELP,
+};
 
 /// The task that the command's words ask for.
 pub fn task<'a>(matches: &ArgMatches<'a>) -> Option<Task<'a>> {

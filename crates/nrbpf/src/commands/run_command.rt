@@ -1,14 +1,13 @@
 // The command `run`.
 
-use crate::commands::options;
+use crate::commands::options::{self, Argument, Spelling, Usage};
 use crate::keeping::{destination_of, elsewhere};
 use crate::output::{Target, no_memory, put_after};
 use crate::progress::Screen;
 use crate::tasks::{Asked, Running, Task};
-use clap::{ArgMatches, Command};
+use clap::ArgMatches;
 use engine::{Folder, Inputs, Notes, Performed, Sink, Source, Status, StoreWatcher, perform_kept};
 use running::{CalledRun, DumpedRun, Run};
-use std::alloc::{AllocError, Global};
 use std::rt::Files;
 
 // The help's text after the arguments.
@@ -75,25 +74,25 @@ Refusals, which end the run:
 Exit statuses: 0 all is well; 2 the words of the command line are wrong; 3 refused; 4 `no memory`;
 5 `cannot read` or `cannot write`, on standard error.";
 
-/// The command's options, arguments and help.
-pub fn arguments<'a>(alloc: Global) -> Result<Command<'a>, AllocError> {
-    Command::new(alloc, "run")
-        .about("Runs a script of calls on the programs of a manifest")
-        .after_help(HELP)
-        .args(vec![in alloc;
-            options::large(alloc),
-            options::load(alloc),
-            options::dump(alloc),
-            options::calls(alloc),
-            options::flag(
-                alloc,
-                "signed",
-                "Writes a negative reply also as a signed number"
-            ),
-            options::manifest(alloc),
-            options::script(alloc),
-        ]?)
-}
+/// The command's options, words and help.
+pub const USAGE: Usage = Usage {
+    name: "run",
+    about: "Runs a script of calls on the programs of a manifest",
+    arguments: &[
+        options::LARGE,
+        options::LOAD,
+        options::DUMP,
+        options::CALLS,
+        Argument {
+            id: "signed",
+            spelling: Spelling::Flag("signed"),
+            help: "Writes a negative reply also as a signed number",
+        },
+        options::MANIFEST,
+        options::SCRIPT,
+    ],
+    help: HELP,
+};
 
 /// The task that the command's words ask for.
 pub fn task<'a>(matches: &ArgMatches<'a>) -> Option<Task<'a>> {

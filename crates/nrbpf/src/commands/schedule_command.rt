@@ -1,14 +1,13 @@
 // The command `schedule`.
 
-use crate::commands::options;
+use crate::commands::options::{self, Argument, Spelling, Usage};
 use crate::keeping::perform_noting;
 use crate::progress::Screen;
 use crate::tasks::{Asked, Task, config_of};
-use clap::{ArgMatches, Command};
+use clap::ArgMatches;
 use engine::{Folder, Inputs, Status, StoreWatcher};
 use oplog::Config;
 use scheduling::Schedule;
-use std::alloc::{AllocError, Global};
 use std::io::{Read, Write};
 
 // The help's text after the arguments.
@@ -73,27 +72,36 @@ Refusals:
 Exit statuses: 0 all is well; 2 the words of the command line are wrong; 3 refused; 4 `no memory`;
 5 `cannot read` or `cannot write`, on standard error.";
 
-/// The command's options, arguments and help.
-pub fn arguments<'a>(alloc: Global) -> Result<Command<'a>, AllocError> {
-    let command = Command::new(alloc, "schedule")
-        .about("Takes a list of steps on a store of several nodes")
-        .after_help(HELP);
-    options::sized(alloc, command)?.args(vec![in alloc;
-        options::large(alloc),
-        options::flag(
-            alloc,
-            "explain",
-            "Says on standard error why steps may not be taken now"
-        ),
-        options::flag(
-            alloc,
-            "lanes",
-            "Draws the steps on standard error, with a lane for each node"
-        ),
-        options::manifest(alloc),
-        options::word(alloc, "FILE", "STEPS", "The path of the steps"),
-    ]?)
-}
+/// The command's options, words and help.
+pub const USAGE: Usage = Usage {
+    name: "schedule",
+    about: "Takes a list of steps on a store of several nodes",
+    arguments: &[
+        options::NODES,
+        options::SLOTS,
+        options::WINDOW,
+        options::LIMIT,
+        options::SPARE,
+        options::LARGE,
+        Argument {
+            id: "explain",
+            spelling: Spelling::Flag("explain"),
+            help: "Says on standard error why steps may not be taken now",
+        },
+        Argument {
+            id: "lanes",
+            spelling: Spelling::Flag("lanes"),
+            help: "Draws the steps on standard error, with a lane for each node",
+        },
+        options::MANIFEST,
+        Argument {
+            id: "FILE",
+            spelling: Spelling::Word("STEPS"),
+            help: "The path of the steps",
+        },
+    ],
+    help: HELP,
+};
 
 /// The task that the command's words ask for.
 pub fn task<'a>(matches: &ArgMatches<'a>) -> Option<Task<'a>> {

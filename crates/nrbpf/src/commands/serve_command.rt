@@ -1,18 +1,18 @@
 // The command `serve`.
 
-use crate::commands::options;
+use crate::commands::options::{self, Usage};
 use crate::disk::LateFile;
 use crate::keeping::destination_of;
 use crate::output::{Target, no_memory, put_after};
 use crate::progress::Screen;
 use crate::tasks::{Asked, Task};
-use clap::{ArgMatches, Command};
+use clap::ArgMatches;
 use dumps::StateText;
 use engine::{Destination, Folder, Handed, Inputs, Sink, Source, Status, StoreWatcher};
 use loader::StoreState;
 use running::dump_to;
 use serving::{ServeEnd, ServeOptions, Server};
-use std::alloc::{AllocError, Global};
+use std::alloc::Global;
 use std::io::Input;
 use std::rt::Files;
 
@@ -55,20 +55,20 @@ Refusals, before any line is read:
 Exit statuses: 0 standard input has ended; 2 the words of the command line are wrong; 3 refused; 4 `no memory`, after
 the answers so far; 5 `cannot read` or `cannot write`, on standard error.";
 
-/// The command's options, arguments and help.
-pub fn arguments<'a>(alloc: Global) -> Result<Command<'a>, AllocError> {
-    Command::new(alloc, "serve")
-        .about("Answers the lines of a script while they arrive on standard input")
-        .after_help(HELP)
-        .args(vec![in alloc;
-            options::spare(alloc),
-            options::calls(alloc),
-            options::large(alloc),
-            options::load(alloc),
-            options::dump(alloc),
-            options::manifest(alloc),
-        ]?)
-}
+/// The command's options, words and help.
+pub const USAGE: Usage = Usage {
+    name: "serve",
+    about: "Answers the lines of a script while they arrive on standard input",
+    arguments: &[
+        options::SPARE,
+        options::CALLS,
+        options::LARGE,
+        options::LOAD,
+        options::DUMP,
+        options::MANIFEST,
+    ],
+    help: HELP,
+};
 
 /// The task that the command's words ask for.
 pub fn task<'a>(matches: &ArgMatches<'a>) -> Option<Task<'a>> {

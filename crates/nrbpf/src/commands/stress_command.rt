@@ -1,13 +1,12 @@
 // The command `stress`.
 
-use crate::commands::options;
+use crate::commands::options::{self, Argument, Spelling, Usage};
 use crate::keeping::destination_of;
 use crate::output::{Target, no_memory, put_after, put_state};
 use crate::progress::Screen;
 use crate::tasks::{Asked, Call, Stressing, Task, config_of};
-use clap::{ArgMatches, Command};
+use clap::ArgMatches;
 use engine::{Destination, Folder, Inputs, Performed, Status, StoreWatcher};
-use std::alloc::{AllocError, Global};
 use std::io::{Eprint, Read, Write};
 use std::rt::Files;
 use std::sync::Wait;
@@ -59,37 +58,39 @@ Refusals, before any thread starts:
 Exit statuses: 0 all is well; 2 the words of the command line are wrong; 3 refused; 4 `no memory`;
 5 `cannot read` or `cannot write`, on standard error.";
 
-/// The command's options, arguments and help.
-pub fn arguments<'a>(alloc: Global) -> Result<Command<'a>, AllocError> {
-    let command = Command::new(alloc, "stress")
-        .about("Makes the calls of a script on several threads, and writes a transcript")
-        .after_help(HELP);
-    options::sized(alloc, command)?.args(vec![in alloc;
-        options::large(alloc),
-        options::load(alloc),
-        options::dump(alloc),
-        options::option(
-            alloc,
-            "times",
-            "history",
-            "FILE",
-            "The path of the file for the times of the calls"
-        ),
-        options::number(
-            alloc,
-            "pipeline",
-            "1",
-            "Sessions of a node that share a thread; must divide --slots",
-        ),
-        options::flag(
-            alloc,
-            "stats",
-            "Says on standard error how many calls there were, how long they took, and how large the batches"
-        ),
-        options::manifest(alloc),
-        options::script(alloc),
-    ]?)
-}
+/// The command's options, words and help.
+pub const USAGE: Usage = Usage {
+    name: "stress",
+    about: "Makes the calls of a script on several threads, and writes a transcript",
+    arguments: &[
+        options::NODES,
+        options::SLOTS,
+        options::WINDOW,
+        options::LIMIT,
+        options::SPARE,
+        options::LARGE,
+        options::LOAD,
+        options::DUMP,
+        Argument {
+            id: "times",
+            spelling: Spelling::Valued("history", "FILE"),
+            help: "The path of the file for the times of the calls",
+        },
+        Argument {
+            id: "pipeline",
+            spelling: Spelling::Number("pipeline", "1"),
+            help: "Sessions of a node that share a thread; must divide --slots",
+        },
+        Argument {
+            id: "stats",
+            spelling: Spelling::Flag("stats"),
+            help: "Says on standard error how many calls there were, how long they took, and how large the batches",
+        },
+        options::MANIFEST,
+        options::SCRIPT,
+    ],
+    help: HELP,
+};
 
 /// The task that the command's words ask for.
 pub fn task<'a>(matches: &ArgMatches<'a>) -> Option<Task<'a>> {
