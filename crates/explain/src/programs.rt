@@ -341,14 +341,19 @@ pub(crate) fn written(form: Form) -> Option<u8> {
 // The register that is copied whole, if one is.
 fn copied(form: Form) -> Option<u8> {
     match form {
-        Form::Alu { w64, op, src, .. } if w64 && op == Mov => register_of(src),
+        Form::Alu {
+            w64: true,
+            op: Mov,
+            src,
+            ..
+        } => register_of(src),
         _ => None,
     }
 }
 
 // Whether a branch is a test for null, as far as that is no matter of its width.
 pub(crate) fn is_null_test(cond: Condition, src: Source) -> bool {
-    matches!(cond, Condition::Jeq | Condition::Jne) && src == Source::Imm(0)
+    matches!(cond, Condition::Jeq | Condition::Jne) && matches!(src, Source::Imm(0))
 }
 
 // The register that is tested for null, if one is.
