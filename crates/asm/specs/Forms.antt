@@ -5,6 +5,7 @@ use Rattle.std.specs.Ordering.{int_eq}
 use Rattle.insn.specs.declared.instruction.Source.{Source}
 use Rattle.insn.specs.declared.instruction.Source.TheVariants as sources
 use Rattle.insn.specs.declared.instruction.Operation.{Operation}
+use Rattle.insn.specs.declared.instruction.Order.{Order}
 use Rattle.insn.specs.declared.instruction.Size.{Size}
 use Rattle.insn.specs.declared.instruction.Condition.{Condition}
 use Rattle.insn.specs.declared.instruction.Form.{Form}
@@ -48,12 +49,18 @@ alu_of w64 op o = do
   src ← source_form written
   Ok (forms.Alu w64 op dst src)
 
+abbrev pub neg_of : Bool → Parts → Result Form AsmFault
+neg_of w64 o = register_of o.first >>= (λ dst. Ok (forms.Neg w64 dst))
+
 unfoldable pub movsx_of : Bool → Parts → Result Form AsmFault
 movsx_of w64 o = do
   dst ← register_of o.first
   src ← register_of o.second
   bits ← number_of o.third
   if int_eq bits (pos 8) || int_eq bits (pos 16) || (w64 && int_eq bits (pos 32)) then Ok (forms.MovSx w64 (unsigned_abs bits) dst src) else Err OutOfRange
+
+abbrev pub swap_of : Order → ℕ → Parts → Result Form AsmFault
+swap_of order bits o = register_of o.first >>= (λ dst. Ok (forms.Swap order bits dst))
 
 unfoldable pub load_of : Size → Bool → Parts → Result Form AsmFault
 load_of size signed o = do
@@ -118,12 +125,15 @@ branch_of marks slot w64 cond o = do
   off ← jump_of false by
   Ok (forms.Branch w64 cond dst src off)
 
+abbrev pub call_of : Parts → Result Form AsmFault
+call_of o = number_of o.first >>= (λ number. imm_of number >>= (λ id. Ok (forms.Call id)))
+
 -- the instruction of this word and these operands, at this slot
 unfoldable pub form_of : Marks → ℕ → Mnemonic → Parts → Result Form AsmFault
 form_of marks slot (words.Alu w64 op) o = alu_of w64 op o
-form_of marks slot (words.Neg w64) o = register_of o.first >>= (λ dst. Ok (forms.Neg w64 dst))
+form_of marks slot (words.Neg w64) o = neg_of w64 o
 form_of marks slot (words.MovSx w64) o = movsx_of w64 o
-form_of marks slot (words.Swap order bits) o = register_of o.first >>= (λ dst. Ok (forms.Swap order bits dst))
+form_of marks slot (words.Swap order bits) o = swap_of order bits o
 form_of marks slot (words.Load size signed) o = load_of size signed o
 form_of marks slot (words.StoreImm size) o = store_imm_of size o
 form_of marks slot (words.StoreReg size) o = store_reg_of size o
@@ -131,5 +141,5 @@ form_of marks slot words.Imm64 o = imm64_of o
 form_of marks slot words.MapRef o = map_ref_of o
 form_of marks slot (words.Ja long) o = ja_of marks slot long o
 form_of marks slot (words.Branch w64 cond) o = branch_of marks slot w64 cond o
-form_of marks slot words.Call o = number_of o.first >>= (λ number. imm_of number >>= (λ id. Ok (forms.Call id)))
+form_of marks slot words.Call o = call_of o
 form_of marks slot words.Exit o = Ok forms.Exit

@@ -45,14 +45,26 @@ bits_of w64 z = if int_eq z (pos 8) || int_eq z (pos 16) || (w64 && int_eq z (po
 abbrev pub long_of : ℤ → Result ℤ AsmFault
 long_of z = within (neg_ℤ (pos (2 ^ 63))) (pos (2 ^ 64 - 1)) OutOfRange z
 
+abbrev pub source_checked : List ℕ → Result (Unit {0}) AsmFault
+source_checked token = source_of token >>= (λ written. source_form written >>= (λ _. Ok tt))
+
+abbrev pub number_checked : List ℕ → Result (Unit {0}) AsmFault
+number_checked token = number_of token >>= (λ number. imm_of number >>= (λ _. Ok tt))
+
+abbrev pub long_checked : List ℕ → Result (Unit {0}) AsmFault
+long_checked token = number_of token >>= (λ number. long_of number >>= (λ _. Ok tt))
+
+abbrev pub address_checked : List ℕ → Result (Unit {0}) AsmFault
+address_checked token = address_of token >>= (λ address. off_of address.off >>= (λ _. Ok tt))
+
 -- an operand is right by itself, or by which rule it is not
 unfoldable pub checked : OperandKind → List ℕ → Result (Unit {0}) AsmFault
 checked Register token = register_of token >>= (λ _. Ok tt)
-checked Source token = source_of token >>= (λ written. source_form written >>= (λ _. Ok tt))
-checked Number token = number_of token >>= (λ number. imm_of number >>= (λ _. Ok tt))
-checked Long token = number_of token >>= (λ number. long_of number >>= (λ _. Ok tt))
+checked Source token = source_checked token
+checked Number token = number_checked token
+checked Long token = long_checked token
 checked (Bits w64) token = number_of token >>= (λ number. bits_of w64 number)
-checked Address token = address_of token >>= (λ address. off_of address.off >>= (λ _. Ok tt))
+checked Address token = address_checked token
 checked Target token = target_of token >>= (λ _. Ok tt)
 
 -- this rule refuses it

@@ -59,6 +59,13 @@ operands (Branch w64 cond dst src off) = register dst ∷ source src ∷ with_si
 operands (Call id) = signed_decimal id ∷ []
 operands Exit = []
 
+-- a text with two operands after it, and with three
+abbrev pub with_two : List ℕ → List ℕ → List ℕ → List ℕ
+with_two text first second = (text ++ (codes " " ++ first)) ++ (codes ", " ++ second)
+
+abbrev pub with_three : List ℕ → List ℕ → List ℕ → List ℕ → List ℕ
+with_three text first second third = with_two text first second ++ (codes ", " ++ third)
+
 -- operands behind a word: a space before the first, a comma and a space before each other
 abbrev pub operand_text : List (List ℕ) → List ℕ
 operand_text [] = []

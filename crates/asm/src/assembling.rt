@@ -1,18 +1,19 @@
 // Text into programs.
 
 ghost use Rattle.std.specs.Prelude.{◌≡◌, ◌≤◌, ◌+◌, Ok, IfOk, MatchResult};
+ghost use Rattle.insn.specs.Encoding.{HasEncoding};
 ghost use Rattle.insn.specs.Layout.{slot_count};
 ghost use Rattle.insn.specs.declared.instruction.TheConstants.{MAX_SLOTS};
 ghost use Rattle.asm.specs.Labels.{marks_of};
 ghost use Rattle.asm.specs.Refusal.{Fails};
-ghost use Rattle.asm.specs.Assembled.{label_of, instruction_of, word_of_line, assembled, MayFollow};
+ghost use Rattle.asm.specs.Assembled.{ended, label_of, instruction_of, word_of_line, assembled, MayFollow};
 
 use crate::forms::read_form;
 use crate::labels::{Labels, Line, read_line};
 use crate::refusals::{AsmError, AsmFault, AsmRefusal};
 use crate::tokens::{split_operands, visible};
 use crate::words::{mnemonic_of, operand_count};
-use insn::{Insn, MAX_SLOTS};
+use insn::{Form, Insn, MAX_SLOTS};
 use std::alloc::Global;
 use text::NumberedLines;
 
@@ -94,11 +95,21 @@ fn read_word<'a>(
     let mnemonic = mnemonic_of(word).ok_or(AsmFault::UnknownWord)?;
     let operands = split_operands(rest, operand_count(mnemonic))?;
     let form = read_form(labels, slot, mnemonic, &operands)?;
+    ended(slot, form, operands.rest)
+}
+
+// An instruction that ends within the slots of a program, and its line with it.
+fn ended(slot: u64, form: Form, rest: &[u8]) -> Result<Insn, AsmFault>
+    requires slot { slot ≤ MAX_SLOTS }
+    requires encoded { HasEncoding form }
+    ensures value { result ≡ ended slot form rest.now }
+    ensures few { IfOk result (λ i. slot + slot_count i ≤ MAX_SLOTS) }
+{
     let insn = Insn::new(form).ok_or(AsmFault::OutOfRange)?;
     if slot + insn.slot_count() as u64 > MAX_SLOTS as u64 {
         return Err(AsmFault::TooLong);
     }
-    if !visible(operands.rest).is_empty() {
+    if !visible(rest).is_empty() {
         return Err(AsmFault::TextBehind);
     }
     Ok(insn)

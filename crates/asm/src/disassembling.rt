@@ -1,11 +1,11 @@
 // Programs into text.
 
-ghost use Rattle.std.specs.Prelude.{◌≡◌, ◌++◌, decimal, IfOk, OnOk};
+ghost use Rattle.std.specs.Prelude.{◌≡◌, ◌++◌, codes, decimal, IfOk, OnOk};
 ghost use Rattle.std.specs.Fmt.{signed_decimal};
 ghost use Rattle.std.specs.String.{string_bytes};
 ghost use Rattle.insn.specs.Encoding.{HasEncoding};
 ghost use Rattle.asm.specs.Words.{HasWord};
-ghost use Rattle.asm.specs.Text.{mnemonic, register, source, with_sign, address, operands, operand_text, line_text, text_of};
+ghost use Rattle.asm.specs.Text.{mnemonic, register, source, with_sign, address, operands, operand_text, line_text, text_of, with_three, with_two};
 
 use crate::words::{Mnemonic, word};
 use insn::{Form, Insn, Source};
@@ -70,41 +70,68 @@ fn put_operands(out: &mut String, form: Form) -> Result<(), AllocError>
     ensures { OnOk result (string_bytes out.new ≡ string_bytes out.old ++ operand_text (operands form)) }
 {
     match form {
-        Form::Alu { dst, src, .. } => {
-            put_register(out, " ", dst)?;
-            put_source(out, ", ", src)
-        }
+        Form::Alu { dst, src, .. } => put_two(out, dst, src),
         Form::Neg { dst, .. } | Form::Swap { dst, .. } => put_register(out, " ", dst),
-        Form::MovSx { bits, dst, src, .. } => {
-            put_register(out, " ", dst)?;
-            put_register(out, ", ", src)?;
-            put_number(out, ", ", bits as u64)
-        }
-        Form::Load { dst, src, off, .. } => {
-            put_register(out, " ", dst)?;
-            put_address(out, ", ", src, off)
-        }
-        Form::Store { dst, off, src, .. } => {
-            put_address(out, " ", dst, off)?;
-            put_source(out, ", ", src)
-        }
-        Form::Imm64 { dst, value } => {
-            put_register(out, " ", dst)?;
-            put_number(out, ", ", value)
-        }
-        Form::MapRef { dst, index } => {
-            put_register(out, " ", dst)?;
-            put_signed(out, ", ", index)
-        }
+        Form::MovSx { bits, dst, src, .. } => put_extension(out, bits, dst, src),
+        Form::Load { dst, src, off, .. } => put_load(out, dst, src, off),
+        Form::Store { dst, off, src, .. } => put_store(out, dst, off, src),
+        Form::Imm64 { dst, value } => put_wide(out, dst, value),
+        Form::MapRef { dst, index } => put_map(out, dst, index),
         Form::Ja { by, .. } => put_with_sign(out, " ", by),
-        Form::Branch { dst, src, off, .. } => {
-            put_register(out, " ", dst)?;
-            put_source(out, ", ", src)?;
-            put_with_sign(out, ", ", off as i32)
-        }
+        Form::Branch { dst, src, off, .. } => put_branch(out, dst, src, off),
         Form::Call { id } => put_signed(out, " ", id),
         Form::Exit => Ok(()),
     }
+}
+
+// A register and a second operand.
+fn put_two(out: &mut String, dst: u8, src: Source) -> Result<(), AllocError>
+    ensures { OnOk result (string_bytes out.new ≡ with_two (string_bytes out.old) (register dst) (source src)) }
+{
+    put_register(out, " ", dst)?;
+    put_source(out, ", ", src)
+}
+
+fn put_extension(out: &mut String, bits: u8, dst: u8, src: u8) -> Result<(), AllocError>
+    ensures { OnOk result (string_bytes out.new ≡ with_three (string_bytes out.old) (register dst) (register src) (decimal bits)) }
+{
+    put_two(out, dst, Source::Reg(src))?;
+    put_number(out, ", ", bits as u64)
+}
+
+fn put_load(out: &mut String, dst: u8, src: u8, off: i16) -> Result<(), AllocError>
+    ensures { OnOk result (string_bytes out.new ≡ with_two (string_bytes out.old) (register dst) (address src off)) }
+{
+    put_register(out, " ", dst)?;
+    put_address(out, ", ", src, off)
+}
+
+fn put_store(out: &mut String, dst: u8, off: i16, src: Source) -> Result<(), AllocError>
+    ensures { OnOk result (string_bytes out.new ≡ with_two (string_bytes out.old) (address dst off) (source src)) }
+{
+    put_address(out, " ", dst, off)?;
+    put_source(out, ", ", src)
+}
+
+fn put_wide(out: &mut String, dst: u8, value: u64) -> Result<(), AllocError>
+    ensures { OnOk result (string_bytes out.new ≡ with_two (string_bytes out.old) (register dst) (decimal value)) }
+{
+    put_register(out, " ", dst)?;
+    put_number(out, ", ", value)
+}
+
+fn put_map(out: &mut String, dst: u8, index: i32) -> Result<(), AllocError>
+    ensures { OnOk result (string_bytes out.new ≡ with_two (string_bytes out.old) (register dst) (signed_decimal index)) }
+{
+    put_register(out, " ", dst)?;
+    put_signed(out, ", ", index)
+}
+
+fn put_branch(out: &mut String, dst: u8, src: Source, off: i16) -> Result<(), AllocError>
+    ensures { OnOk result (string_bytes out.new ≡ with_three (string_bytes out.old) (register dst) (source src) (with_sign off)) }
+{
+    put_two(out, dst, src)?;
+    put_with_sign(out, ", ", off as i32)
 }
 
 // A number behind this text, and the same of what follows.

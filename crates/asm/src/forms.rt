@@ -1,12 +1,12 @@
 // What a word and its operands mean.
 
-ghost use Rattle.std.specs.Prelude.{◌≡◌, FitsSigned, IfOk};
+ghost use Rattle.std.specs.Prelude.{◌≡◌, ◌⊎◌, false, true, FitsSigned, IfOk};
 ghost use Rattle.std.specs.Int.{w16, w32};
-ghost use Rattle.insn.specs.Encoding.{HasEncoding, IsSource, MayLoad};
+ghost use Rattle.insn.specs.Encoding.{FitsJump, HasEncoding, IsSource, MayLoad};
 ghost use Rattle.asm.specs.Words.{HasWord};
 ghost use Rattle.asm.specs.Tokens.{parts_of};
 ghost use Rattle.asm.specs.Labels.{marks_of};
-ghost use Rattle.asm.specs.Forms.{imm_of, off_of, source_form, distance_of, alu_of, movsx_of, load_of, store_imm_of, store_reg_of, imm64_of, map_ref_of, ja_of, branch_of, form_of};
+ghost use Rattle.asm.specs.Forms.{imm_of, off_of, source_form, distance_of, jump_of, alu_of, neg_of, movsx_of, swap_of, load_of, store_imm_of, store_reg_of, imm64_of, map_ref_of, ja_of, branch_of, call_of, form_of};
 ghost use Rattle.asm.specs.Operands.{shown_target, IsWritten};
 
 use crate::labels::Labels;
@@ -16,7 +16,7 @@ use crate::operands::{
 use crate::refusals::AsmFault;
 use crate::tokens::Operands;
 use crate::words::Mnemonic;
-use insn::{Condition, Form, Operation, Size, Source};
+use insn::{Condition, Form, Operation, Order, Size, Source};
 
 pub(crate) fn imm(number: i128) -> Result<i32, AsmFault>
     ensures value { result ≡ imm_of number }
@@ -56,6 +56,34 @@ fn distance<'a>(labels: &Labels<'a>, slot: u64, target: Target<'a>) -> Result<i1
     }
 }
 
+// How far a jump by 16 bits goes.
+fn near(by: i128) -> Result<i16, AsmFault>
+    ensures value { result ≡ jump_of false by }
+    ensures fits { IfOk result (FitsSigned w16) }
+{
+    Ok(within(-0x8000, 0x7fff, AsmFault::JumpTooFar, by)? as i16)
+}
+
+// How far a jump by 32 bits goes.
+fn far(by: i128) -> Result<i32, AsmFault>
+    ensures value { result ≡ jump_of true by }
+    ensures fits { IfOk result (FitsSigned w32) }
+{
+    Ok(within(-0x8000_0000, 0x7fff_ffff, AsmFault::JumpTooFar, by)? as i32)
+}
+
+// How far a jump goes, by 32 bits or by 16.
+fn jump(long: bool, by: i128) -> Result<i32, AsmFault>
+    ensures value { result ≡ jump_of long by }
+    ensures fits { IfOk result (FitsJump long) }
+{
+    if long {
+        far(by)
+    } else {
+        Ok(i32::from(near(by)?))
+    }
+}
+
 #[tactic(auto, unfolding(crate::specs::Forms::alu_of))]
 fn alu(w64: bool, op: Operation, operands: &Operands<'_>) -> Result<Form, AsmFault>
     ensures value { result ≡ alu_of w64 op (parts_of operands.now) }
@@ -64,6 +92,14 @@ fn alu(w64: bool, op: Operation, operands: &Operands<'_>) -> Result<Form, AsmFau
     let dst = register(operands.first)?;
     let src = source_form(source(operands.second)?)?;
     Ok(Form::Alu { w64, op, dst, src })
+}
+
+fn neg(w64: bool, operands: &Operands<'_>) -> Result<Form, AsmFault>
+    ensures value { result ≡ neg_of w64 (parts_of operands.now) }
+    ensures encoded { IfOk result HasEncoding }
+{
+    let dst = register(operands.first)?;
+    Ok(Form::Neg { w64, dst })
 }
 
 #[tactic(auto, unfolding(crate::specs::Forms::movsx_of))]
@@ -85,6 +121,15 @@ fn movsx(w64: bool, operands: &Operands<'_>) -> Result<Form, AsmFault>
     } else {
         Err(AsmFault::OutOfRange)
     }
+}
+
+fn swap(order: Order, bits: u8, operands: &Operands<'_>) -> Result<Form, AsmFault>
+    requires { ((bits ≡ 16) ⊎ (bits ≡ 32)) ⊎ (bits ≡ 64) }
+    ensures value { result ≡ swap_of order bits (parts_of operands.now) }
+    ensures encoded { IfOk result HasEncoding }
+{
+    let dst = register(operands.first)?;
+    Ok(Form::Swap { order, bits, dst })
 }
 
 #[tactic(auto, unfolding(crate::specs::Forms::load_of))]
@@ -179,13 +224,8 @@ fn ja<'a>(
     ensures value { result ≡ ja_of (marks_of labels.now) slot long (parts_of operands.now) }
     ensures encoded { IfOk result HasEncoding }
 {
-    let by = distance(labels, slot, read_target(operands.first)?)?;
-    let (low, high) = if long {
-        (-0x8000_0000, 0x7fff_ffff)
-    } else {
-        (-0x8000, 0x7fff)
-    };
-    let by = within(low, high, AsmFault::JumpTooFar, by)? as i32;
+    let target = read_target(operands.first)?;
+    let by = jump(long, distance(labels, slot, target)?)?;
     Ok(Form::Ja { long, by })
 }
 
@@ -204,8 +244,7 @@ fn branch<'a>(
     let src = source(operands.second)?;
     let target = read_target(operands.third)?;
     let src = source_form(src)?;
-    let by = distance(labels, slot, target)?;
-    let off = within(-0x8000, 0x7fff, AsmFault::JumpTooFar, by)? as i16;
+    let off = near(distance(labels, slot, target)?)?;
     Ok(Form::Branch {
         w64,
         cond,
@@ -213,6 +252,14 @@ fn branch<'a>(
         src,
         off,
     })
+}
+
+fn call(operands: &Operands<'_>) -> Result<Form, AsmFault>
+    ensures value { result ≡ call_of (parts_of operands.now) }
+    ensures encoded { IfOk result HasEncoding }
+{
+    let id = imm(number(operands.first)?)?;
+    Ok(Form::Call { id })
 }
 
 // The instruction of this word and these operands, at this slot.
@@ -229,15 +276,9 @@ pub(crate) fn read_form<'a>(
 {
     match mnemonic {
         Mnemonic::Alu(w64, op) => alu(w64, op, operands),
-        Mnemonic::Neg(w64) => {
-            let dst = register(operands.first)?;
-            Ok(Form::Neg { w64, dst })
-        }
+        Mnemonic::Neg(w64) => neg(w64, operands),
         Mnemonic::MovSx(w64) => movsx(w64, operands),
-        Mnemonic::Swap(order, bits) => {
-            let dst = register(operands.first)?;
-            Ok(Form::Swap { order, bits, dst })
-        }
+        Mnemonic::Swap(order, bits) => swap(order, bits, operands),
         Mnemonic::Load(size, signed) => load(size, signed, operands),
         Mnemonic::StoreImm(size) => store_imm(size, operands),
         Mnemonic::StoreReg(size) => store_reg(size, operands),
@@ -245,10 +286,7 @@ pub(crate) fn read_form<'a>(
         Mnemonic::MapRef => map_ref(operands),
         Mnemonic::Ja(long) => ja(labels, slot, long, operands),
         Mnemonic::Branch(w64, cond) => branch(labels, slot, w64, cond, operands),
-        Mnemonic::Call => {
-            let id = imm(number(operands.first)?)?;
-            Ok(Form::Call { id })
-        }
+        Mnemonic::Call => call(operands),
         Mnemonic::Exit => Ok(Form::Exit),
     }
 }

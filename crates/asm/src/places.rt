@@ -1,7 +1,8 @@
 // Where a line is wrong.
 
 ghost use Rattle.std.specs.Prelude.{◌≡◌, ◌≤◌, length};
-ghost use Rattle.asm.specs.Places.{bits_of, checked, is_refused_by, is_target, is_wrong, kinds_said, place_in, rest_of, wrong, wrong_behind, wrong_in, wrong_operand, operand_kinds};
+ghost use Rattle.asm.specs.Places.{address_checked, bits_of, checked, long_checked, number_checked, source_checked, is_refused_by, is_target, is_wrong, kinds_said, place_in, rest_of, wrong, wrong_behind, wrong_in, wrong_operand, operand_kinds};
+ghost use Rattle.asm.specs.Tokens.{result_map};
 ghost use Rattle.asm.specs.Words.{meaning_of};
 
 use crate::forms::{imm, off, source_form};
@@ -88,34 +89,55 @@ fn check_bits(w64: bool, bits: i128) -> Result<(), AsmFault>
     }
 }
 
+// What is read is right, or by which rule it is not.
+fn fault_of<T: Drop>(read: Result<T, AsmFault>) -> Result<(), AsmFault>
+    ensures { result ≡ result_map (λ _. tt) read }
+{
+    match read {
+        Ok(_) => Ok(()),
+        Err(why) => Err(why),
+    }
+}
+
+fn check_source(operand: &[u8]) -> Result<(), AsmFault>
+    ensures { result ≡ source_checked operand.now }
+{
+    fault_of(source_form(source(operand)?))
+}
+
+fn check_number(operand: &[u8]) -> Result<(), AsmFault>
+    ensures { result ≡ number_checked operand.now }
+{
+    fault_of(imm(number(operand)?))
+}
+
+fn check_long(operand: &[u8]) -> Result<(), AsmFault>
+    ensures { result ≡ long_checked operand.now }
+{
+    let (low, high) = (-0x8000_0000_0000_0000, 0xffff_ffff_ffff_ffff);
+    fault_of(within(low, high, AsmFault::OutOfRange, number(operand)?))
+}
+
+fn check_address(operand: &[u8]) -> Result<(), AsmFault>
+    ensures { result ≡ address_checked operand.now }
+{
+    fault_of(off(read_address(operand)?.off))
+}
+
 // An operand is right by itself, or by which rule it is not.
 #[tactic(auto, unfolding(crate::specs::Places::checked))]
 fn check(kind: OperandKind, operand: &[u8]) -> Result<(), AsmFault>
     ensures { result ≡ checked kind operand.now }
 {
     match kind {
-        Register => {
-            register(operand)?;
-        }
-        Source => {
-            source_form(source(operand)?)?;
-        }
-        Number => {
-            imm(number(operand)?)?;
-        }
-        Long => {
-            let (low, high) = (-0x8000_0000_0000_0000, 0xffff_ffff_ffff_ffff);
-            within(low, high, AsmFault::OutOfRange, number(operand)?)?;
-        }
-        Bits(w64) => check_bits(w64, number(operand)?)?,
-        Address => {
-            off(read_address(operand)?.off)?;
-        }
-        Target => {
-            read_target(operand)?;
-        }
+        Register => fault_of(register(operand)),
+        Source => check_source(operand),
+        Number => check_number(operand),
+        Long => check_long(operand),
+        Bits(w64) => check_bits(w64, number(operand)?),
+        Address => check_address(operand),
+        Target => fault_of(read_target(operand)),
     }
-    Ok(())
 }
 
 // This rule refuses it.

@@ -1,7 +1,7 @@
 // The parts of a line: tokens, and operands between commas.
 
-ghost use Rattle.std.specs.Prelude.{◌≡◌};
-ghost use Rattle.asm.specs.Tokens.{is_blank, stops, before, rest_from, operand_of, next_operand_of, operands_of, parts_of, pair_of, result_map};
+ghost use Rattle.std.specs.Prelude.{◌≡◌, []};
+ghost use Rattle.asm.specs.Tokens.{is_blank, stops, before, rest_from, operand_of, next_operand_of, operands_of, parts, parts_of, third_operand, pair_of, result_map};
 
 use crate::refusals::AsmFault;
 
@@ -83,39 +83,15 @@ pub(crate) struct Operands<'a> {
     pub rest: &'a [u8],
 }
 
-// Splits the text after a word into `count` operands, at most 3.
-#[tactic(auto, unfolding(crate::specs::Tokens::operands_of, crate::specs::Tokens::third_operand))]
-pub(crate) fn split_operands(text: &[u8], count: usize) -> Result<Operands<'_>, AsmFault>
-    ensures { result_map parts_of result ≡ operands_of count text.now }
+// The third operand behind two others.
+#[tactic(auto, unfolding(crate::specs::Tokens::third_operand))]
+fn third_operand<'a>(
+    first: &'a [u8],
+    second: &'a [u8],
+    rest: &'a [u8],
+) -> Result<Operands<'a>, AsmFault>
+    ensures { result_map parts_of result ≡ third_operand first.now (second.now, rest.now) }
 {
-    let (second, third): (&[u8], &[u8]) = (&[], &[]);
-    if count == 0 {
-        let first = second;
-        return Ok(Operands {
-            first,
-            second,
-            third,
-            rest: text,
-        });
-    }
-    let (first, rest) = token(text);
-    if count == 1 {
-        return Ok(Operands {
-            first,
-            second,
-            third,
-            rest,
-        });
-    }
-    let (second, rest) = next_token(rest)?;
-    if count == 2 {
-        return Ok(Operands {
-            first,
-            second,
-            third,
-            rest,
-        });
-    }
     let (third, rest) = next_token(rest)?;
     Ok(Operands {
         first,
@@ -123,4 +99,35 @@ pub(crate) fn split_operands(text: &[u8], count: usize) -> Result<Operands<'_>, 
         third,
         rest,
     })
+}
+
+// These operands at most two, and what stands behind them.
+fn two_operands<'a>(first: &'a [u8], second: &'a [u8], rest: &'a [u8]) -> Operands<'a>
+    ensures { parts_of result ≡ parts first.now second.now [] rest.now }
+{
+    Operands {
+        first,
+        second,
+        third: &[],
+        rest,
+    }
+}
+
+// Splits the text after a word into `count` operands, at most 3.
+#[tactic(auto, unfolding(crate::specs::Tokens::operands_of))]
+pub(crate) fn split_operands(text: &[u8], count: usize) -> Result<Operands<'_>, AsmFault>
+    ensures { result_map parts_of result ≡ operands_of count text.now }
+{
+    if count == 0 {
+        return Ok(two_operands(&[], &[], text));
+    }
+    let (first, rest) = token(text);
+    if count == 1 {
+        return Ok(two_operands(first, &[], rest));
+    }
+    let (second, rest) = next_token(rest)?;
+    if count == 2 {
+        return Ok(two_operands(first, second, rest));
+    }
+    third_operand(first, second, rest)
 }
