@@ -4,7 +4,7 @@ ghost use Rattle.std.specs.Prelude.{◌≡◌};
 ghost use Rattle.helpers.specs.Numbers.{helper_of};
 
 /// A function that a program may call (bpf-helpers(7)).
-#[derive(Clone, Copy, PartialEq, Eq, Debug)]
+#[derive(Clone, Copy, PartialEq, Eq)]
 pub enum Helper {
     /// `bpf_map_lookup_elem`, number 1.
     Lookup,

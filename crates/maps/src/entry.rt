@@ -4,7 +4,7 @@ ghost use Rattle.std.specs.Prelude.{◌≡◌};
 
 /// A map and a place in it. An entry is good until a key is put into its own map or taken out of it, or the map is
 /// copied over: until then its place keeps its key, also while other maps and any values change.
-#[derive(Clone, Copy, PartialEq, Eq, Debug)]
+#[derive(Clone, Copy)]
 pub struct Entry {
     /// The number of the map.
     pub map: u8,
@@ -23,7 +23,7 @@ impl Entry {
 }
 
 /// The entry of a key, which came there only now where it is new.
-#[derive(Clone, Copy, PartialEq, Eq, Debug)]
+#[derive(Clone, Copy)]
 pub struct Inserted {
     /// Where the key stands.
     pub entry: Entry,
@@ -32,7 +32,7 @@ pub struct Inserted {
 }
 
 /// What a scan gave.
-#[derive(Clone, Copy, PartialEq, Eq, Debug)]
+#[derive(Clone, Copy)]
 pub struct Scanned {
     /// How many entries.
     pub count: usize,

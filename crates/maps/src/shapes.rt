@@ -64,7 +64,7 @@ pub fn widest_limits()
 
 /// How large the maps and the argument of a program may be. It lies in memory as C has it.
 #[repr(C)]
-#[derive(Clone, Copy, PartialEq, Eq, Debug)]
+#[derive(Clone, Copy)]
 pub struct MapLimits {
     /// The most bytes of a key.
     pub key: u32,
@@ -202,7 +202,7 @@ impl Shape {
 }
 
 /// The rule that shapes break. Each rule has its number, from 1 to 3.
-#[derive(Clone, Copy, PartialEq, Eq, Debug, Error)]
+#[derive(Clone, Copy, Debug, Error)]
 pub enum ShapeFault {
     /// There are 1 to 16 maps.
     #[error("M1: there is no map, or there are more than 16")]
@@ -229,7 +229,7 @@ impl ShapeFault {
 }
 
 /// Why maps can't be had.
-#[derive(Clone, Copy, PartialEq, Eq, Debug, Error)]
+#[derive(Clone, Copy, Debug, Error)]
 pub enum MapError {
     /// Memory ran out.
     #[error("M4: memory ran out")]
