@@ -42,15 +42,20 @@ array_meaning l text = do
   entries ← number_within 1 l.entries value.1
   Some (Map (shapes.Array size entries))
 
+-- a hash of these sizes
+abbrev pub hash_of : MapLimits → List ℕ → List ℕ → List ℕ → Option Meaning
+hash_of l key value entries = do
+  bytes ← number_within 1 l.key key
+  size ← number_within 1 l.value value
+  most ← number_within 1 l.entries entries
+  Some (Map (shapes.Hash bytes size most))
+
 -- KEY VALUE ENTRIES
 unfoldable pub hash_meaning : MapLimits → List ℕ → Option Meaning
 hash_meaning l text = do
   key ← split_at_space text
   value ← split_at_space key.1
-  bytes ← number_within 1 l.key key.0
-  size ← number_within 1 l.value value.0
-  entries ← number_within 1 l.entries value.1
-  Some (Map (shapes.Hash bytes size entries))
+  hash_of l key.0 value.0 value.1
 
 abbrev pub by_kind_of_map : MapLimits → List ℕ → List ℕ → Option Meaning
 by_kind_of_map l kind rest =

@@ -1,8 +1,9 @@
 // What one line of a manifest means.
 
 ghost use Rattle.std.specs.Prelude.{◌≡◌, IfSome, option_map};
-ghost use Rattle.loader.specs.Grammar.{mode_of, array_meaning, hash_meaning, map_meaning, program_meaning, first_word, words_of, words_meaning, line_meaning};
+ghost use Rattle.loader.specs.Grammar.{mode_of, array_meaning, hash_of, hash_meaning, map_meaning, program_meaning, first_word, words_of, words_meaning, line_meaning};
 ghost use Rattle.maps.specs.Shapes.{AreLimits};
+ghost use Rattle.text.specs.Words.{IsFrom, number_within};
 ghost use Rattle.loader.specs.LineShown.{meaning_of, LineFits};
 
 use crate::paths::is_path;
@@ -66,6 +67,14 @@ pub enum Line<'a> {
     Program(ProgramLine<'a>),
 }
 
+// A size, from 1 to the most.
+fn size(most: u32, word: &str) -> Option<u32>
+    ensures value { result ≡ number_within 1 most word.now }
+    ensures bounds { IfSome result (λ n. IsFrom 1 most n) }
+{
+    Some(number_within(1, most as u64, word)? as u32)
+}
+
 // The sizes of an array.
 #[tactic(auto, unfolding(crate::specs::Grammar::array_meaning))]
 fn array_line<'a>(limits: &MapLimits, text: &'a str) -> Option<Line<'a>>
@@ -74,11 +83,24 @@ fn array_line<'a>(limits: &MapLimits, text: &'a str) -> Option<Line<'a>>
     ensures fits { IfSome result (LineFits limits.now) }
 {
     let (value, entries) = split_at_space(text)?;
-    let value = number_within(1, limits.value as u64, value)?;
-    let entries = number_within(1, limits.entries as u64, entries)?;
-    Some(Line::Map(Shape::Array {
-        value: value as u32,
-        entries: entries as u32,
+    let value = size(limits.value, value)?;
+    let entries = size(limits.entries, entries)?;
+    Some(Line::Map(Shape::Array { value, entries }))
+}
+
+// A hash of these sizes.
+fn hash_of<'a>(limits: &MapLimits, key: &str, value: &str, entries: &str) -> Option<Line<'a>>
+    requires limits { AreLimits limits.now }
+    ensures meaning { option_map meaning_of result ≡ hash_of limits.now key.now value.now entries.now }
+    ensures fits { IfSome result (LineFits limits.now) }
+{
+    let key = size(limits.key, key)?;
+    let value = size(limits.value, value)?;
+    let entries = size(limits.entries, entries)?;
+    Some(Line::Map(Shape::Hash {
+        key,
+        value,
+        entries,
     }))
 }
 
@@ -91,14 +113,7 @@ fn hash_line<'a>(limits: &MapLimits, text: &'a str) -> Option<Line<'a>>
 {
     let (key, rest) = split_at_space(text)?;
     let (value, entries) = split_at_space(rest)?;
-    let key = number_within(1, limits.key as u64, key)?;
-    let value = number_within(1, limits.value as u64, value)?;
-    let entries = number_within(1, limits.entries as u64, entries)?;
-    Some(Line::Map(Shape::Hash {
-        key: key as u32,
-        value: value as u32,
-        entries: entries as u32,
-    }))
+    hash_of(limits, key, value, entries)
 }
 
 // A map, an array or a hash.
