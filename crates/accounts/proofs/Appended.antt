@@ -71,10 +71,6 @@ module _ {C M : Type 0} (E : Meaning C M) where
       back : (d j : ℕ) (u : Claim) → IsInBatch (set ns c appended) d j u → ((d ≡ c) × At j u (placed_from (length l.history) k n.batch)) ⊎ ((d ≢ c) × IsInBatch ns d j u)
       back d j u h = batch_back ns c n appended here d j u h
 
-      -- a request stood in the same batch before
-      Was : ℕ → ℕ → Claim → Type 0
-      Was d j u = (t : Claim) × IsInBatch ns d j t × (u.request ≡ t.request)
-
       pub was : (d j : ℕ) (u : Claim) → IsInBatch (set ns c appended) d j u → (t : Claim) × IsInBatch ns d j t × (u.request ≡ t.request)
       was d j u h = ⊎_elim (λ a. let p = placed_back (length l.history) k n.batch j u a.1 in (p.0, subst (λ z. IsInBatch ns z j p.0) (sym a.0) (own j p.0 p.1), p.2)) (λ a. (u, a.1, refl)) (back d j u h)
 

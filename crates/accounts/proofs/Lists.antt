@@ -49,11 +49,6 @@ module _ {A : Type 0} where
   at_behind [] ys j a e = subst (λ i. At i a ys) (zero_plus j) e
   at_behind (x ∷ xs) ys j a e = subst (λ i. At i a (x ∷ xs ++ ys)) (suc_plus (length xs) j) (at_behind xs ys j a e)
 
-  pub at_front_only : (xs ys : List A) (i : ℕ) (a : A) → i < length xs → At i a (xs ++ ys) → At i a xs
-  at_front_only [] ys i a h e = absurd (omega arith)
-  at_front_only (x ∷ xs) ys zero a h e = e
-  at_front_only (x ∷ xs) ys (suc i) a h e = at_front_only xs ys i a (omega arith) e
-
   -- an element that is read stands at its place
   pub at_of : (xs : List A) (i : ℕ) (a : A) → slice_get xs i ≡ Some a → At i a xs
   at_of [] i a e = absurd (none-some a e)

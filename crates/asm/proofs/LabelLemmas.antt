@@ -1,5 +1,5 @@
 -- Labels, one line on.
-use Rattle.std.proofs.Common.{◌≡◌, ◌≢◌, ℕ, Bool, true, false, cond, List, [], ◌∷◌, Option, Some, None, refl, sym, ◌∙◌, subst}
+use Rattle.std.proofs.Common.{◌≡◌, ℕ, Bool, true, false, cond, List, [], ◌∷◌, Option, Some, None, refl, sym, ◌∙◌, subst}
 use Rattle.std.specs.Option.{option_or}
 use Rattle.std.specs.Map.{update}
 use Rattle.std.specs.Str.{bytes_eq}
@@ -23,15 +23,6 @@ new_mark f name m q absent = by (bytes_eq name q) ((bytes_eq-Decides name q).0)
     by : (b : Bool) → (b ≡ true → name ≡ q) → cond b (Some m) (f q) ≡ option_or (f q) (cond b (Some m) None)
     by true same = let e : f q ≡ None = subst (λ n. f n ≡ None) (same refl) absent in rw e refl
     by false same = sym (or_none (f q))
-
--- what stands somewhere already stays
-pub old_mark : (o : Option Mark) (name : List ℕ) (m : Mark) (q : List ℕ) → (bytes_eq name q ≡ true → o ≢ None) → o ≡ noted o name m q
-old_mark o name m q stood = by o (bytes_eq name q) stood
-  where
-    by : (o : Option Mark) (b : Bool) → (b ≡ true → o ≢ None) → o ≡ option_or o (cond b (Some m) None)
-    by None true stood = absurd (stood refl refl)
-    by None false stood = refl
-    by (Some x) b stood = refl
 
 -- one line on
 pub one_line : (f g : Marks) (n number after slot behind : ℕ) (all : List (List ℕ)) (line : List ℕ) (lines : List (List ℕ)) (held : Held) (total : Marks)

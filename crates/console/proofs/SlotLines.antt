@@ -1,5 +1,5 @@
 -- The lines of a program behind their columns, one after another.
-use Rattle.std.proofs.Common.{◌≡◌, ℕ, ◌+◌, ◌<◌, ◌≤◌, List, [], ◌∷◌, ◌++◌, length, get_or, drop, refl, sym, ap, ◌∙◌, append_assoc, arith}
+use Rattle.std.proofs.Common.{◌≡◌, ℕ, ◌+◌, ◌<◌, List, [], ◌∷◌, ◌++◌, length, get_or, drop, refl, sym, ap, ◌∙◌, append_assoc, arith}
 use Rattle.std.proofs.lemmas.List.{append-nil, drop_more, length-append}
 use Rattle.insn.specs.declared.instruction.Form.{Form}
 use Rattle.insn.specs.Layout.{slot_contents, slot_count, layout, size}
@@ -33,6 +33,3 @@ module _ (p : List Form) (k : ℕ) (d f : Form) (lt : k < length p) (is : f ≡ 
   -- its slots more
   pub slots_more : (slot n : ℕ) → slot + size (drop k p) ≡ n → (slot + slot_count f) + size (drop (k + 1) p) ≡ n
   slots_more slot n so_far = let c = counted in omega arith
-
-  pub slots_fit : (slot n : ℕ) → slot + size (drop k p) ≡ n → slot + slot_count f ≤ n
-  slots_fit slot n so_far = let c = counted in omega arith

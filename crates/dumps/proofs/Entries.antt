@@ -55,10 +55,6 @@ pub key_fits : (s : MapState) (key : List ℕ) → is_key_for s key ≡ true →
 unfolding is_key_for
 key_fits s key h = eqb-true (length key) (key_size s.shape) (first_true _ _ h)
 
-hash_is : (shape : Shape) → is_hash shape ≡ true → IsHash shape
-hash_is (Array value entries) h = cc
-hash_is (Hash key value entries) h = tt
-
 pub in_hash : (shape : Shape) (n : ℕ) (b : Bool) → (b || (is_hash shape && nat_lt n (entry_count shape))) ≡ true → b ≡ false → IsHash shape × (n < entry_count shape)
 in_hash shape n true h lacks = cc
 in_hash (Array value entries) n false h lacks = cc

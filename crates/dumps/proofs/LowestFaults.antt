@@ -129,10 +129,6 @@ module _ (Has : DumpFault → Type 0) where
 
 -- ---- the tests of an entry
 
-true_or : (b : Bool) → (b ≡ true) ⊎ (b ≡ false)
-true_or true = inl refl
-true_or false = inr refl
-
 both_ways : (b : Bool) → b ≡ true → b ≡ false → ⊥
 both_ways b t f = cc
 

@@ -15,23 +15,6 @@ use Rattle.dumps.specs.Written.{entries_at, kept_text, map_text, maps_text, plac
 use Rattle.dumps.specs.Pieces.{HaveLines, left_in, left_text, rest_count, rest_of, row_count, row_text, rows_left, rows_of, tables_text}
 use Rattle.dumps.proofs.Writing.{dropped, dumped, flat_twice, maps_end, none_left, there}
 
--- ---- a line
-
-grow : (o t u x y : List ℕ) → t ≡ o ++ x → u ≡ t ++ y → u ≡ o ++ (x ++ y)
-grow o t u x y a b = b ∙ ap (λ v. v ++ y) a ∙ append_assoc o x y
-
-regrouped : (n a k b v : List ℕ) → (((n ++ a) ++ k) ++ b) ++ v ≡ n ++ (a ++ (k ++ (b ++ v)))
-regrouped n a k b v = append_assoc ((n ++ a) ++ k) b v ∙ append_assoc (n ++ a) k (b ++ v) ∙ append_assoc n a (k ++ (b ++ v))
-
--- six pieces, one after another
-pub line_is : (o n a k b v e t₁ t₂ t₃ t₄ t₅ t₆ : List ℕ) → t₁ ≡ o ++ n → t₂ ≡ t₁ ++ a → t₃ ≡ t₂ ++ k → t₄ ≡ t₃ ++ b → t₅ ≡ t₄ ++ v → t₆ ≡ t₅ ++ e → t₆ ≡ o ++ ((n ++ (a ++ (k ++ (b ++ v)))) ++ e)
-line_is o n a k b v e t₁ t₂ t₃ t₄ t₅ t₆ p₁ p₂ p₃ p₄ p₅ p₆ =
-    let q₂ = grow o t₁ t₂ n a p₁ p₂ in
-    let q₃ = grow o t₂ t₃ (n ++ a) k q₂ p₃ in
-    let q₄ = grow o t₃ t₄ ((n ++ a) ++ k) b q₃ p₄ in
-    let q₅ = grow o t₄ t₅ (((n ++ a) ++ k) ++ b) v q₄ p₅ in
-    grow o t₅ t₆ ((((n ++ a) ++ k) ++ b) ++ v) e q₅ p₆ ∙ ap (λ u. o ++ (u ++ e)) (regrouped n a k b v)
-
 -- ---- rows
 
 pub row_is : (c : Contents) (m place : ℕ) (s : Stored) → slice_get c m ≡ Some s → row_text c m place ≡ place_text m s place
@@ -60,9 +43,6 @@ row_on c tables m row table x at low is =
 pub table_on : (c : Contents) (tables : List (List ℕ)) (m row : ℕ) (table : List ℕ) → slice_get tables m ≡ Some table → length table ≤ row → left_in c tables m row ≡ left_in c tables (m + 1) 0
 table_on c tables m row table at past =
     ap (rest_of c m row) (dropped tables m table at) ∙ ap (λ u. flat_map (row_text c m) u ++ tables_text c (m + 1) (drop (m + 1) tables)) (none_left table row past) ∙ sym (first_rows c (m + 1) (drop (m + 1) tables))
-
-pub no_table : (c : Contents) (tables : List (List ℕ)) (m row : ℕ) → length tables ≤ m → left_in c tables m row ≡ []
-no_table c tables m row past = ap (rest_of c m row) (none_left tables m past)
 
 -- ---- how many
 
@@ -142,7 +122,3 @@ pub part_is : (t o piece lines : List ℕ) (byte count : ℕ) → t ≡ o ++ pie
 part_is t o piece lines byte count written is =
     ap (λ u. u ++ drop (byte + count) lines) (written ∙ ap (λ u. o ++ u) is) ∙ append_assoc o (take count (drop byte lines)) (drop (byte + count) lines)
     ∙ ap (λ u. o ++ u) (ap (λ u. take count (drop byte lines) ++ u) (sym (drop-drop count byte lines)) ∙ take-append-drop count (drop byte lines))
-
--- no row was left
-pub end_read : (all t u a b d e : List ℕ) → all ≡ t ++ (a ++ d) → a ≡ [] → b ≡ [] → u ++ e ≡ t ++ d → all ≡ u ++ (b ++ e)
-end_read all t u a b d e before none still part = before ∙ ap (λ y. t ++ (y ++ d)) none ∙ sym part ∙ ap (λ y. u ++ (y ++ e)) (sym still)

@@ -90,9 +90,6 @@ program_more ps k n o p all next low step before =
     subst (λ i. p ++ flat_map program_line_text (drop i ps) ≡ all) (sym next)
     (one_more o p (program_line_text at.0) (flat_map program_line_text (drop (k + 1) ps)) (flat_map program_line_text (drop k ps)) all (step at.0 at.1) (ap (flat_map program_line_text) (dropped ps k at.0 at.1)) before)
 
-pub programs_end : (ps : List Checked) (n : ℕ) (o all : List ℕ) → length ps ≤ n → o ++ flat_map program_line_text (drop n ps) ≡ all → o ≡ all
-programs_end ps n o all past before = no_more o (flat_map program_line_text (drop n ps)) all (ap (flat_map program_line_text) (none_left ps n past)) before
-
 -- ---- the entries at places
 
 pub flat_twice : (m : ℕ) (s : Stored) (ps : List ℕ) → flat_map (place_text m s) ps ≡ flat_map (kept_text m s.shape) (entries_at s ps)

@@ -67,11 +67,6 @@ module _ {F R : Type 0} (holds : F → Option Contents) (remaining : R → Optio
   abbrev Stops : Unread → Type 0
   Stops e = IfGiven holds remaining i (λ g. FailsAs e (λ x. first_stranger g ≡ Some (strange_text x)))
 
-  pub manifest_failed : (e : Unread) → IfSome om (λ m. FailsAs e (IsStrange (codes "the manifest") m)) → Stops e
-  manifest_failed e off =
-      known_so (λ m. FailsAs e (IsStrange (codes "the manifest") m)) _ om (λ m no. known_of _ oh (λ h. known_of _ of (λ f. known_of _ os (λ s. known_of _ ot (λ t.
-      fails_as e (IsStrange (codes "the manifest") m) (λ x. first_stranger (given i.sizes m h f s t) ≡ Some (strange_text x)) (λ x no. rw no.0 (ap Some (sym no.1))) no))))) off
-
   module _ {Y : Type 0} (text : String Y) (is : IfSome om (TextIs (codes "the manifest") (Ok text))) where
     abbrev names : List (List ℕ)
     names = named_in (string_bytes text)

@@ -1,5 +1,5 @@
 -- The read that failed, one text after another.
-use Rattle.std.proofs.Common.{◌≡◌, inl, inr, ℕ, ◌+◌, ◌<◌, Bool, true, false, List, [], ◌∷◌, length, get_or, drop, map, Option, Some, None, Ok, Err, String, Bor, codes, string_bytes, refl, sym, ap, subst}
+use Rattle.std.proofs.Common.{◌≡◌, inl, inr, ℕ, Bool, true, false, List, [], ◌∷◌, Option, Some, None, Ok, Err, String, codes, string_bytes, refl, ap}
 use Rattle.std.specs.Prelude.{IfSome, IsSomeAnd}
 use Rattle.std.specs.Str.{is_utf8}
 use Rattle.loader.specs.NamedFiles.{named_in}
@@ -9,8 +9,7 @@ use Rattle.engine.specs.declared.reading.Unread.{Unread}
 use Rattle.engine.specs.declared.reading.Unread.TheVariants as faults
 use Rattle.engine.specs.Files.{Contents, present}
 use Rattle.engine.specs.Reading.{FailedInTurn, FailedOr, FileFailedOr, IsText, given_text}
-use Rattle.engine.specs.Unread.{FoundAs, IfUnread, TextIs, first_strange}
-use Rattle.engine.proofs.GatheredFiles.{name_of, names_at}
+use Rattle.engine.specs.Unread.{IfUnread, TextIs, first_strange}
 
 pub unread_so : (e : Unread) (P Q : Type 0) → (P → Q) → IfUnread {X = ⊥} (Err e) P → IfUnread {X = ⊥} (Err e) Q
 unread_so faults.NoMemory P Q f p = tt
@@ -18,12 +17,6 @@ unread_so (faults.NotText s) P Q f p = tt
 unread_so faults.CannotRead P Q f p = f p
 
 -- ---- files
-
--- what is known of a file that was found
-found_text : {Y : Type 0} (o : Option Contents) (name : List ℕ) (t : Option (String Y)) → IfSome o (λ h. FoundAs t (h name)) → IfSome o (λ h. IsText (h name))
-found_text None name t found = tt
-found_text (Some h) name None found = rw found tt
-found_text (Some h) name (Some s) found = rw found.0 found.1
 
 some_not_none : (text : List ℕ × List ℕ) → Some text ≡ None → ⊥
 some_not_none text never = cc
@@ -59,16 +52,6 @@ module _ (can_fail : List ℕ → Type 0) (After : Type 0) where
 module _ (can_fail : List ℕ → Type 0) (o : Option Contents) where
   abbrev pub Fails : List (List ℕ) → Type 0
   Fails names = FileFailedOr can_fail o names ⊥
-
-  module _ (all : List (List ℕ)) (names : List (Bor (List ℕ))) (i : ℕ) (name : Bor (List ℕ)) (lt : i < length names) (is : name ≡ get_or names i name) (so : Fails (map name_of (drop i names)) → Fails all) where
-    at_name : Fails (name.now ∷ map name_of (drop (i + 1) names)) → Fails all
-    at_name p = so (subst Fails (sym (names_at names i name lt is)) p)
-
-    pub past_file : {Y : Type 0} (t : Option (String Y)) → IfSome o (λ h. FoundAs t (h name.now)) → Fails (map name_of (drop (i + 1) names)) → Fails all
-    past_file t found p = at_name (inr (found_text o name.now t found, p))
-
-    pub file_failed : (e : Unread) → IfUnread {X = ⊥} (Err e) (can_fail name.now) → IfUnread {X = ⊥} (Err e) (Fails all)
-    file_failed e failed = unread_so e (can_fail name.now) (Fails all) (λ p. at_name (inl p)) failed
 
 -- ---- all texts
 

@@ -10,9 +10,8 @@ use Rattle.engine.specs.declared.transfer.ReadFault.{ReadFault}
 use Rattle.engine.specs.declared.transfer.ReadFault.TheVariants as faults
 use Rattle.engine.specs.Status.{status_of}
 use Rattle.engine.specs.Texts.{no_memory_line}
-use Rattle.engine.specs.ReadFaults.{IfCannotRead}
 use Rattle.engine.specs.Answer.{Answer}
-use Rattle.engine.specs.Report.{Failed, Sends}
+use Rattle.engine.specs.Report.{Sends}
 use Rattle.engine.specs.Engine.{IfAnswered, Performs, Reports, Writes, handed_back}
 
 module _ {M : Type 0} (answer : M → Answer) (Is : M → Type 0) (old new : Option (List ℕ)) where
@@ -34,16 +33,6 @@ module _ {M : Type 0} (answer : M → Answer) (Is : M → Type 0) (old new : Opt
   reports got (Ok m) wrote is = sent got m is wrote
   reports got (Err faults.NoMemory) wrote is = no_memory_sent got wrote
   reports got (Err faults.CannotRead) wrote is = subst (λ s. Reports answer Is old new s) (sym wrote.0) wrote.1
-
-module _ (P Q : Type 0) where
-  -- a command failed only where its preparation or its writing did
-  pub failed_only : {M : Type 0} (got : Status) (made : Result M ReadFault) → Failed got (made ≡ Err faults.CannotRead) Q → IfCannotRead made P → Failed got P Q
-  failed_only statuses.Good made told read = tt
-  failed_only statuses.Refused made told read = tt
-  failed_only statuses.Differs made told read = tt
-  failed_only statuses.NoMemory made told read = tt
-  failed_only statuses.CannotRead made told read = subst (λ r. IfCannotRead r P) told read
-  failed_only statuses.CannotWrite made told read = told
 
 -- ---- what is handed back too
 

@@ -22,9 +22,6 @@ none_sent (Some x) all = ([], refl, sym (append-nil x))
 pub piece_sent : (old now new : Option (List ℕ)) (all left rest piece : List ℕ) → left ≡ piece ++ rest → Appends now new piece → Sent old now all left → Sent old new all rest
 piece_sent old now new all left rest piece e p h = (h.0 ++ piece, h.1 ∙ ap (λ u. h.0 ++ u) e ∙ sym (append_assoc h.0 piece rest), appended old now new h.0 piece h.2 p)
 
-pub all_sent : (old now : Option (List ℕ)) (all left : List ℕ) → left ≡ [] → Sent old now all left → Appends old now all
-all_sent old now all left e h = subst (Appends old now) (sym (h.1 ∙ ap (λ u. h.0 ++ u) e ∙ append-nil h.0)) h.2
-
 begins_piece : (p r : List ℕ) (n : ℕ) → (k : ℕ) × (take k (p ++ r) ≡ take n p)
 begins_piece p r zero = (0, refl)
 begins_piece [] r (suc n) = (0, refl)

@@ -52,13 +52,6 @@ module _ (opened : Opened Progress ℕ) (view : List (Known Progress ℕ Value))
       let w = closes.2.0 in let x = c.4 in let y = d.4 in
       omega (arith, ap length items, w, n, x, y)
 
-  pub followed : (list : numbers.Numbers) (sum : sums.RunningSum) → length slots ≡ 2 → At 0 (Some (TheList list)) slots → At 1 (Some (Sum sum)) slots → (sum.tail ≤ length list.items.items) × (sum.sum ≡ total (take sum.tail list.items.items) % 2 ^ 64)
-  followed list sum long at_list at_sum =
-      let l = there 0 (TheList list) (omega (arith, long)) at_list in
-      let s = there 1 (Sum sum) (omega (arith, long)) at_sum in
-      let low = s.1 in let all = closes.2.1 in let same = ap length l.1 in
-      (omega (arith, low, same, all), s.2 ∙ ap (λ z. total (take sum.tail z) % 2 ^ 64) (sym l.1))
-
 pub first_agree : (slots : List (Option Value)) (list : numbers.Numbers) (sum : sums.RunningSum) → slots ≡ Some (TheList list) ∷ Some (Sum sum) ∷ [] → list.items.items ≡ [] → sum.tail ≡ 0 → sum.sum ≡ 0 → AllAgree sum_rules empty_progress (0 ∷ 0 ∷ []) slots
 first_agree slots list sum is items at zero_sum = subst (λ s. AllAgree sum_rules empty_progress (0 ∷ 0 ∷ []) s) (sym is) both
   where

@@ -7,7 +7,7 @@ use Rattle.ownlock.specs.Knowledge.{MayPut}
 use Rattle.example_sums.specs.declared.kinds.Progress.{Progress}
 use Rattle.example_sums.specs.declared.kinds.Value.{Value}
 use Rattle.example_sums.specs.declared.kinds.Value.TheVariants.{List as TheList, Sum}
-use Rattle.example_sums.specs.Sums.{sum_rules, total, raised, Accounts, AgreesWith, Moves, IsExtended, IsList, IsSum, Follows, CaughtUp, IsTold, moved_progress, items_of, counted, StartsWith, IsAppended}
+use Rattle.example_sums.specs.Sums.{sum_rules, total, raised, Accounts, AgreesWith, Moves, IsExtended, IsList, Follows, CaughtUp, IsTold, moved_progress, items_of, counted, StartsWith, IsAppended}
 use Rattle.example_sums.specs.Laws.{take_front}
 
 abbrev K : Type 0
@@ -25,16 +25,6 @@ outcome (Err e) x y item h = ([], h, refl)
 pub lists : (l : Progress) (ns : List ℕ) (x : Value) → AgreesWith 0 l ns x → IsList x
 lists l ns (TheList x) a = tt
 lists l ns (Sum x) a = a.0 refl
-
-pub extended_list : (x y : Value) (more : List ℕ) → IsExtended x y more → IsList y
-extended_list (TheList x) (TheList y) more g = tt
-extended_list (TheList x) (Sum y) more g = g
-extended_list (Sum x) y more g = absurd g
-
-pub caught_sum : (y z : Value) → CaughtUp y z → IsSum z
-caught_sum (TheList y) (Sum z) c = tt
-caught_sum (TheList y) (TheList z) c = c
-caught_sum (Sum y) z c = absurd c
 
 -- so long is the list then
 pub grown_length : (l : Progress) (ns : List ℕ) (x y : Value) (more : List ℕ) → AgreesWith 0 l ns x → IsExtended x y more → length (items_of y) ≡ length l.items + length more

@@ -46,9 +46,6 @@ module _ (k u : K) (w x : Value) (b : Both k u w x) where
   pub list_at : At 0 (0, x) u.held
   list_at = ap (λ l. get_elem? l 0) b.held
 
-  pub sum_at : At 1 (1, w) u.held
-  sum_at = ap (λ l. get_elem? l 1) b.held
-
   pub is_list : IsList x
   is_list = lists u.progress b.notes x b.list
 

@@ -1,39 +1,24 @@
 -- A manifest, one line after another.
-use Rattle.std.proofs.Common.{◌≡◌, ℕ, Bool, true, ◌&&◌, List, [], ◌∷◌, ◌++◌, length, map, Option, Some, None, refl, sym, ap, subst, ◌∙◌, append_assoc}
-use Rattle.std.specs.Prelude.{not, is_none, codes, MatchOption, if◌then◌else◌, nat_eq, option_map}
-use Rattle.std.specs.Option.{option_or}
-use Rattle.std.specs.List.{starts_with}
+use Rattle.std.proofs.Common.{◌≡◌, ℕ, ◌&&◌, List, [], ◌∷◌, ◌++◌, map, Option, Some, None, refl, sym, ap, subst, ◌∙◌, append_assoc}
+use Rattle.std.specs.Prelude.{not, is_none, MatchOption, option_map}
 use Rattle.std.proofs.lemmas.List.{append-nil}
 use Rattle.text.specs.Lines.{lines_of, next_line}
 use Rattle.maps.specs.declared.shapes.Shape.{Shape}
 use Rattle.maps.specs.declared.shapes.MapLimits.{MapLimits}
-use Rattle.maps.specs.Shapes.{AreLimits, AreShapesWithin}
+use Rattle.maps.specs.Shapes.{AreLimits}
 use Rattle.loader.specs.declared.refusals.LoadFault.{LoadFault}
 use Rattle.loader.specs.declared.refusals.LoadFault.TheVariants.{BadLine}
-use Rattle.loader.specs.Grammar.{ProgramLine, Meaning, Comment, Map, Program, line_meaning}
+use Rattle.loader.specs.Grammar.{ProgramLine, Meaning, Comment, Program, line_meaning}
 use Rattle.loader.specs.ProgramFiles.{Files, files_of}
-use Rattle.explain.proofs.Export.{few_of, nothing_within, taken}
+use Rattle.explain.proofs.Export.{nothing_within, taken}
 use Rattle.explain.specs.Explanation.{IsWithin}
-use Rattle.explain.specs.Manifest.{Above, nothing_above, has_map, map_fault, with_bad_map, with_line, with_shape}
+use Rattle.explain.specs.Manifest.{Above, nothing_above, has_map, map_fault, with_line}
 use Rattle.findings.specs.declared.causes.Finding.{Finding as TheFinding}
 use Rattle.findings.specs.declared.search.Search.{Search}
-use Rattle.findings.specs.Findings.{Finding, finding, finding_if, finding_of, findings, of_line, of_lines, of_map}
+use Rattle.findings.specs.Findings.{Finding, finding, finding_if, finding_of, findings, of_line, of_lines}
 use Rattle.findings.specs.Search.{above_of, name_of, of_named, Adds, TakesLine, TakesMap}
 
 -- ---- what is wrong with a map
-
-abbrev no_fault : Option LoadFault
-no_fault = None
-
-pub takes_map : (l : MapLimits) (a : Above) (s : Shape) → AreLimits l → length a.names ≡ 0 → AreShapesWithin l (a.shapes ++ s ∷ []) → TakesMap l a s (record a { shapes = a.shapes ++ s ∷ [] }) None
-takes_map l a s are none ok =
-    let after : Above = record a { shapes = a.shapes ++ s ∷ [] } in
-    record {
-      taken =
-          subst (λ r. MatchOption r ((no_fault ≡ None) × (after ≡ record a { shapes = a.shapes ++ s ∷ [] })) (λ why. (no_fault ≡ Some why) × (after ≡ a)))
-          (sym (taken l a s none (few_of l _ ok))) (refl, refl);
-      within = record { limits_are = are; each = ok.each; few = few_of l _ ok };
-    }
 
 pub refuses_map : (l : MapLimits) (a : Above) (s : Shape) (why : LoadFault) → IsWithin l a → map_fault l a s ≡ Some why → TakesMap l a s a (Some why)
 refuses_map l a s why within is =
@@ -47,10 +32,6 @@ refuses_map l a s why within is =
 -- nothing is found
 pub adds_none : (old : List TheFinding) (fs : List Finding) → fs ≡ [] → Adds old old fs
 adds_none old fs none = sym (append-nil (map finding_of old)) ∙ ap (λ gs. map finding_of old ++ gs) (sym none)
-
--- what is found is this
-pub adds_so : (old new : List TheFinding) (fs gs : List Finding) → fs ≡ gs → Adds old new fs → Adds old new gs
-adds_so old new fs gs same adds = adds ∙ ap (λ hs. map finding_of old ++ hs) same
 
 pub comment_line : (s : Search) (line : List ℕ) (old : List TheFinding) → IsWithin s.limits (above_of s) → TakesLine s.line line (Some Comment) s s old old
 comment_line s line old within = record { found = adds_none old [] refl; above = refl; within = within; limits = refl; files = refl; name = refl }
@@ -66,57 +47,6 @@ program_line s t p line old new within found above limits files name =
       within = subst (IsWithin s.limits) (sym above) (record { limits_are = within.limits_are; each = within.each; few = within.few });
       limits = limits;
       files = files;
-      name = name;
-    }
-
-pub bad_line : (s t : Search) (line : List ℕ) (old new : List TheFinding) → IsWithin s.limits (above_of s)
-    → t ≡ record s { bad_map = option_or s.bad_map (if starts_with nat_eq line (codes "map") then Some s.line else None) }
-    → Adds old new (finding_if (is_none (name_of t)) (finding t.line None BadLine)) → TakesLine s.line line None s t old new
-bad_line s t line old new within is found =
-    record {
-      found = subst (λ u. Adds old new (finding_if (is_none (name_of u)) (finding u.line None BadLine))) is found;
-      above = ap above_of is;
-      within = subst (λ u. IsWithin s.limits (above_of u)) (sym is) (record { limits_are = within.limits_are; each = within.each; few = within.few });
-      limits = ap (λ u. u.limits) is;
-      files = ap (λ u. u.files) is;
-      name = ap (λ u. u.name) is;
-    }
-
-map_good : (r : Option LoadFault) (all : Bool) (n : ℕ) (s : Shape) (a b : Above)
-    → MatchOption r ((no_fault ≡ None) × (b ≡ record a { shapes = a.shapes ++ s ∷ [] })) (λ why. (no_fault ≡ Some why) × (b ≡ a))
-    → (of_map all n r ≡ []) × (b ≡ with_shape n a s r)
-map_good None all n s a b h = (refl, h.1)
-map_good (Some why) all n s a b h = absurd cc
-
-map_bad : (r : Option LoadFault) (k : LoadFault) (all : Bool) (n : ℕ) (s : Shape) (a b : Above)
-    → MatchOption r ((Some k ≡ None) × (b ≡ record a { shapes = a.shapes ++ s ∷ [] })) (λ why. (Some k ≡ Some why) × (b ≡ a))
-    → (finding_if all (finding n None k) ≡ of_map all n r) × (with_bad_map true n b ≡ with_shape n a s r)
-map_bad None k all n s a b h = absurd cc
-map_bad (Some why) k all n s a b h =
-    let same : k ≡ why = cc in
-    (ap (λ w. finding_if all (finding n None w)) same, ap (λ x. with_bad_map true n x) h.1)
-
-pub map_taken : (s t : Search) (shape : Shape) (line : List ℕ) (old : List TheFinding) → TakesMap s.limits (above_of s) shape (above_of t) None → t ≡ record s { shapes = t.shapes } → TakesLine s.line line (Some (Map shape)) s t old old
-map_taken s t shape line old taken is =
-    let both = map_good (map_fault s.limits (above_of s) shape) (is_none (name_of s)) s.line shape (above_of s) (above_of t) taken.taken in
-    record { found = adds_none old _ both.0; above = both.1; within = taken.within; limits = ap (λ u. u.limits) is; files = ap (λ u. u.files) is; name = ap (λ u. u.name) is }
-
-pub map_refused : (s t u : Search) (shape : Shape) (k : LoadFault) (line : List ℕ) (old new : List TheFinding) → TakesMap s.limits (above_of s) shape (above_of t) (Some k) → t ≡ record s { shapes = t.shapes }
-    → u ≡ record t { bad_map = option_or t.bad_map (Some t.line) } → Adds old new (finding_if (is_none (name_of u)) (finding u.line None k)) → TakesLine s.line line (Some (Map shape)) s u old new
-map_refused s t u shape k line old new taken is noted found =
-    let name : u.name ≡ s.name = ap (λ x. x.name) noted ∙ ap (λ x. x.name) is in
-    let number : u.line ≡ s.line = ap (λ x. x.line) noted ∙ ap (λ x. x.line) is in
-    let here : Adds old new (finding_if (is_none (name_of s)) (finding s.line None k)) =
-    subst (λ n. Adds old new (finding_if (is_none (name_of s)) (finding n None k))) number
-    (subst (λ o. Adds old new (finding_if (is_none o) (finding u.line None k))) (ap (λ o. option_map (λ x. x.now) o) name) found) in
-    let both = map_bad (map_fault s.limits (above_of s) shape) k (is_none (name_of s)) s.line shape (above_of s) (above_of t) taken.taken in
-    let bad : above_of u ≡ with_bad_map true s.line (above_of t) = ap above_of noted ∙ ap (λ n. with_bad_map true n (above_of t)) (ap (λ x. x.line) is) in
-    record {
-      found = adds_so old new _ _ both.0 here;
-      above = bad ∙ both.1;
-      within = subst (IsWithin s.limits) (sym bad) (record { limits_are = taken.within.limits_are; each = taken.within.each; few = taken.within.few });
-      limits = ap (λ x. x.limits) noted ∙ ap (λ x. x.limits) is;
-      files = ap (λ x. x.files) noted ∙ ap (λ x. x.files) is;
       name = name;
     }
 

@@ -8,5 +8,4 @@ pub mod Steps
 pub mod Positions
 pub mod Pass
 pub mod Judged
-mod Examples
 pub mod Export

@@ -453,9 +453,6 @@ wide_imm f g fit fit2 dst o z half s =
       spelled = ap slots form ∙ wide_slots f g 0 _ _ o (sym zero) z (low_of f.imm g.imm fit.imm fit2.imm) half (high_of f.imm g.imm fit.imm fit2.imm);
     }
 
-wide_uses : uses_of 0x18 ≡ Some (uses AnyValue WideSource Unused AnyValue)
-wide_uses = refl
-
 wide_source : (z : ℤ) → list_any (int_eq z) (pos 0 ∷ pos 5 ∷ []) ≡ true → (z ≡ pos 0) ⊎ (z ≡ pos 5)
 wide_source z e = among_ints (λ v. v ≡ z → (z ≡ pos 0) ⊎ (z ≡ pos 5)) z (pos 0 ∷ pos 5 ∷ []) e (λ h. inl (sym h), (λ h. inr (sym h), tt)) refl
 

@@ -74,13 +74,6 @@ module _ (such : ℕ → Type 0) where
 
   -- ---- a reference to a map
 
-  map_at : (maps : Maps) (m : ℕ) (v : MachineValue) → map_of maps (pos m) ≡ Some v → nat_lt m (length maps) ≡ true
-  map_at maps m v e = by (nat_lt m (length maps)) e
-    where
-      by : (b : Bool) → cond b (Some (MapAt m)) None ≡ Some v → b ≡ true
-      by true p = refl
-      by false p = absurd cc
-
   lt_suc : (m n : ℕ) → nat_lt (suc m) (suc n) ≡ nat_lt m n
   lt_suc m n = grind (arith, nat_tests)
 

@@ -17,7 +17,7 @@ use Rattle.maps.specs.Blocks.{keys_at, stored, IsTable}
 use Rattle.maps.specs.Scans.{KeyValue, reach, given, Scans, standing, entry_at, entries_from, KeepsParts}
 use Rattle.maps.proofs.Placed.{Distinct, get_placed, len_placed}
 use Rattle.maps.proofs.Stored.{all_get, distinct, many_places}
-use Rattle.maps.proofs.Written.{whole, written_at, kept_at}
+use Rattle.maps.proofs.Written.{whole, kept_at}
 
 -- ---- parts of a block
 
@@ -44,9 +44,6 @@ over_long n size b w long fits =
 
 pub part_keeps : (n size : ℕ) (b w : List ℕ) → length w ≡ size → n * size + size ≤ length b → KeepsParts size n b (write_over b (n * size) w)
 part_keeps n size b w long fits = record { len = over_long n size b w long fits; others = λ i ne. kept_at b n size w fits long i ne }
-
-pub part_is : (n size : ℕ) (b w : List ℕ) → length w ≡ size → n * size + size ≤ length b → value_in size (write_over b (n * size) w) n ≡ w
-part_is n size b w long fits = written_at b n size w fits long
 
 -- the same, as the code writes it
 pub part_kept : (n s size k : ℕ) (b y : List ℕ) → s ≡ size → k ≡ s → length y ≡ s → n * size + size ≤ length b → KeepsParts size n b (take (n * s) b ++ (y ++ drop k (drop (n * s) b)))
@@ -88,11 +85,6 @@ given_long shape zero k v = refl
 given_long shape (suc n) k v =
     length-append (given shape n k v) ((value_in (key_size shape) k n, value_in (value_size shape) v n) ∷ [])
     ∙ ap (λ m. m + 1) (given_long shape n k v) ∙ (let e : n + 1 ≡ suc n = omega arith in e)
-
-pub one_place_more : (s : Stored) (from place : ℕ) → from ≤ place → entries_from s from (place + 1 - from) ≡ entries_from s from (place - from) ++ entry_at s place
-one_place_more s from place low =
-    ap (entries_from s from) (let e : place + 1 - from ≡ suc (place - from) = omega (arith, low) in e)
-    ∙ ap (λ p. entries_from s from (place - from) ++ entry_at s p) (let e : from + (place - from) ≡ place = omega (arith, low) in e)
 
 -- ---- the entries at places
 

@@ -1,5 +1,5 @@
 -- Maps as they are opened.
-use Rattle.std.proofs.Common.{◌≡◌, ℕ, zero, suc, List, [], ◌∷◌, length, ◌+◌, ◌-◌, ◌*◌, ◌<◌, ◌≤◌, take, drop, None, refl, sym, ap, ◌∙◌, subst, arith}
+use Rattle.std.proofs.Common.{◌≡◌, ℕ, zero, suc, List, [], ◌∷◌, ◌+◌, ◌-◌, ◌*◌, ◌<◌, ◌≤◌, take, drop, None, refl, sym, ap, ◌∙◌, subst, arith}
 use Rattle.std.proofs.Math.Nat.{mul-le-mul_right}
 use Rattle.maps.specs.declared.shapes.Shape.TheVariants.{Array, Hash}
 use Rattle.maps.proofs.Placed.{same_placed, length_index_keys}
@@ -7,10 +7,6 @@ use Rattle.std.specs.Prelude.{replicate}
 use Rattle.maps.specs.declared.shapes.Shape.{Shape}
 use Rattle.maps.specs.Shapes.{AreShapesSupported, block_size, value_size}
 use Rattle.maps.specs.MapSets.{stored_shapes, opened, opening_map, opening_maps, maps_of, placed, value_in, opening_keys, index_keys}
-
-zeros : (n : ℕ) → length {A = ℕ} (replicate n 0) ≡ n
-zeros zero = refl
-zeros (suc n) = ap suc (zeros n)
 
 same_shapes : (shapes : List Shape) → stored_shapes (opened shapes) ≡ shapes
 same_shapes [] = refl

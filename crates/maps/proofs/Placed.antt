@@ -7,9 +7,7 @@ use Rattle.std.specs.FinMap as finite_map
 use Rattle.std.specs.FinMap.{get-insert, get-empty, len-insert, len-empty, same_map, slice_cmp-IsAntisymmetric, nat_cmp-IsAntisymmetric}
 use Rattle.std.proofs.lemmas.Option.{slice_get_within}
 use Rattle.keyindex.specs.Places.{filled}
-use Rattle.maps.specs.declared.shapes.Shape.{Shape}
-use Rattle.maps.specs.declared.shapes.Shape.TheVariants.{Array, Hash}
-use Rattle.maps.specs.Shapes.{entry_count}
+use Rattle.maps.specs.declared.shapes.Shape.TheVariants.{Hash}
 use Rattle.maps.specs.Maps.{index_key}
 use Rattle.maps.specs.MapSets.{placed, index_keys, opening_keys}
 use Rattle.maps.proofs.Keys.{key_ties, key_differs, key_same, index_same}
@@ -147,10 +145,6 @@ index_distinct i (suc n) h = (λ p. index_nowhere (suc i) n i p (omega arith) (o
 none_distinct : (n : ℕ) → Distinct (replicate n None)
 none_distinct zero = tt
 none_distinct (suc n) = none_distinct n
-
-pub opening_distinct : (s : Shape) → entry_count s ≤ 2147483648 → Distinct (opening_keys s)
-opening_distinct (Array value entries) h = index_distinct 0 entries (omega arith)
-opening_distinct (Hash key value entries) h = none_distinct entries
 
 pub none_free : (n p : ℕ) (k : List ℕ) → slice_get (replicate n None) p ≢ Some (Some k)
 none_free zero p k e = absurd cc

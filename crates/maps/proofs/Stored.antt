@@ -54,10 +54,6 @@ pub sizes : (shape : Shape) (index : KeyIndex) → FitsIndex shape (Some index) 
 sizes (Array value entries) index h = absurd h
 sizes (Hash key value entries) index h = h
 
-pub index_size : (shape : Shape) → FitsIndex shape None → key_size shape ≡ 4
-index_size (Array value entries) h = refl
-index_size (Hash key value entries) h = absurd h
-
 pub below : (shape : Shape) (index : Option KeyIndex) (p : ℕ) (k : List ℕ) → FitsIndex shape index → slice_get (keys_at shape index) p ≡ Some (Some k) → p < entry_count shape
 below shape None p k fits e = (index_stands 0 (entry_count shape) p k e).0
 below shape (Some index) p k fits e = let low = (listed_key index p (Some k) e).0 in let many = (sizes shape index fits).places_are in subst (λ n. p < n) many low

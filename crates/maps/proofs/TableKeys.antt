@@ -71,10 +71,6 @@ room_for c m t key at room = λ none.
     let many = len_placed (keys_at t.shape t.index) (value_in (value_size t.shape) t.block.items) 0 (distinct t.shape t.index at.ok.entries.1) in
     (has.0, subst (λ n. n < entry_count t.shape) many has.1)
 
-pub no_hash : (shape : Shape) → FitsIndex shape None → IsHash shape → ⊥
-no_hash (Array value entries) fits is = is
-no_hash (Hash key value entries) fits is = fits
-
 get_set_same : {A : Type 0} (xs : List A) (i : ℕ) (y : A) → i < length xs → slice_get (slice_set xs i y) i ≡ Some y
 get_set_same [] i y h = absurd (omega arith)
 get_set_same (x ∷ xs) zero y h = refl

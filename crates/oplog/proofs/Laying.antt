@@ -4,7 +4,7 @@ use Rattle.std.specs.Prelude.{slice_get, slice_index_or, slice_set, nat_le, Bool
 use Rattle.std.proofs.Math.Nat.{suc-mul}
 use Rattle.std.proofs.lemmas.Option.{none-some, same_Some}
 use Rattle.std.proofs.lemmas.List.{drop-append-le, take-append-le, length-drop, drop-drop, length-take, length-take-le, take-append-drop}
-use Rattle.std.proofs.Math.Seq.{drop-append-add, take-append_seam}
+use Rattle.std.proofs.Math.Seq.{drop-append-add}
 use Rattle.std.proofs.lemmas.Bool.{le-leb, leb-true, leb-false}
 use Rattle.maps.specs.declared.shapes.TheConstants.{MAX_ARG_LEN, MOST_ARG_LEN}
 use Rattle.oplog.specs.declared.long.LongHead.{LongHead}
@@ -40,11 +40,6 @@ pub within_more : (m n : ℕ) (op : LaidOp) → m ≤ n → IsWithin m op → Is
 within_more m n (Short call) le h = h
 within_more m n (Long o) le h = let fits = h.0 in (omega (arith, fits, le), h.1)
 within_more m n (Install new) le h = h
-
-pub next_within : (begin end : ℕ) (op : LaidOp) → IsNext begin op end → IsWithin end op
-next_within begin end (Short call) h = h.1
-next_within begin end (Long o) h = let fits = h.1 in (omega (arith, fits), h.2)
-next_within begin end (Install new) h = h.1
 
 -- ---- bytes are written from a place on
 
@@ -83,15 +78,6 @@ keeps_apart old grown text new begin fits few is (Short call) h apart = refl
 keeps_apart old grown text new begin fits few is (Long o) h apart =
     ap (λ b. long_op o.head (text_in b o)) is ∙ ap (long_op o.head) (apart_text old grown text begin o fits few h.0 apart)
 keeps_apart old grown text new begin fits few is (Install m) h apart = refl
-
--- and is read there
-pub written_there : (xs text : List ℕ) (begin : ℕ) → begin ≤ length xs → take (length text) (drop begin (take begin xs ++ (text ++ drop (begin + length text) xs))) ≡ text
-written_there xs text begin le =
-    let kept : length (take begin xs) ≡ begin = length-take-le begin xs le in
-    let place : begin ≡ length (take begin xs) + 0 = omega (arith, kept) in
-    ap (λ i. take (length text) (drop i (take begin xs ++ (text ++ drop (begin + length text) xs)))) place
-    ∙ ap (take (length text)) (drop-append-add (take begin xs) (text ++ drop (begin + length text) xs) 0)
-    ∙ take-append_seam text (drop (begin + length text) xs)
 
 -- ---- parts
 
@@ -231,16 +217,6 @@ fits_laid long next beside (Long o) e =
     let part = long_few o.head (text_in beside o) in
     omega (arith, few, each, text, part)
 fits_laid long next beside (Install new) e = let none = short_program new.bytes e in omega (arith, none)
-
--- what lies within some bytes has no more than any argument may have
-pub within_fits : (n : ℕ) (beside : List ℕ) (op : LaidOp) → IsWithin n op → FitsIn MOST_ARG_LEN (op_in beside op)
-within_fits n beside (Short call) h = let none = short_part call.argument h in omega (arith, none)
-within_fits n beside (Long o) h =
-    let few = h.1 in
-    let text = text_few beside o in
-    let part = long_few o.head (text_in beside o) in
-    omega (arith, few, text, part)
-within_fits n beside (Install new) h = let none = short_program new.bytes h in omega (arith, none)
 
 pub all_fit : (long : ℕ) (beside : List ℕ) (rows : List Row) (end : ℕ) → AreLaid (each_of long) rows end → AllFit long (records_in beside rows)
 all_fit long beside [] end h k r at = absurd (none-some r at)

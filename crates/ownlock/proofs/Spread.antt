@@ -54,14 +54,6 @@ behind : {A : Type 0} (xs ys : List A) (x : A) → (xs ++ x ∷ []) ++ ys ≡ xs
 behind [] ys x = refl
 behind (z ∷ zs) ys x = ap (λ l. z ∷ l) (behind zs ys x)
 
-pub spread_more : {V : Type 0} (slots rest more all : List (Option V)) (x : Option V) → rest ≡ x ∷ more → slots ++ spread rest ≡ spread all
-    → ((((slots ++ x ∷ []) ++ None ∷ []) ++ None ∷ []) ++ None ∷ []) ++ spread more ≡ spread all
-spread_more slots rest more all x is so =
-    behind (((slots ++ x ∷ []) ++ None ∷ []) ++ None ∷ []) (spread more) None
-    ∙ (behind ((slots ++ x ∷ []) ++ None ∷ []) (None ∷ spread more) None
-    ∙ (behind (slots ++ x ∷ []) (None ∷ None ∷ spread more) None
-    ∙ (behind slots (None ∷ None ∷ None ∷ spread more) x ∙ (ap (λ l. slots ++ spread l) (sym is) ∙ so))))
-
 -- what comes first of values that are spread, and what is left of them
 pub spread_first : {V : Type 0} (xs more : List (Option V)) (x : Option V) → spread xs ≡ x ∷ more → (ys : List (Option V)) × (xs ≡ x ∷ ys) × (more ≡ None ∷ None ∷ None ∷ spread ys)
 spread_first [] more x e = absurd (let no = ap length e in omega (arith, no))

@@ -24,12 +24,6 @@ some_passes p calls a has e = list_any_at p calls has.0 a has.1 (ap p has.2 ∙ 
 
 -- ---- where the calls begin
 
-pub begins_none : (calls : List Timed) (numbers : ℕ) → AreBeginnings calls 0 (replicate numbers (length calls))
-begins_none calls numbers = record {
-  found = λ k d lt. absurd (omega arith);
-  only = λ x d lt within. absurd (let same = get_or-replicate numbers x (length calls) 0 (omega (arith, lt, length-replicate numbers (length calls))) in omega (arith, same, within));
-}
-
 module _ (numbers : ℕ) (calls : List Timed) (good : AreGood numbers calls) where
   pub begins_apart : (j k : ℕ) (d e : Timed) → j < k → k < length calls → (get_or calls j d).begun ≢ (get_or calls k e).begun
   begins_apart j k d e lt within same = good.apart j k d lt within (same ∙ ap (λ (t : Timed). t.begun) (get_or_default calls k e d within))

@@ -2,7 +2,7 @@
 use Rattle.std.proofs.Common.{◌≡◌, ◌≢◌, ℕ, zero, suc, ◌+◌, ◌/◌, ◌%◌, ◌<◌, ◌≤◌, ◌==◌, true, false, List, length, refl, sym, ap, ◌∙◌, inl, inr, ⊎_elim, arith, subst}
 use Rattle.std.specs.Prelude.{◌↔◌, ◌⊎◌, replicate}
 use Rattle.std.specs.Int.{bit_at}
-use Rattle.std.proofs.lemmas.Bool.{cases_eq, cases_lt, and_parts, and_from, false≢true}
+use Rattle.std.proofs.lemmas.Bool.{cases_eq, cases_lt, and_parts, and_from}
 use Rattle.std.proofs.lemmas.Nat.Bits.{bit_at-zero}
 use Rattle.std.proofs.lemmas.List.{get_or-set_same, get_or-set_other, length-set, get_or-replicate, get_or_past, ext_get_or}
 use Rattle.regkind.specs.declared.frames.Kind.{Kind}
@@ -78,9 +78,6 @@ unfolding all_marked
 all_marked_from f at zero each = refl
 all_marked_from f at (suc n) each = and_from _ _ (all_marked_from f at n (λ k from to. each k from (omega arith))) (each (at + n) (omega arith) (omega arith))
 
-pub all_marked-with_marks : (f : Frame) (at n : ℕ) → IsFrame f → at + n ≤ 512 → all_marked (with_marks f at n) at n ≡ true
-all_marked-with_marks f at n frame within = all_marked_from (with_marks f at n) at n (λ k from to. mark-with_marks_inside f at n k frame (omega arith) from to)
-
 -- ---- kinds
 
 pub kind-with_kind_same : (f : Frame) (r : ℕ) (k : Kind) → IsFrame f → r < 11 → kind (with_kind f r k) r ≡ k
@@ -92,11 +89,6 @@ kind-with_kind_other f r s k ne = get_or-set_other f.kinds r s k Unreadable ne
 pub mark-with_kind : (f : Frame) (r : ℕ) (k : Kind) (j : ℕ) → mark (with_kind f r k) j ≡ mark f j
 unfolding mark
 mark-with_kind f r k j = refl
-
-pub all_marked-with_kind : (f : Frame) (r : ℕ) (k : Kind) (at n : ℕ) → all_marked (with_kind f r k) at n ≡ all_marked f at n
-unfolding all_marked
-all_marked-with_kind f r k at zero = refl
-all_marked-with_kind f r k at (suc n) = rw (all_marked-with_kind f r k at n, mark-with_kind f r k (at + n)) refl
 
 pub IsFrame-with_kind : (f : Frame) (r : ℕ) (k : Kind) → IsFrame f → IsFrame (with_kind f r k)
 IsFrame-with_kind f r k frame = record { kinds = length-set f.kinds r k ∙ frame.kinds; cells = frame.cells; each = frame.each }
@@ -124,9 +116,6 @@ pub IsFrame-entry : IsFrame entry_frame
 IsFrame-entry = record { kinds = refl; cells = refl; each = IsFrame-blank.each }
 
 -- ---- what frames have in common
-
-pub covers_kind_refl : (a : Kind) → CoversKind a a
-covers_kind_refl a = inr refl
 
 pub covers_kind_trans : (a b c : Kind) → CoversKind a b → CoversKind b c → CoversKind a c
 covers_kind_trans a b c (inl e) k = inl e
@@ -164,13 +153,6 @@ covers_antisymmetric a b fa fb h g =
     let inside : c < 64 = omega (arith, fa.cells) in
     same_cell (cell a c) (cell b c) (fa.each c) (fb.each c) (cells_from_marks a b c inside h.marks, h.pointers c inside) (cells_from_marks b a c inside g.marks, g.pointers c inside)) in
     ap (λ (x : List Kind). record { kinds = x; cells = a.cells }) kinds ∙ ap (λ (y : List Cell). record { kinds = b.kinds; cells = y }) cells
-
-pub covers_blank : (a : Frame) → Covers blank_frame a
-covers_blank a = record {
-  kinds = λ r lt. inl (get_or-replicate 11 r Unreadable Unreadable lt);
-  marks = λ k lt m. absurd (false≢true (sym (mark-blank k) ∙ m));
-  pointers = λ c lt. subst (λ x. CoversPointer x (cell a c)) (sym (blank_cell c)) tt;
-}
 
 pub covers-with_kind : (a b : Frame) (r : ℕ) (k l : Kind) → IsFrame a → IsFrame b → Covers a b → CoversKind k l → Covers (with_kind a r k) (with_kind b r l)
 covers-with_kind a b r k l fa fb h c = record {
@@ -221,9 +203,6 @@ covers-with_marks a b at n fa fb h = record {
 }
 
 -- ---- cells
-
-pub kind-with_cell : (f : Frame) (c : ℕ) (x : Cell) (r : ℕ) → kind (with_cell f c x) r ≡ kind f r
-kind-with_cell f c x r = refl
 
 pub mark-with_cell_other : (f : Frame) (c : ℕ) (x : Cell) (k : ℕ) → k / 8 ≢ c → mark (with_cell f c x) k ≡ mark f k
 unfolding mark

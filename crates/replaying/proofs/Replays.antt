@@ -44,9 +44,6 @@ module _ (c : CatalogueView) (at : Replayed) (op : Operation) (index reply : ℕ
   away : (index ≡ tail_of old.node.log → ⊥) → eqb index (length at.history) ≡ false
   away other = is_off (eqb index (length at.history)) (λ e. other (eqb-true index (length at.history) e ∙ sym has.placed.count))
 
-  pub update_elsewhere : (new : Replaying) → (index ≡ tail_of old.node.log → ⊥) → IsCompared c (update_agrees c at.history op index reply) (with_update at op) false new
-  update_elsewhere new other = rw (away other) (record { told = refl; goes_on = λ on. absurd (false≢true on) })
-
   pub read_elsewhere : (new : Replaying) → (index ≡ tail_of old.node.log → ⊥) → IsCompared c (read_agrees c at.history op index reply) (record at { reads = next_count at.reads }) false new
   read_elsewhere new other = rw (away other) (record { told = refl; goes_on = λ on. absurd (false≢true on) })
 
@@ -68,15 +65,6 @@ module _ (c : CatalogueView) (at : Replayed) (op : Operation) (index reply : ℕ
           told = sym agrees;
           goes_on = λ on. record { placed = updated_follows MAX_LIMIT c at.history old.node has.placed op new.node o u; reads = reads ∙ has.reads; ended = ended ∙ has.ended };
         }
-
-    -- an update for which the history has no room
-    pub full : HasEnded old.node new.node → IsCompared c (update_agrees c at.history op index reply) (with_update at op) false new
-    full end =
-        let there = on_index in
-        let limit = end.full ∙ has.placed.limit_is in
-        let count = has.placed.count in
-        let none : ltb (length at.history) MAX_LIMIT ≡ false = is_off (ltb (length at.history) MAX_LIMIT) (λ e. let low = ltb-true (length at.history) MAX_LIMIT e in omega (arith, low, limit, count)) in
-        rw (there, none) (record { told = refl; goes_on = λ on. absurd (false≢true on) })
 
     -- a read
     pub queried : (call : Call) (o : Outcome) → op ≡ Run call → run_of Read c call old.node.own.replica.state ≡ Some (effect_of o.steps o.reply old.node.own.replica.state.maps)

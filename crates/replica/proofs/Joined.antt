@@ -2,7 +2,6 @@
 use Rattle.std.proofs.Common.{◌≡◌, ℕ, zero, suc, ◌+◌, ◌-◌, ◌<◌, ◌≤◌, List, [], ◌∷◌, ◌++◌, length, take, Some, slice_get, refl, sym, ap, ◌∙◌, arith, subst, ◌⊎◌, inl, inr}
 use Rattle.std.proofs.lemmas.Bool.{cases_lt}
 use Rattle.std.proofs.lemmas.List.{length-append, take-append-le}
-use Rattle.std.proofs.lemmas.Option.{slice_get_within}
 use Rattle.std.proofs.Math.Seq.{take-append-add}
 use Rattle.loader.specs.CatalogueView.{CatalogueView}
 use Rattle.loader.specs.StoreState.{StoreState}
@@ -25,9 +24,6 @@ get_later (x ∷ xs) ys k = ap (slice_get (x ∷ (xs ++ ys))) (let same : suc (l
 pub after_joined : (c : CatalogueView) (s : StoreState) (xs ys : History) → after store_meaning c s (xs ++ ys) ≡ after store_meaning c (after store_meaning c s xs) ys
 after_joined c s [] ys = refl
 after_joined c s (x ∷ xs) ys = after_joined c (left_by (store_meaning.update c x.op s) s) xs ys
-
-pub updates_first : (c : CatalogueView) (xs ys : History) → AreUpdates c (xs ++ ys) → AreUpdates c xs
-updates_first c xs ys all k r is = all k r (get_first xs ys k (slice_get_within xs k r is) ∙ is)
 
 pub updates_later : (c : CatalogueView) (xs ys : History) → AreUpdates c (xs ++ ys) → AreUpdates c ys
 updates_later c xs ys all k r is = all (length xs + k) r (get_later xs ys k ∙ is)

@@ -123,9 +123,6 @@ module _ (c : CatalogueView) (mode : Mode) (call : TheCall) where
 -- ---- the turn of a line
 
 module _ (limit : ℕ) (c : CatalogueView) (is_whole : IsCatalogue c) (h : History) (updates : AreUpdates c h) where
-  abbrev here : StoreState
-  here = state_of c h
-
   full : (line : ℕ → Effect StoreState → List ℕ) (op : Operation) → limit ≤ length h → submitted limit line c h op ≡ refused h Ended
   full line op most =
       ap (λ b. cond b (record { text = option_map_or (line (length h)) (effect_at store_meaning c h (length h) op) []; history = with_operation h op }) (refused h Ended)) (not_below _ _ most)
@@ -137,9 +134,6 @@ module _ (limit : ℕ) (c : CatalogueView) (is_whole : IsCatalogue c) (h : Histo
       ∙ ap (λ o. record { text = option_map_or (line (length h)) o []; history = with_operation h op }) does
 
   -- ---- refusals
-
-  by_mode : Mode → TheCall → Turn
-  by_mode mode call = asked limit c h mode call
 
   asked_refuses : (mode : Mode) (call : TheCall) (why : StoreRefused) → early_refusal c mode call.program call.argument ≡ Some why → asked limit c h mode call ≡ refused h why
   asked_refuses mode call why e = ap (λ o. option_map_or (refused h) o (performed limit c h (Run call) mode)) e

@@ -32,10 +32,6 @@ use Rattle.schedule.proofs.Runs.{step_keeps}
 
 -- ---- a batch that is run
 
-pub nothing : {A : Type 0} (xs : List A) → length xs ≡ 0 → xs ≡ []
-nothing [] e = refl
-nothing (x ∷ xs) e = absurd (omega arith)
-
 module _ {m : Opening} {g : Log} {node : NodeView} (x : IsOfStore m g node) (b : Written) (is : node.batch ≡ InLog b) (empty : length node.hand.records ≡ 0) where
   wr : WrittenStands m x.history node.replica node.hand b
   wr = subst (λ y. BatchStands m x.history node.replica node.hand y) is x.stands.batch

@@ -16,6 +16,5 @@ pub mod Owned
 pub mod Answers
 pub mod ReadOff
 pub mod OnCalls
-pub mod Installs
 pub mod Unless
 pub mod Export

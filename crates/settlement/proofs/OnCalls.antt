@@ -1,5 +1,5 @@
 -- What calls show of the steps that they take.
-use Rattle.std.proofs.Common.{◌≡◌, ◌≢◌, ℕ, ◌+◌, ◌*◌, ◌≤◌, ◌<◌, List, [], ◌∷◌, ◌++◌, length, map, Option, Some, None, refl, sym, ap, ◌∙◌, arith, subst, append_assoc}
+use Rattle.std.proofs.Common.{◌≡◌, ◌≢◌, ℕ, ◌+◌, ◌*◌, ◌≤◌, ◌<◌, List, [], ◌∷◌, ◌++◌, length, map, Option, Some, None, sym, ap, ◌∙◌, arith, subst, append_assoc}
 use Rattle.std.specs.List.{All}
 use Rattle.schedule.specs.declared.parts.Opening.{Opening}
 use Rattle.schedule.specs.declared.steps.Step.{Step}
@@ -13,7 +13,7 @@ use Rattle.schedule.proofs.Export.{steps_explained}
 use Rattle.settlement.specs.declared.calls.Taken.{Taken}
 use Rattle.settlement.specs.Settling.{before_taken, taken_of, HasTaken, settling, settling_store, IsSettledAt, AnswersAll}
 use Rattle.settlement.proofs.NodeLists.{settling_own}
-use Rattle.settlement.proofs.InTurn.{kept_world, kept_answers, answers_now, all_taken, all_own}
+use Rattle.settlement.proofs.InTurn.{kept_world, kept_answers, all_taken, all_own}
 use Rattle.settlement.proofs.Settled.{settle_alone}
 use Rattle.settlement.proofs.AllNodes.{store_settles, all_few}
 use Rattle.settlement.proofs.Answered.{settled_answers}
@@ -26,25 +26,9 @@ pub record IsOnTheWay (old : WorldState) (steps : List Step) (now : WorldState) 
   pub world : world_of old.opening now.world left ≡ world_of old.opening old.world steps
   pub taken_so_far : taken ++ taken_of old.opening now.world left ≡ taken_of old.opening old.world steps
 
-pub sets_out : (old : WorldState) (steps : List Step) → IsOnTheWay old steps old [] steps
-sets_out old steps = record { opening = refl; world = refl; taken_so_far = refl }
-
-append_nil : {A : Type 0} (xs : List A) → xs ++ [] ≡ xs
-append_nil [] = refl
-append_nil (x ∷ xs) = ap (λ ys. x ∷ ys) (append_nil xs)
-
 module _ (old now new : WorldState) (steps left : List Step) (step : Step) (answer : StepAnswer) (taken : List Taken) (on : IsOnTheWay old steps now taken (step ∷ left)) (takes : Takes (took now.opening now.world step) now new answer) where
   as_old : Takes (took old.opening now.world step) now new answer
   as_old = subst (λ (m : Opening). Takes (took m now.world step) now new answer) on.opening takes
-
-  -- a step that may not be taken
-  pub passes : answer ≡ NotNow → IsOnTheWay old steps new taken left
-  passes not_now = go (took old.opening now.world step) as_old on.world on.taken_so_far
-    where
-      go : (o : Option Took) → Takes o now new answer → world_of old.opening (world_after now.world o) left ≡ world_of old.opening old.world steps
-          → taken ++ before_taken step o (taken_of old.opening (world_after now.world o) left) ≡ taken_of old.opening old.world steps → IsOnTheWay old steps new taken left
-      go None (is, same) w t = subst (λ (s : WorldState). IsOnTheWay old steps s taken left) (sym same) (record { opening = on.opening; world = w; taken_so_far = t })
-      go (Some r) (is, same) w t = absurd (answers_now r.event (sym is ∙ not_now))
 
   -- and one that is taken
   pub goes_on : answer ≢ NotNow → IsOnTheWay old steps new (taken ++ (record { step = step; answer = answer }) ∷ []) left
@@ -63,14 +47,6 @@ module _ (old now new : WorldState) (steps left : List Step) (step : Step) (answ
           })
 
 -- ---- at the end
-
-pub arrives : (old now : WorldState) (steps : List Step) (taken : List Taken) → IsOnTheWay old steps now taken [] → HasTaken old steps taken now
-arrives old now steps taken on =
-    record {
-      world = ap (λ (m : Opening). (let s : WorldState = record { opening = m; world = now.world } in s)) on.opening
-          ∙ ap (λ w. (let s : WorldState = record { opening = old.opening; world = w } in s)) on.world;
-      taken_steps = sym (append_nil taken) ∙ on.taken_so_far;
-    }
 
 pub taken_explained : (old new : WorldState) (steps : List Step) (taken : List Taken) → IsStanding old → HasTaken old steps taken new
     → StepsAreExplained old (map (λ t. t.step) taken) (map (λ t. t.answer) taken) new

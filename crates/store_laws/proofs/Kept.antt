@@ -41,9 +41,6 @@ L = Progress CatalogueView
 
 -- ---- the opening
 
-no_element : {A : Type 0} (i : ℕ) (v : A) → slice_get [] i ≡ Some v → ⊥
-no_element i v e = none-some v e
-
 replicate_get : {A : Type 0} (n : ℕ) (v : A) (i : ℕ) (u : A) → slice_get (replicate n v) i ≡ Some u → v ≡ u
 replicate_get zero v i u e = absurd (none-some u e)
 replicate_get (suc n) v zero u e = same_Some v u e

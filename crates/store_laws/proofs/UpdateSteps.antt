@@ -114,9 +114,6 @@ pub record TakesDesk (p q : ℕ) (x y : DeskView) (xs : List (ShelfStep Value)) 
   pub took_is : took.value ≡ x
   pub put_is : put.value ≡ y
 
-abbrev step_or : ShelfStep Part → List (ShelfStep Part) → ShelfStep Part
-step_or s xs = first_or s xs
-
 abbrev IsTookDesk : ShelfStep Part → Type 0
 IsTookDesk (Took p (ADesk d)) = Unit {0}
 IsTookDesk (Took p (ALog g)) = ⊥

@@ -1,6 +1,6 @@
 -- Calls that go to sessions in turn: each goes to one.
 use Rattle.std.proofs.Common.{◌≡◌, ◌∙◌, ℕ, zero, suc, ◌+◌, ◌-◌, ◌<◌, ◌++◌, List, [], ◌∷◌, refl, sym, ap, subst, arith, append_assoc, append-nil, not-suc-le-zero}
-use Rattle.std.specs.Prelude.{drop, min, length, map}
+use Rattle.std.specs.Prelude.{drop, map}
 use Rattle.std.specs.List.Sorted.{IsPermutation}
 use Rattle.std.proofs.lemmas.List.Sorted.{IsPermutation-refl, IsPermutation-trans, IsPermutation-cons, IsPermutation-append_comm}
 use Rattle.stress.specs.Dealt.{dealt, dealt_from, dealt_to}
@@ -50,12 +50,6 @@ pub drop_map : {X Y : Type 0} (f : X → Y) (k : ℕ) (xs : List X) → drop k (
 drop_map f zero xs = refl
 drop_map f (suc k) [] = refl
 drop_map f (suc k) (x ∷ xs) = drop_map f k xs
-
--- as many as there are at most
-pub drop_most : {X : Type 0} (k : ℕ) (xs : List X) → drop (min k (length xs)) xs ≡ drop k xs
-drop_most zero xs = ap (λ n. drop n xs) (let e : min 0 (length xs) ≡ 0 = omega arith in e)
-drop_most (suc k) [] = ap (λ n. drop n []) (let e : min (suc k) 0 ≡ 0 = omega arith in e)
-drop_most (suc k) (x ∷ xs) = ap (λ n. drop n (x ∷ xs)) (let e : min (suc k) (suc (length xs)) ≡ suc (min k (length xs)) = omega arith in e) ∙ drop_most k xs
 
 -- the calls seen otherwise
 pub one_map : {X Y : Type 0} (f : X → Y) (n skip : ℕ) (cs : List X) → dealt n skip (map f cs) ≡ map f (dealt n skip cs)

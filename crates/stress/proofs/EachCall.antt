@@ -38,12 +38,6 @@ pub record BelongSo {X Y : Type 0} (P : ℕ → X → Y → Type 0) (n : ℕ) (x
   pub each : (j : ℕ) (x : X) (y : Y) → At j x xs → At j y ys → P j x y
 
 module _ {X Y : Type 0} (P : ℕ → X → Y → Type 0) (xs : List X) where
-  pub none_belongs : (ys : List Y) → ys ≡ [] → BelongSo P 0 xs ys
-  none_belongs ys none = record {
-    long = ap length none;
-    each = λ j x y at there. let below = at_below ys j y there in let long = ap length none in absurd (omega (arith, below, long));
-  }
-
   pub one_belongs : (n : ℕ) (ys : List Y) (x : X) (y : Y) → BelongSo P n xs ys → At n x xs → P n x y → BelongSo P (n + 1) xs (ys ++ y ∷ [])
   one_belongs n ys x y h at one = record {
     long = let more = length_push ys y in let long = h.long in omega (arith, more, long);

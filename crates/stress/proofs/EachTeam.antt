@@ -38,9 +38,6 @@ pub record GrownSo {X : Type 0} (n : ℕ) (old now : List (Vec AnsweredCall X)) 
   pub others : (j : ℕ) (u : Vec AnsweredCall X) → n ≤ j → At j u old → At j u now
 
 module _ {X : Type 0} (old : List (Vec AnsweredCall X)) (answers : List AnsweredCall) where
-  pub none_grown : GrownSo 0 old old answers
-  none_grown = record { long = refl; each = λ j u v a below at_u at_v at_a. absurd (omega (arith, below)); others = λ j u low at. at }
-
   pub one_grown : (n : ℕ) (now : List (Vec AnsweredCall X)) (u v : Vec AnsweredCall X) (a : AnsweredCall) → GrownSo n old now answers → length (set now n v) ≡ length now
       → At n u now → At n a answers → v.items ≡ u.items ++ a ∷ [] → GrownSo (n + 1) old (set now n v) answers
   one_grown n now u v a h kept at_u at_a is = record {

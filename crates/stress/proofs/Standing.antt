@@ -1,13 +1,10 @@
 -- Lists by where their elements stand.
-use Rattle.std.proofs.Common.{◌≡◌, ℕ, zero, suc, ◌+◌, ◌<◌, ◌⊎◌, inl, inr, ⊎_elim, List, [], ◌∷◌, ◌++◌, length, take, drop, set, sym, refl, ap, ◌∙◌, subst, arith}
+use Rattle.std.proofs.Common.{◌≡◌, ℕ, zero, suc, ◌+◌, ◌<◌, ◌⊎◌, inl, inr, ⊎_elim, List, [], ◌∷◌, ◌++◌, length, take, drop, set, sym, refl, ap, ◌∙◌, arith}
 use mathlib.Core.Option as kernel
 use Rattle.std.proofs.Math.Seq.{take-append_seam}
 use Rattle.std.specs.Prelude.{slice_index_or}
 use Rattle.ownlock.specs.Seats.{At}
 use Rattle.accounts.proofs.Export.{at_joined, at_none, at_one}
-
-zero_plus : (j : ℕ) → j ≡ 0 + j
-zero_plus j = omega arith
 
 module _ {A : Type 0} where
   pub read : (xs : List A) (i : ℕ) (x : A) → At i x xs → slice_index_or xs i x ≡ x
@@ -31,17 +28,6 @@ module _ {A : Type 0} where
   at_taken (suc n) [] i x at = absurd (at_none i x at)
   at_taken (suc n) (y ∷ ys) zero x at = at
   at_taken (suc n) (y ∷ ys) (suc i) x at = at_taken n ys i x at
-
-  pub at_take : (n : ℕ) (xs : List A) (i : ℕ) (x : A) → i < n → At i x xs → At i x (take n xs)
-  at_take zero xs i x below at = absurd (omega (arith, below))
-  at_take (suc n) [] i x below at = absurd (at_none i x at)
-  at_take (suc n) (y ∷ ys) zero x below at = at
-  at_take (suc n) (y ∷ ys) (suc i) x below at = at_take n ys i x (omega (arith, below)) at
-
-  pub drop_at : (t : ℕ) (xs : List A) (i : ℕ) (x : A) → At (t + i) x xs → At i x (drop t xs)
-  drop_at zero xs i x at = subst (λ z. At z x xs) (sym (zero_plus i)) at
-  drop_at (suc t) [] i x at = absurd (at_none (suc t + i) x at)
-  drop_at (suc t) (y ∷ ys) i x at = drop_at t ys i x (subst (λ z. At z x (y ∷ ys)) (let e : suc t + i ≡ suc (t + i) = omega arith in e) at)
 
   -- behind what stands there
   pub at_dropped : (xs : List A) (i : ℕ) (x : A) → At i x xs → drop i xs ≡ x ∷ drop (suc i) xs

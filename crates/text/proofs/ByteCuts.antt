@@ -1,14 +1,11 @@
 -- Where a byte stands first, and a text cut there.
-use Rattle.std.proofs.Common.{◌≡◌, ℕ, ◌+◌, ◌<◌, ◌≤◌, Bool, true, false, cond, ltb, eqb, List, [], ◌∷◌, ◌++◌, length, get_or, take, drop, Some, None, refl, ap, ap₂, sym, ◌∙◌, arith}
-use Rattle.std.specs.List.{position_or_len, position_from, before_first, after_first}
-use Rattle.std.proofs.lemmas.Bool.{ltb-true, ltb-false, lt-ltb, eqb-true, eqb-false}
-use Rattle.std.proofs.lemmas.List.{get_or-take, length-take-le}
-use Rattle.std.proofs.lemmas.List.Sums.{split_at_first, passes_at_first, fails_before_first}
+use Rattle.std.proofs.Common.{◌≡◌, ℕ, ◌+◌, ◌<◌, Bool, true, false, cond, ltb, eqb, List, length, get_or, take, drop, Some, None, refl, ap, sym, ◌∙◌, arith}
+use Rattle.std.specs.List.{position_or_len, position_from}
+use Rattle.std.proofs.lemmas.Bool.{ltb-true, lt-ltb, eqb-true}
+use Rattle.std.proofs.lemmas.List.Sums.{passes_at_first}
 use Rattle.std.proofs.lemmas.Iterator.Adapters.{position_from-zero}
 use Rattle.text.specs.Fields.{cut_at}
-use Rattle.text.specs.Lines.{lines_of}
 use Rattle.text.proofs.Cuts.{where_true}
-use Rattle.text.proofs.FirstLines.{HasNoFeed, lines_of-cut, lines_of-whole}
 
 abbrev pub is_byte : ℕ → ℕ → Bool
 is_byte wanted b = eqb b wanted
@@ -42,24 +39,3 @@ pub cut_none : (wanted : ℕ) (text : List ℕ) → None ≡ position_from (is_b
 cut_none wanted text e =
     let no = where_none (ltb (position_or_len (is_byte wanted) text) (length text)) (position_or_len (is_byte wanted) text) (e ∙ sym (position_from-zero (is_byte wanted) text)) in
     rw no refl
-
-feedless : (text : List ℕ) (k : ℕ) → k < position_or_len (is_byte 10) text → get_or text k 0 ≡ 10 → ⊥
-feedless text k lt = eqb-false _ _ (fails_before_first (is_byte 10) text k 0 lt)
-
-pub line_some : (text line rest : List ℕ) → Some (line, rest) ≡ cut_at 10 text → lines_of text ≡ line ∷ lines_of rest
-line_some text line rest e =
-    let first = position_or_len (is_byte 10) text in
-    let parts = where_true (ltb first (length text)) (before_first (is_byte 10) text, after_first (is_byte 10) text) (line, rest) (sym e) in
-    let lt : first < length text = ltb-true _ _ parts.0 in
-    let at : get_or text first 0 ≡ 10 = eqb-true _ _ (passes_at_first (is_byte 10) text 0 lt) in
-    let long : length (take first text) ≡ first = length-take-le first text (omega (arith, lt)) in
-    let no : HasNoFeed (take first text) = λ i h. λ is. feedless text i (omega (arith, long, h)) (sym (get_or-take first text i 0 (omega (arith, long, h))) ∙ is) in
-    let whole : text ≡ before_first (is_byte 10) text ++ 10 ∷ after_first (is_byte 10) text =
-    split_at_first (is_byte 10) text 0 lt ∙ ap (λ b. before_first (is_byte 10) text ++ b ∷ after_first (is_byte 10) text) at in
-    ap lines_of whole ∙ (lines_of-cut _ _ no ∙ ap₂ (λ u v. u ∷ lines_of v) (ap (λ y. y.0) parts.1) (ap (λ y. y.1) parts.1))
-
-pub line_none : (text : List ℕ) → 0 < length text → None ≡ cut_at 10 text → lines_of text ≡ text ∷ []
-line_none text nonempty e =
-    let no = where_none (ltb (position_or_len (is_byte 10) text) (length text)) (before_first (is_byte 10) text, after_first (is_byte 10) text) e in
-    let le : length text ≤ position_or_len (is_byte 10) text = ltb-false _ _ no in
-    lines_of-whole text nonempty (λ i h. feedless text i (omega (arith, le, h)))

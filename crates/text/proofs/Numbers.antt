@@ -10,10 +10,6 @@ use Rattle.text.specs.Words.{starts_plain, number_of}
 pub own : IsNumeralModel (λ ds. all_ascii_digits ds ≡ true) (digits_value 10)
 own = numerals_by_value _ tells_all_ascii_digits
 
-pub no_digits_after_plus : (bs : List ℕ) → get_or bs 0 0 ≡ 43 → all_ascii_digits bs ≡ false
-no_digits_after_plus [] e = absurd (omega arith)
-no_digits_after_plus (b ∷ bs) e = rw e refl
-
 by_cases : {E : Type 0} (r : Result ℕ E) (d : Bool) (v n : ℕ) → OkIff r ((d ≡ true) × (0 < n) × (v < 2 ^ 64)) v → 0 < n → result_ok r ≡ cond (d && ltb v (2 ^ 64)) (Some v) None
 by_cases (Ok x) d v n h pos =
     let small : ltb v (2 ^ 64) ≡ true = lt-ltb _ _ h.0.2 in

@@ -7,7 +7,7 @@ use Rattle.std.proofs.lemmas.Bool.Decides.{Decides-int_eq, Decides-eqb}
 use Rattle.regkind.specs.declared.frames.Kind.{Kind}
 use Rattle.regkind.specs.declared.frames.Kind.TheVariants.{Unreadable, Scalar, Stack, Arg, Map, Value, ValueOrNull}
 use Rattle.regkind.specs.Frames.{Frame, IsFrame, Covers, CoversKind, kind}
-use Rattle.regkind.proofs.Export.{kind-with_kind_same, kind-with_kind_other, IsFrame-with_kind, IsFrame-blank, blank_cell, cell-with_cell_same, cell-with_cell_other, IsFrame-with_cell, cells_from_marks, marks_from_cells}
+use Rattle.regkind.proofs.Export.{kind-with_kind_same, kind-with_kind_other, IsFrame-with_kind, IsFrame-blank, cell-with_cell_same, cell-with_cell_other, IsFrame-with_cell, cells_from_marks, marks_from_cells}
 use Rattle.verifier.specs.Joined.{is_same, common_kind, with_common_kinds, common}
 use Rattle.std.proofs.Common.{◌/◌}
 use Rattle.std.specs.Int.RustNames.{bit_and}
@@ -82,11 +82,6 @@ kinds_kind a b (suc q) r le lt = ⊎_elim
     (λ e. subst (λ x. kind (with_common_kinds a b (suc q)) x ≡ common_kind (kind a x) (kind b x)) (sym e) (kind-with_kind_same (with_common_kinds a b q) q _ (kinds_frame a b q) (omega arith)))
     (λ ne. kind-with_kind_other (with_common_kinds a b q) q r _ ne ∙ kinds_kind a b q r (omega arith) (omega arith))
     (cases_eq r q)
-
-kinds_cell : (a b : Frame) (n c : ℕ) → cell (with_common_kinds a b n) c ≡ Marks 0
-unfolding with_common_kinds
-kinds_cell a b zero c = blank_cell c
-kinds_cell a b (suc r) c = kinds_cell a b r c
 
 -- ---- cells
 

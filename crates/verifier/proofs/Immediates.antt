@@ -1,5 +1,5 @@
 -- The rules that arithmetic with an immediate may break: those of a move of a pointer, of a number that is made, or of one that is computed.
-use Rattle.std.proofs.Common.{◌≡◌, ℕ, Bool, true, false, Some, None, refl, sym, ap}
+use Rattle.std.proofs.Common.{◌≡◌, ℕ, Bool, true, false, None, refl, sym}
 use Rattle.std.specs.Prelude.{ℤ}
 use Rattle.std.proofs.lemmas.Bool.{false≢true}
 use Rattle.insn.specs.declared.instruction.Form.TheVariants.{Alu, MovSx, Imm64}
@@ -11,15 +11,6 @@ use Rattle.verifier.specs.Signature.{Signature}
 use Rattle.verifier.specs.Operands.{is_mov}
 use Rattle.insn.specs.Moves.{distance}
 use Rattle.verifier.specs.Rules.{first_broken}
-
--- a move breaks what the addition of its distance breaks
-pub by_moving : (l : Signature) (w64 : Bool) (op : Operation) (dst : ℕ) (imm by : ℤ) (f : Frame) → Some by ≡ distance w64 op (Imm imm) → first_broken l (Alu true Add dst (Imm by)) f ≡ first_broken l (Alu w64 op dst (Imm imm)) f
-by_moving l true Add dst imm by f e = let same : by ≡ imm = cc in ap (λ z. first_broken l (Alu true Add dst (Imm z)) f) same
-by_moving l true Sub dst imm by f e = let same = some_same by _ e in ap (λ z. first_broken l (Alu true Add dst (Imm z)) f) same
-  where
-    some_same : (a b : ℤ) → Some a ≡ Some b → a ≡ b
-    some_same a b e = cc
-by_moving l w64 op dst imm by f e = cc
 
 -- MOV breaks what any making of a number breaks
 pub by_making : (l : Signature) (w64 : Bool) (op : Operation) (dst value : ℕ) (imm : ℤ) (f : Frame) → is_mov op ≡ true → first_broken l (Imm64 dst value) f ≡ first_broken l (Alu w64 op dst (Imm imm)) f

@@ -1,10 +1,9 @@
 -- One visit, in the code's terms.
 use Rattle.std.proofs.Common.{◌≡◌, ℕ, ◌<◌, length, get_or, Option, Some, None, refl, sym, ap, ◌∙◌, inl, inr, subst}
-use Rattle.std.specs.Prelude.{pos, slice_get, ◌↔◌}
+use Rattle.std.specs.Prelude.{slice_get, ◌↔◌}
 use Rattle.std.proofs.lemmas.Option.{slice_get_read}
 use Rattle.std.proofs.Math.ListN.{length-set}
 use Rattle.insn.specs.declared.instruction.Form.{Form}
-use Rattle.insn.specs.Layout.{LeadsTo}
 use Rattle.insn.specs.declared.instruction.Edge.{Edge}
 use Rattle.regkind.specs.Frames.{Frame}
 use Rattle.verifier.specs.Pass.{Table, IsForward, FlowsInto, Follows}
@@ -15,23 +14,6 @@ read_here xs s x f lt e is = slice_get_read xs (length xs) s x refl lt e ∙ ap 
 pub same_length : (i : Form) (s : ℕ) (e : Edge) (f : Frame) (old new : Table) → Follows i s e f old new → length new ≡ length old
 same_length i s e f old new (inl h) = ap length h.2.written ∙ simp length-set refl
 same_length i s e f old new (inr h) = ap length h.1
-
--- the targets that code finds are those that lead forward
-module _ (i : Form) (s : ℕ) (e : Edge) (n : ℕ) (o : Option ℕ) (law : (u : ℕ) → (o ≡ Some u) ↔ LeadsTo i s e (pos u)) where
-  pub found_forward : (to : ℕ) → o ≡ Some to → s < to → to < n → (t : ℕ) → (Some to ≡ Some t) ↔ IsForward i s e t n
-  found_forward to is on inside t = (
-    λ same. let eq : to ≡ t = cc in ((law t).0 (is ∙ same), subst (λ u. s < u) eq on, subst (λ u. u < n) eq inside),
-    λ h. sym is ∙ (law t).1 h.0,
-  )
-
-  pub found_other : (to : ℕ) → o ≡ Some to → (s < to → to < n → ⊥) → (t : ℕ) → (None ≡ Some t) ↔ IsForward i s e t n
-  found_other to is none t = (
-    λ (same : None ≡ Some t). cc,
-    λ h. let eq : t ≡ to = let x = (law t).1 h.0 in cc in absurd (none (subst (λ u. s < u) eq h.1) (subst (λ u. u < n) eq h.2)),
-  )
-
-  pub found_none : o ≡ None → (t : ℕ) → (None ≡ Some t) ↔ IsForward i s e t n
-  found_none is t = (λ (same : None ≡ Some t). cc, λ h. let x = (law t).1 h.0 in cc)
 
 -- a target that was found, and one that wasn't
 pub goes : (i : Form) (s : ℕ) (e : Edge) (f : Frame) (old new : Table) (n : ℕ) (o : Option ℕ) (t : ℕ) → n ≡ length old → ((u : ℕ) → (o ≡ Some u) ↔ IsForward i s e u n) → o ≡ Some t → FlowsInto old new t f → Follows i s e f old new
