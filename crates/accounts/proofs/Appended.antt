@@ -1,13 +1,14 @@
 -- What the log takes keeps the account of all notes.
 use Rattle.std.proofs.Common.{◌≡◌, ◌≢◌, ℕ, ◌+◌, ◌<◌, ◌≤◌, ◌⊎◌, List, ◌++◌, map, length, take, set, sym, refl, ap, ◌∙◌, subst, ⊎_elim, arith, Some, None, length-append}
 use Rattle.std.proofs.lemmas.Bool.{cases_lt}
+use Rattle.std.proofs.lemmas.Option.{same_Some}
 use native.Mathlib.Decide.{ℕ_discrete}
 use Rattle.atomic_table.proofs.Lists.{set_again}
 use Rattle.oplog.specs.History.{Meaning}
 use Rattle.oplog.specs.declared.configuration.Sizes.{Sizes}
 use Rattle.oplog.specs.declared.records.Record.{Record}
 use Rattle.ownlock.specs.Seats.{At}
-use Rattle.accounts.proofs.Keeps.{Batches, IsNew, batch_changes, some_one}
+use Rattle.accounts.proofs.Keeps.{Batches, IsNew, batch_changes}
 use Rattle.accounts.proofs.Lists.{at_behind, at_front, at_joined, at_one}
 use Rattle.accounts.proofs.Moved.{claim_accounts, collect_accounts, post_accounts, reply_accounts, some_none}
 use Rattle.accounts.proofs.Parts.{Alike, alike_on, alike_request, batch_back, placed_back, taken_back, taken_on}
@@ -96,7 +97,7 @@ module _ {C M : Type 0} (E : Meaning C M) where
           )
             where
               here_now : (i : ℕ) → j < k → u.index ≡ Some i → At i u.request (l.history ++ more)
-              here_now i lt e = subst (λ z. At z u.request (l.history ++ more)) (some_one (length l.history + j) i (sym (low lt) ∙ e))
+              here_now i lt e = subst (λ z. At z u.request (l.history ++ more)) (same_Some (length l.history + j) i (sym (low lt) ∙ e))
                   (subst (λ (z : Record). At (length l.history + j) z (l.history ++ more)) (sym same) (at_behind l.history more j t.request (taken_on k n.batch j t at lt)))
 
               missing : k ≤ j → HasNoRecord (l.history ++ more) u.request.author u.request.seq
@@ -132,7 +133,7 @@ module _ {C M : Type 0} (E : Meaning C M) where
       let there : At c told.0 ns = subst (λ z. At z told.0 ns) (sym is) told.1 in
       let same : told.0 ≡ n = at_one ns c told.0 n there here in
       let st : StageAgrees E l ns desk.combiner c n (Answered reply) = subst (λ z. StageAgrees E l ns desk.combiner c n z) stage (subst (λ m. StageAgrees E l ns desk.combiner c m slot.stage) same (subst (λ z. StageAgrees E l ns desk.combiner z told.0 slot.stage) (sym is) told.3)) in
-      let one : st.0 ≡ o = some_one st.0 o (sym st.1 ∙ asked) in
+      let one : st.0 ≡ o = same_Some st.0 o (sym st.1 ∙ asked) in
       (subst (λ (z : Pending). Answers E l c (length n.answered) z.op reply) one st.2, st.3)
 
   desk_accounts : (l : Progress C) (ns : List SessionNote) (c : ℕ) (n n' : SessionNote) (x : DeskView) → Accounts E l ns → At c n ns → DeskAgrees E l ns x → IsSessionOf l.config x.node c → DeskMove E x c l n n' → Accounts E l (set ns c n')

@@ -4,6 +4,7 @@ use Rattle.std.specs.Option.{option_and_then}
 use Rattle.std.specs.List.{list_any}
 use mathlib.Core.Bool.{Bool, true, false, ◌||◌}
 use Rattle.std.proofs.lemmas.Bool.{false≢true}
+use Rattle.std.proofs.lemmas.Option.{same_Some}
 use mathlib.Core.Option as kernel
 use mathlib.Core.Option.{some-injective}
 use Rattle.oplog.specs.Operations.{Operation}
@@ -18,7 +19,6 @@ use Rattle.combiner.specs.Desks.{BatchView, Collection, DeskView, answer_for, an
 use Rattle.accounts.specs.Moves.{unplaced}
 use Rattle.accounts.specs.declared.sessions.Claim.{Claim}
 use Rattle.accounts.proofs.Lists.{at_none, at_of}
-use Rattle.accounts.proofs.Keeps.{some_one}
 use Rattle.accounts.proofs.Moved.{some_none}
 
 plus_zero : (n : ℕ) → n ≡ n + 0
@@ -37,7 +37,7 @@ pub posted_is : (s : ℕ) (op : Operation) (x y : DeskView) → posted s op x �
 posted_is s op x y e = by_slot (slice_get x.slots s) refl e
   where
     by_stage : (slot : Slot) → At s slot x.slots → (st : Stage) → slot.stage ≡ st → (if is_empty st then Some (with_slot x s (record { stage = Posted op; count = slot.count })) else None) ≡ Some y → WasEmpty s op x y
-    by_stage slot at Empty is f = (slot, at, is, sym (some_one _ y f))
+    by_stage slot at Empty is f = (slot, at, is, sym (same_Some _ y f))
     by_stage slot at (Posted other) is f = absurd (some_none y None f refl)
     by_stage slot at Claimed is f = absurd (some_none y None f refl)
     by_stage slot at (Answered reply) is f = absurd (some_none y None f refl)
@@ -92,7 +92,7 @@ pub answer_is : (a : ℕ) (rs : List Record) (answers : List (Option Reply)) (k 
 answer_is a [] answers k r reply at is has one = absurd (at_none k r at)
 answer_is a (q ∷ rs) [] k r reply at is has one = absurd (some_none _ None has refl)
 answer_is a (q ∷ rs) (o ∷ os) zero r reply at is has one =
-    ap (λ b. if b then o else answer_for a rs os) (eq-eqb q.author a (ap (λ (z : Record). z.author) (some-injective q r at) ∙ is)) ∙ some_one o (Some reply) has
+    ap (λ b. if b then o else answer_for a rs os) (eq-eqb q.author a (ap (λ (z : Record). z.author) (some-injective q r at) ∙ is)) ∙ same_Some o (Some reply) has
 answer_is a (q ∷ rs) (o ∷ os) (suc k) r reply at is has one =
     ap (λ b. if b then o else answer_for a rs os) (ne_eqb q.author a (λ e. far (one 0 q refl e))) ∙ answer_is a rs os k r reply at is has (λ j p there e. back j (one (suc j) p there e))
   where
@@ -123,7 +123,7 @@ collected_is s reply x y e = by_slot (slice_get x.slots s) refl e
   where
     by_stage : (slot : Slot) → At s slot x.slots → (st : Stage) → slot.stage ≡ st → option_map (λ r. one_of s x slot r) (answer_in st) ≡ Some (record { reply = reply; desk = y }) → WasAnswered s reply x y
     by_stage slot at (Answered r) is f =
-        let one = some_one (one_of s x slot r) (record { reply = reply; desk = y }) f in let same : r ≡ reply = ap reply_of one in
+        let one = same_Some (one_of s x slot r) (record { reply = reply; desk = y }) f in let same : r ≡ reply = ap reply_of one in
         (slot, at, is ∙ ap Answered same, sym (ap desk_of one) ∙ ap (λ z. with_slot x s (record { stage = Empty; count = counted z slot.count })) same)
     by_stage slot at Empty is f = absurd (some_none _ None f refl)
     by_stage slot at (Posted other) is f = absurd (some_none _ None f refl)

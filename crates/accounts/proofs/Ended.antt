@@ -1,5 +1,6 @@
 -- What a session is told by its desk, and what the history holds in the end.
 use Rattle.std.proofs.Common.{eqb, eq-eqb, ne_eqb, ◌≡◌, ℕ, zero, suc, ◌+◌, ◌<◌, ◌≤◌, List, [], ◌∷◌, length, sym, refl, ap, ◌∙◌, subst, ⊎_elim, arith, None}
+use Rattle.std.proofs.lemmas.Option.{same_Some}
 use mathlib.Core.Bool.{Bool, cond}
 use mathlib.Core.Option.{some-injective}
 use native.Mathlib.Decide.{ℕ_discrete}
@@ -7,7 +8,6 @@ use Rattle.oplog.specs.History.{Meaning}
 use Rattle.oplog.specs.declared.records.Record.{Record}
 use Rattle.ownlock.specs.Seats.{At}
 use Rattle.accounts.proofs.Appended.{collected}
-use Rattle.accounts.proofs.Keeps.{some_one}
 use Rattle.accounts.proofs.Lists.{at_below, at_none, at_one}
 use Rattle.accounts.proofs.Moved.{one_place, some_none}
 use Rattle.accounts.specs.Agreement.{Answers}
@@ -117,7 +117,7 @@ module _ {C M : Type 0} (E : Meaning C M) where
       seen i there =
           let t = w.accounted i _ there in let same : t.0 ≡ n = at_one ns c t.0 n t.1 here in
           ⊎_elim (λ h. let b = at_below n.answered (length n.answered) _ (subst (λ (z : SessionNote). At (length n.answered) (record { index = i; op = o.op; reply = h.0 }) z.answered) same h.1) in absurd (omega (arith, b)))
-          (λ h. subst (λ (z : Pending). z.seen ≤ i) (some_one h.0 o (sym h.1 ∙ (ap (λ (z : SessionNote). z.pending) same ∙ asked))) h.4) t.2
+          (λ h. subst (λ (z : Pending). z.seen ≤ i) (same_Some h.0 o (sym h.1 ∙ (ap (λ (z : SessionNote). z.pending) same ∙ asked))) h.4) t.2
 
       tell : (r : Reply) → Answers E l c (length n.answered) o.op r → Tells E l c (length n.answered) o r
       tell (Placed i reply) h = (seen i h.1, h)

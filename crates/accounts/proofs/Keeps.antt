@@ -1,6 +1,5 @@
 -- What keeps the account of all notes.
 use Rattle.std.proofs.Common.{◌≡◌, ◌≢◌, ℕ, ◌+◌, ◌<◌, ◌≤◌, List, ◌++◌, length, set, sym, ap, ◌∙◌, subst, inr, ⊎_elim, arith, length-append, Some}
-use Rattle.std.specs.Option.{unwrap_or}
 use native.Mathlib.Decide.{ℕ_discrete}
 use Rattle.oplog.specs.History.{Meaning}
 use Rattle.oplog.specs.declared.records.Record.{Record}
@@ -14,9 +13,6 @@ use Rattle.accounts.specs.declared.sessions.Claim.{Claim}
 use Rattle.accounts.specs.declared.sessions.Pending.{Pending}
 use Rattle.accounts.specs.declared.sessions.Progress.{Progress}
 use Rattle.accounts.specs.declared.sessions.SessionNote.{SessionNote}
-
-pub some_one : {A : Type 0} (a b : A) → Some a ≡ Some b → a ≡ b
-some_one a b e = ap (λ o. unwrap_or o a) e
 
 module _ {C M : Type 0} (E : Meaning C M) where
   -- a request that has no record yet has the highest number of its session

@@ -1,13 +1,14 @@
 -- Each move keeps the account of all notes.
 use Rattle.std.proofs.Common.{◌≡◌, ◌≢◌, ℕ, zero, suc, ◌+◌, ◌≤◌, ◌⊎◌, List, [], ◌∷◌, ◌++◌, length, set, sym, refl, ap, ◌∙◌, subst, inl, inr, ⊎_elim, arith, append-nil, Option, Some, None}
 use Rattle.std.proofs.lemmas.Bool.{cases_lt}
+use Rattle.std.proofs.lemmas.Option.{same_Some}
 use mathlib.Core.Option.{some-injective}
 use native.Mathlib.Decide.{ℕ_discrete}
 use Rattle.oplog.specs.History.{Meaning, reply_at}
 use Rattle.oplog.specs.Operations.{Operation}
 use Rattle.oplog.specs.declared.records.Record.{Record}
 use Rattle.ownlock.specs.Seats.{At}
-use Rattle.accounts.proofs.Keeps.{Batches, IsNew, batch_changes, request_changes, some_one}
+use Rattle.accounts.proofs.Keeps.{Batches, IsNew, batch_changes, request_changes}
 use Rattle.accounts.proofs.Lists.{at_behind, at_below, at_front, at_joined, at_none, at_one}
 use Rattle.accounts.proofs.Parts.{Alike, alike_on, alike_request, batch_back, posted_back, posted_once, author_is}
 use Rattle.oplog.specs.Sessions.{IsSessionOf, session}
@@ -71,7 +72,7 @@ module _ {C M : Type 0} (E : Meaning C M) where
     pub post_accounts : (o : Pending) → n.pending ≡ None → IsAllowed E l.catalogue o.op → o.seen ≤ length l.history → Accounts E l (set ns c (record n { pending = Some o }))
     post_accounts o idle may seen = request_changes E l l ns c n (record n { pending = Some o }) w here refl (unclaimed_idle idle) accounted
         (λ q u h. w.answered c n q u here h)
-        (λ o2 e. let same = some_one o o2 e in subst (λ (z : Pending). IsAllowed E l.catalogue z.op × (z.seen ≤ length l.history)) same (may, seen))
+        (λ o2 e. let same = same_Some o o2 e in subst (λ (z : Pending). IsAllowed E l.catalogue z.op × (z.seen ≤ length l.history)) same (may, seen))
       where
         accounted : (i : ℕ) (r : Record) → At i r l.history → r.author ≡ c → IsNoted n i r → IsNoted (record n { pending = Some o }) i r
         accounted i r at e (inl h) = inl h
@@ -85,7 +86,7 @@ module _ {C M : Type 0} (E : Meaning C M) where
         accounted : (j : ℕ) (r : Record) → At j r l.history → r.author ≡ c → IsNoted n j r → IsNoted (answered_with n o.op (Placed i reply)) j r
         accounted j r at e (inl h) = inl (h.0, at_front n.answered _ r.seq _ h.1)
         accounted j r at e (inr h) =
-            let same : h.0 ≡ o = some_one h.0 o (sym h.1 ∙ asked) in
+            let same : h.0 ≡ o = same_Some h.0 o (sym h.1 ∙ asked) in
             let place : j ≡ i = one_place l ns w j i r _ at there e h.3 in
             let it : At (length n.answered + 0) (updated i o reply) (n.answered ++ updated i o reply ∷ []) = at_behind n.answered (updated i o reply ∷ []) 0 (updated i o reply) refl in
             inl (

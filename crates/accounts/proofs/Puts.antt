@@ -1,6 +1,7 @@
 -- What is put back at a desk agrees.
 use Rattle.std.proofs.Common.{length-set, ◌≡◌, ◌≢◌, ℕ, zero, suc, ◌+◌, ◌*◌, ◌<◌, ◌≤◌, List, [], ◌∷◌, map, length, set, sym, refl, ap, ◌∙◌, subst, inr, ⊎_elim, arith, length-append, Some, None, slice_get}
 use Rattle.std.proofs.lemmas.List.{length-map}
+use Rattle.std.proofs.lemmas.Option.{same_Some}
 use mathlib.Core.Option.{some-injective}
 use native.Mathlib.Decide.{ℕ_discrete}
 use Rattle.atomic_table.proofs.Lists.{at_set}
@@ -9,7 +10,6 @@ use Rattle.oplog.specs.Operations.{Operation}
 use Rattle.oplog.specs.declared.configuration.Sizes.{Sizes}
 use Rattle.oplog.specs.declared.records.Record.{Record}
 use Rattle.ownlock.specs.Seats.{At}
-use Rattle.accounts.proofs.Keeps.{some_one}
 use Rattle.accounts.proofs.Lists.{at_below, at_none, at_one, one_node}
 use Rattle.accounts.proofs.Moved.{some_none}
 use Rattle.accounts.proofs.Others.{Undisturbed, same_progress, slot_stays}
@@ -271,7 +271,7 @@ module _ {C M : Type 0} (E : Meaning C M) where
             let at : At h.2.0 h.2.1 n.batch = subst (λ (z : SessionNote). At h.2.0 h.2.1 z.batch) (at_one ns c by.0 n by.1 here) by.2 in
             let r = w.requested c h.2.0 h.2.1 by in
             let note : r.0 ≡ m = at_one ns a r.0 m (subst (λ z. At z r.0 ns) h.2.3 r.1) there in
-            let asked : r.2.0 ≡ h.0 = some_one r.2.0 h.0 (sym r.2.1 ∙ (ap (λ (z : SessionNote). z.pending) note ∙ h.1)) in
+            let asked : r.2.0 ≡ h.0 = same_Some r.2.0 h.0 (sym r.2.1 ∙ (ap (λ (z : SessionNote). z.pending) note ∙ h.1)) in
             let is : h.2.1.request ≡ record { author = a; seq = length o.answered; op = h.0.op } =
             λ k. record { author = h.2.3 k; seq = (r.2.3 ∙ (ap (λ (z : SessionNote). length z.answered) note ∙ ap length same_as.answered)) k; op = (r.2.2 ∙ ap (λ (z : Pending). z.op) asked) k } in
             let g = gives h.2.0 h.2.1 at in

@@ -2,7 +2,7 @@
 use Rattle.std.proofs.Common.{◌≡◌, ℕ, ◌<◌, Bool, true, false, not, cond, ◌&&◌, ltb, eqb, List, [], ◌∷◌, ◌++◌, length, take, drop, Result, Ok, refl, ap, ◌∙◌, arith}
 use Rattle.std.specs.List.{list_all, position_or_len}
 use Rattle.std.proofs.lemmas.Bool.Decides.{nat_tests}
-use Rattle.std.proofs.lemmas.Bool.{false≢true, and_parts}
+use Rattle.std.proofs.lemmas.Bool.{and_parts, not-true}
 use Rattle.asm.specs.declared.tokens.Stop.{Stop}
 use Rattle.asm.specs.declared.tokens.Stop.TheVariants.{LineFeed, Semicolon, Visible, TokenEnd, Colon}
 use Rattle.asm.specs.declared.refusals.AsmFault.{AsmFault}
@@ -33,10 +33,6 @@ list_all-append p (x ∷ xs) ys h k = let both = and_parts (p x) (list_all p xs)
 pub list_all-weaken : (p q : ℕ → Bool) → ((c : ℕ) → p c ≡ true → q c ≡ true) → (xs : List ℕ) → list_all p xs ≡ true → list_all q xs ≡ true
 list_all-weaken p q f [] h = refl
 list_all-weaken p q f (x ∷ xs) h = let both = and_parts (p x) (list_all p xs) h in rw (f x both.0) (list_all-weaken p q f xs both.1)
-
-pub not-true : (b : Bool) → not b ≡ true → b ≡ false
-not-true true e = absurd (false≢true e)
-not-true false e = refl
 
 length-before : (stop : Stop) (xs ys : List ℕ) → passes stop xs → ends stop ys ≡ true → position_or_len (stops stop) (xs ++ ys) ≡ length xs
 length-before stop [] [] h e = refl

@@ -6,11 +6,12 @@ use Rattle.std.specs.List.{list_all}
 use Rattle.std.specs.Str.{bytes_eq}
 use Rattle.std.specs.Str.Parse.{AllDigits}
 use Rattle.std.specs.Char.{digit_value}
-use Rattle.std.proofs.lemmas.Bool.{lt-ltb, le-ltb, le-leb, ne_eqb, cases_lt}
+use Rattle.std.proofs.lemmas.Bool.{lt-ltb, le-ltb, le-leb, ne_eqb, cases_lt, and_left}
 use Rattle.std.proofs.lemmas.List.{length-append}
 use Rattle.std.proofs.Math.Seq.{get_or-append_seam}
 use Rattle.std.proofs.lemmas.Fmt.{decimal_digit, decimal_step, decimal_is_IsNumeral}
 use Rattle.std.proofs.lemmas.Str.Parse.{digit_from_value}
+use mathlib.Core.Bool.{and-false}
 use Rattle.insn.specs.declared.instruction.Source.{Source}
 use Rattle.insn.specs.declared.instruction.Source.TheVariants as sources
 use Rattle.insn.specs.Encoding.{IsSource}
@@ -107,10 +108,6 @@ target-with_sign (negsuc n) h = ap (result_map (λ d. By (neg_ℤ d))) (magnitud
 
 -- ---- registers
 
-and-false : (b : Bool) → (b && false) ≡ false
-and-false true = refl
-and-false false = refl
-
 decimal_ten : decimal 10 ≡ codes "10"
 decimal_ten = decimal_step 10 (lit≤ tt) (lit< tt) ∙ ap (λ ds. ds ++ (48 ∷ [])) (decimal_digit 1 (lit< tt))
 
@@ -138,13 +135,10 @@ second_false : (a b d : Bool) → b ≡ false → (((a && b) && d) ≡ false)
 second_false true b d e = rw e refl
 second_false false b d e = refl
 
-and-no : (a b : Bool) → a ≡ false → (a && b) ≡ false
-and-no a b e = rw e refl
-
 pub not_r : (token : List ℕ) → eqb (get_or token 0 0) 114 ≡ false → register_of token ≡ Err BadOperand
 unfolding register_of
 not_r token e =
-    rw (not_r10 token e, and-no _ (leb (get_or token 1 0) 57) (second_false (eqb (length token) 2) (eqb (get_or token 0 0) 114) (leb 48 (get_or token 1 0)) e)) refl
+    rw (not_r10 token e, and_left _ (leb (get_or token 1 0) 57) (second_false (eqb (length token) 2) (eqb (get_or token 0 0) 114) (leb 48 (get_or token 1 0)) e)) refl
 
 first_of_signed : (z : ℤ) → IsSmall z → eqb (get_or (signed_decimal z) 0 0) 114 ≡ false
 first_of_signed (pos n) h = not_at (decimal n) 0 114 (decimal_is_IsNumeral n h).0.1 (λ e. absurd (omega (arith, e))) (λ low high. omega (arith, high))

@@ -3,7 +3,7 @@ use Rattle.std.proofs.Common.{◌≡◌, inl, inr, ℕ, ◌+◌, ◌-◌, ◌^�
 use Rattle.std.specs.List.{list_all, flat_map, AllByRecursion}
 use Rattle.std.specs.Fmt.{decimal, signed_decimal}
 use Rattle.std.specs.Ordering.{int_eq}
-use Rattle.std.proofs.lemmas.Bool.{le-ltb, le-leb, ne_eqb, and_parts}
+use Rattle.std.proofs.lemmas.Bool.{le-ltb, le-leb, ne_eqb, and_parts, not-true}
 use Rattle.std.proofs.lemmas.List.{append-nil, length-append}
 use Rattle.insn.specs.declared.instruction.TheConstants.{MAX_SLOTS}
 use Rattle.insn.specs.declared.instruction.Source.TheVariants as sources
@@ -22,7 +22,7 @@ use Rattle.asm.specs.Text.{mnemonic, register, source, with_sign, address, opera
 use Rattle.asm.specs.Assembled.{word_of_line, instruction_of, assembled_from, assembled}
 use Rattle.asm.specs.Laws.{IsReadBack}
 use Rattle.asm.proofs.Table.{word_is_read}
-use Rattle.asm.proofs.Parts.{is_plain, IsToken, passes, ends, list_all-append, not-true, before-cut, rest-cut, no_feed, no_semicolon, no_end, no_colon, is_visible, no_operand, one_operand, two_operands, three_operands}
+use Rattle.asm.proofs.Parts.{is_plain, IsToken, passes, ends, list_all-append, before-cut, rest-cut, no_feed, no_semicolon, no_end, no_colon, is_visible, no_operand, one_operand, two_operands, three_operands}
 use Rattle.asm.proofs.PlainWords.{word-token}
 use Rattle.asm.proofs.ReadBack.{register-register, source-source, written-form, number-decimal, number-signed_decimal, target-with_sign, address-address, imm-fits, off-fits, near-fits, far-fits, small_16, small_32, decimal-token, register-token, signed-token, with_sign-token, source-token, address-token}
 

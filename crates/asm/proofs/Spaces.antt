@@ -1,10 +1,9 @@
 -- White space and comments say nothing: what a line says is known from its tokens.
-use Rattle.std.proofs.Common.{◌≡◌, ◌⊎◌, inl, inr, ⊎_elim, ℕ, suc, ◌+◌, Bool, true, false, not, cond, ◌&&◌, ◌||◌, ltb, eqb, List, [], ◌∷◌, ◌++◌, length, map, get_or, take, drop, Option, Some, None, Result, Ok, Err, refl, sym, ap, ◌∙◌, subst, arith, append_assoc}
+use Rattle.std.proofs.Common.{◌≡◌, ◌⊎◌, inl, inr, ℕ, suc, ◌+◌, Bool, true, false, not, cond, ◌&&◌, ◌||◌, ltb, eqb, List, [], ◌∷◌, ◌++◌, length, map, get_or, take, drop, Option, Some, None, Result, Ok, Err, refl, sym, ap, ◌∙◌, subst, arith, append_assoc}
 use mathlib.Core.Path.{fun_ext}
 use Rattle.std.specs.List.{prefix_len}
 use Rattle.std.specs.Option.{ok_or, option_or}
-use Rattle.std.proofs.lemmas.Bool.Decides.{eqb_tells}
-use Rattle.std.proofs.lemmas.Bool.{false≢true, lt-ltb, ne_eqb}
+use Rattle.std.proofs.lemmas.Bool.{false≢true, lt-ltb, ne_eqb, eqb-true}
 use Rattle.std.proofs.lemmas.List.{append-nil}
 use Rattle.insn.specs.declared.instruction.Form.{Form}
 use Rattle.insn.specs.declared.instruction.TheConstants.{MAX_SLOTS}
@@ -69,9 +68,6 @@ to_end token (c ∷ cs) = by (is_blank c) (eqb c 44) refl refl (to_end (token ++
 
 -- ---- how a text begins
 
-pub eqb_is : (a b : ℕ) → eqb a b ≡ true → a ≡ b
-eqb_is a b e = ⊎_elim (λ t. t.1) (λ t. absurd (false≢true (sym t.0 ∙ e))) (eqb_tells a b)
-
 pub record IsEmpty (text : List ℕ) : Type 0 where
   pub visible : rest_from Visible text ≡ []
   pub are : tokens text ≡ []
@@ -108,7 +104,7 @@ begins (c ∷ cs) = by (is_blank c) (eqb c 44) refl refl (begins cs)
     by : (b k : Bool) → is_blank c ≡ b → eqb c 44 ≡ k → Begins cs → Begins (c ∷ cs)
     by true k e f rest = behind_blank (c ∷ cs) cs (goes_on Visible c cs (rw e refl)).1 (rw e refl) rest
     by false true e f rest =
-        let is : c ≡ 44 = eqb_is c 44 f in
+        let is : c ≡ 44 = eqb-true c 44 f in
         inr (inl (record { behind = cs; visible = (ends_here Visible c cs (rw e refl)).1 ∙ ap (λ d. d ∷ cs) is; are = rw (e, f) refl }))
     by false false e f rest =
         let at = goes_on TokenEnd c cs (rw (e, f) refl) in

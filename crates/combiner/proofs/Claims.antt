@@ -1,10 +1,10 @@
 -- Claiming slot by slot.
-use Rattle.std.proofs.Common.{◌≡◌, ℕ, zero, suc, ◌+◌, ◌*◌, ◌<◌, ◌≤◌, List, [], ◌∷◌, ◌++◌, length, map, Bool, true, false, ◌||◌, Option, Some, None, refl, sym, ap, ap₂, ◌∙◌, subst, arith}
+use Rattle.std.proofs.Common.{◌≡◌, ℕ, zero, suc, ◌+◌, ◌*◌, ◌<◌, ◌≤◌, List, [], ◌∷◌, ◌++◌, length, map, false, Option, Some, None, refl, sym, ap, ap₂, ◌∙◌, subst, arith}
 use Rattle.std.specs.Prelude.{slice_get, slice_set}
 use Rattle.std.specs.List.{list_any}
 use Rattle.std.proofs.lemmas.Option.{none-some, same_Some}
 use Rattle.std.proofs.lemmas.List.{map-append}
-use Rattle.std.proofs.lemmas.Bool.{false≢true}
+use Rattle.std.proofs.lemmas.Bool.{false≢true, or_parts}
 use Rattle.oplog.specs.declared.records.Record.{Record}
 use Rattle.combiner.specs.declared.slots.Stage.{Stage}
 use Rattle.combiner.specs.declared.slots.Stage.TheVariants.{Empty, Posted, Claimed, Answered}
@@ -147,10 +147,6 @@ batch_whole old b n all records answers =
 
 -- ---- all turns that are left would find nothing
 
-pub neither : (b any : Bool) → (b || any) ≡ false → (b ≡ false) × (any ≡ false)
-neither true any h = absurd (false≢true (sym h))
-neither false any h = (refl, h)
-
 quiet_slot : (stage : Stage) (count : ℕ) → is_posted stage ≡ false → slot stage count ≡ claimed_slot (slot stage count)
 quiet_slot Empty count h = refl
 quiet_slot (Posted op) count h = absurd (false≢true (sym h))
@@ -166,21 +162,21 @@ quiet_request a count (Answered reply) rs h = refl
 claimed_early : (n : ℕ) (xs : List Slot) → list_any (λ x. is_posted x.stage) (claimed_up_to n xs) ≡ false → claimed_up_to n xs ≡ map claimed_slot xs
 claimed_early zero [] none = refl
 claimed_early zero (x ∷ xs) none =
-    let each = neither (is_posted x.stage) (list_any (λ y. is_posted y.stage) xs) none in
+    let each = or_parts (is_posted x.stage) (list_any (λ y. is_posted y.stage) xs) none in
     ap₂ (λ y ys. y ∷ ys) (quiet_slot x.stage x.count each.0) (claimed_early zero xs each.1)
 claimed_early (suc n) [] none = refl
 claimed_early (suc n) (x ∷ xs) none =
-    let each = neither (is_posted (claimed_slot x).stage) (list_any (λ y. is_posted y.stage) (claimed_up_to n xs)) none in
+    let each = or_parts (is_posted (claimed_slot x).stage) (list_any (λ y. is_posted y.stage) (claimed_up_to n xs)) none in
     ap (λ zs. claimed_slot x ∷ zs) (claimed_early n xs each.1)
 
 requests_early : (a n : ℕ) (xs : List Slot) → list_any (λ x. is_posted x.stage) (claimed_up_to n xs) ≡ false → requests_up_to a n xs ≡ requests_from a xs
 requests_early a zero [] none = refl
 requests_early a zero (x ∷ xs) none =
-    let each = neither (is_posted x.stage) (list_any (λ y. is_posted y.stage) xs) none in
+    let each = or_parts (is_posted x.stage) (list_any (λ y. is_posted y.stage) xs) none in
     requests_early (suc a) zero xs each.1 ∙ quiet_request a x.count x.stage (requests_from (suc a) xs) each.0
 requests_early a (suc n) [] none = refl
 requests_early a (suc n) (x ∷ xs) none =
-    let each = neither (is_posted (claimed_slot x).stage) (list_any (λ y. is_posted y.stage) (claimed_up_to n xs)) none in
+    let each = or_parts (is_posted (claimed_slot x).stage) (list_any (λ y. is_posted y.stage) (claimed_up_to n xs)) none in
     ap (requested a x.count x.stage) (requests_early (suc a) n xs each.1)
 
 pub claimed_then : (old now : DeskView) (n : ℕ) → now ≡ claimed_to n old → has_request now ≡ false → now ≡ claimed old

@@ -4,7 +4,7 @@ use Rattle.std.specs.Prelude.{slice_get, slice_set}
 use Rattle.std.specs.List.{list_any}
 use Rattle.std.proofs.lemmas.Option.{none-some, same_Some}
 use Rattle.std.proofs.lemmas.List.{length-map}
-use Rattle.std.proofs.lemmas.Bool.{false≢true}
+use Rattle.std.proofs.lemmas.Bool.{false≢true, or_parts}
 use Rattle.std.proofs.lemmas.Bool.Decides.{eqb_tells}
 use Rattle.oplog.specs.declared.records.Record.{Record}
 use Rattle.combiner.specs.declared.slots.Reply.{Reply}
@@ -14,7 +14,7 @@ use Rattle.combiner.specs.declared.slots.Slot.{Slot}
 use Rattle.combiner.specs.Slots.{slot, is_claimed, answered_slot}
 use Rattle.combiner.specs.Desks.{DeskView, BatchView, first_author, with_slot, has_combiner, claimed_from, answer_for, answered_from, replied, IsBatchOf, IsAnswered}
 use Rattle.combiner.specs.Answering.{answer_no, uses, behind, used_by, answered_up_to, answered_to}
-use Rattle.combiner.proofs.Claims.{some_at, neither}
+use Rattle.combiner.proofs.Claims.{some_at}
 
 abbrev desk_of : ℕ → List Slot → DeskView
 desk_of node xs = record { node = node; slots = xs }
@@ -198,14 +198,14 @@ answered_early : (n : ℕ) (answers : List (Option Reply)) (xs : List Slot) → 
     → answered_up_to n answers xs ≡ answered_up_to (length xs) answers xs
 answered_early zero answers [] none = refl
 answered_early zero answers (x ∷ xs) none =
-    let each = neither (is_claimed x.stage) (list_any (λ y. is_claimed y.stage) xs) none in
+    let each = or_parts (is_claimed x.stage) (list_any (λ y. is_claimed y.stage) xs) none in
     ap₂ (λ y ys. y ∷ ys) (quiet_slot (answer_no 0 answers) x.stage x.count each.0)
     (answered_early zero answers xs each.1 ∙ ap (λ others. answered_up_to (length xs) others xs) (quiet_behind x.stage answers each.0))
 answered_early (suc n) answers [] none = refl
 answered_early (suc n) answers (x ∷ xs) none =
     let first : Slot = answered_slot (answer_no 0 answers) x in
     let others : List (Option Reply) = behind x.stage answers in
-    let each = neither (is_claimed first.stage) (list_any (λ y. is_claimed y.stage) (answered_up_to n others xs)) none in
+    let each = or_parts (is_claimed first.stage) (list_any (λ y. is_claimed y.stage) (answered_up_to n others xs)) none in
     ap (λ zs. first ∷ zs) (answered_early n others xs each.1)
 
 pub replied_then : (old now : DeskView) (b : BatchView) (n : ℕ) → now ≡ answered_to n b.answers old → has_combiner now ≡ false → IsBatchOf old b → IsAnswered b → now ≡ replied b old

@@ -1,14 +1,15 @@
 -- What is known of an entry that is listed.
 use Rattle.std.proofs.Common.{◌≡◌, inl, inr, ℕ, zero, suc, ◌+◌, ◌<◌, ◌≤◌, T, Bool, true, false, cond, eqb, List, [], ◌∷◌, ◌++◌, map, length, Some, refl, sym, ap, ◌∙◌, subst, arith}
 use Rattle.std.specs.Prelude.{slice_get, is_some}
-use Rattle.std.specs.List.{All, AllByRecursion}
+use Rattle.std.specs.List.{AllByRecursion}
 use Rattle.std.proofs.lemmas.Bool.{eq-eqb, ne_eqb}
-use Rattle.std.proofs.lemmas.List.Elements.{All-head, All-tail}
+use Rattle.std.proofs.lemmas.List.Elements.{recursion_from_All}
 use Rattle.std.specs.declared.cmp.Ordering.TheVariants.{Less, Greater}
 use Rattle.std.specs.Ordering.{is_lt, eq_by_cmp}
 use Rattle.std.specs.FinMap as finite_map
 use Rattle.std.specs.FinMap.{find, is_sorted, entries_sorted, get-entries, len-entries}
 use Rattle.std.specs.FinMap.Entries.{below_all}
+use Rattle.std.proofs.lemmas.Option.{slice_get_within}
 use Rattle.hex.specs.Hex.{IsBytes}
 use Rattle.maps.specs.declared.shapes.Shape.{Shape}
 use Rattle.maps.specs.declared.shapes.Shape.TheVariants.{Array, Hash}
@@ -175,19 +176,10 @@ hash_count (x ∷ maps) n (suc i) m s at there all =
 
 -- ---- its sizes
 
-pub index_bound : {A : Type 0} (xs : List A) (i : ℕ) (x : A) → slice_get xs i ≡ Some x → i < length xs
-index_bound [] i x h = absurd cc
-index_bound (y ∷ xs) zero x h = omega arith
-index_bound (y ∷ xs) (suc i) x h = let rest = index_bound xs i x h in omega (arith, rest)
-
 shape_there : (maps : Maps) (i : ℕ) (s : MapState) → slice_get maps i ≡ Some s → slice_get (shapes_of maps) i ≡ Some s.shape
 shape_there [] i s h = absurd cc
 shape_there (x ∷ maps) zero s h = let same : x ≡ s = cc in ap (λ (t : MapState). Some t.shape) same
 shape_there (x ∷ maps) (suc i) s h = shape_there maps i s h
-
-pub all_list : {A : Type 0} (P : A → Type 0) (xs : List A) → All P xs → AllByRecursion P xs
-all_list P [] all = tt
-all_list P (x ∷ xs) all = (All-head P x xs all, all_list P xs (All-tail P x xs all))
 
 pub at_each : (xs : List ℕ) → AllByRecursion (λ (n : ℕ). n < 256) xs → IsBytes xs
 at_each [] all i = omega arith
@@ -209,8 +201,8 @@ pub entry_fits : (shapes : List Shape) (maps : Maps) (e : EntryLine) → AreShap
 entry_fits shapes maps e ok has b =
     let is = all_get IsMapState maps b.index b.state has.each b.there in
     let shape_at : slice_get shapes b.index ≡ Some b.state.shape = subst (λ (l : List Shape). slice_get l b.index ≡ Some b.state.shape) has.same (shape_there maps b.index b.state b.there) in
-    let good = all_get IsShapeSupported shapes b.index b.state.shape (all_list IsShapeSupported shapes ok.each) shape_at in
-    let bound = index_bound shapes b.index b.state.shape shape_at in
+    let good = all_get IsShapeSupported shapes b.index b.state.shape (recursion_from_All IsShapeSupported shapes ok.each) shape_at in
+    let bound = slice_get_within shapes b.index b.state.shape shape_at in
     let key = is.each_key e.key (ap is_some b.value) in
     let value = is.each_value e.key e.value b.value in
     let key_size_is = key_long b.state.shape e.key key in

@@ -3,6 +3,7 @@ use Rattle.std.proofs.Common.{append_assoc, append-nil, ◌≡◌, ℕ, Bool, tr
 use Rattle.std.specs.Prelude.{slice_get}
 use Rattle.std.specs.List.{flat_map}
 use Rattle.std.proofs.lemmas.Bool.{and_parts, eqb-true}
+use Rattle.std.proofs.lemmas.List.{nil_from_length}
 use Rattle.hex.specs.Hex.{IsBytes}
 use Rattle.insn.specs.declared.decoding.DecodeRefusal.{DecodeRefusal}
 use Rattle.insn.specs.declared.instruction.Form.{Form}
@@ -39,10 +40,6 @@ pub record Grows (so after : Loading) (m : Meaning) : Type 0 where
   pub lines : lines_of after.state ≡ lines_of so.state ++ m ∷ []
   pub rising : IsRising after
 
-no_length : {A : Type 0} (xs : List A) → length xs ≡ 0 → xs ≡ []
-no_length [] e = refl
-no_length (x ∷ xs) e = absurd (omega (arith, e))
-
 unless_ok : {A : Type 0} (x y : A) (fault : Option DumpFault) → unless x fault ≡ Ok y → (x ≡ y) × (fault ≡ None)
 unless_ok x y None h = (cc, refl)
 unless_ok x y (Some fault) h = absurd cc
@@ -57,7 +54,7 @@ pub in_order : (so : Loading) (e : EntryLine) → is_in_order so e ≡ true → 
 unfolding is_in_order
 in_order so e h =
     let both = and_parts (eqb (length so.state.programs) 0) (is_behind so.last e.map e.key) h in
-    (no_length so.state.programs (eqb-true (length so.state.programs) 0 both.0), both.1)
+    (nil_from_length so.state.programs (eqb-true (length so.state.programs) 0 both.0), both.1)
 
 pub entry_listed : (so : Loading) (e : EntryLine) (s : MapState) → IsRising so → slice_get so.state.maps e.map ≡ Some s → Passes so e s → entries_of (with_entry so e).state.maps ≡ entries_of so.state.maps ++ e ∷ []
 entry_listed so e s rising at p =

@@ -3,10 +3,11 @@ use Rattle.std.proofs.Common.{◌≡◌, ℕ, ◌≤◌, Bool, true, false, cond
 use Rattle.std.specs.List.{list_all}
 use Rattle.std.specs.Option.{option_and_then}
 use Rattle.std.proofs.lemmas.Bool.{and_parts, le-leb, leb-true}
+use Rattle.std.proofs.lemmas.Option.{cond_some}
 use Rattle.text.specs.Digits.{field_bytes}
 use Rattle.text.specs.Fields.{split_at_space}
 use Rattle.text.specs.Words.{number_of, number_within}
-use Rattle.text.proofs.Export.{if_true, steps, unless, where_true}
+use Rattle.text.proofs.Export.{if_true, steps, unless}
 use Rattle.loader.specs.Grammar.{mode_of}
 use Rattle.loader.specs.Installed.{most_argument, most_bytes}
 use Rattle.dumps.specs.declared.lines.TheConstants.{DUMP_LINE_BYTES}
@@ -20,7 +21,7 @@ number_more : (most more : ℕ) (text : List ℕ) (n : ℕ) → most ≤ more �
 unfolding number_within
 number_more most more text n le e =
     let number = steps (number_of text) _ n e in
-    let tested = where_true (leb 0 number.0 && leb number.0 most) number.0 n number.2 in
+    let tested = cond_some (leb 0 number.0 && leb number.0 most) number.0 n number.2 in
     let limits = and_parts (leb 0 number.0) (leb number.0 most) tested.0 in
     let few = leb-true number.0 most limits.1 in
     rw (number.1, limits.0, le-leb number.0 more (omega (arith, few, le))) (ap Some tested.1)

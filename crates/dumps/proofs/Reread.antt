@@ -1,13 +1,14 @@
 -- What a state is dumped as is loaded as that state.
-use Rattle.std.proofs.Common.{append_assoc, append-nil, ◌≡◌, ℕ, zero, suc, ◌+◌, ◌^◌, ◌<◌, ◌≤◌, Bool, true, false, not, cond, ltb, leb, eqb, ◌&&◌, List, [], ◌∷◌, ◌++◌, map, length, decimal, Option, Some, None, Result, Ok, Err, refl, sym, ap, ◌∙◌, subst, arith}
+use Rattle.std.proofs.Common.{append_assoc, append-nil, ◌≡◌, ℕ, zero, suc, ◌+◌, ◌^◌, ◌<◌, ◌≤◌, Bool, true, false, cond, ltb, leb, eqb, ◌&&◌, List, [], ◌∷◌, ◌++◌, map, length, decimal, Option, Some, None, Result, Ok, Err, refl, sym, ap, ◌∙◌, subst, arith}
 use Rattle.std.specs.Prelude.{slice_get, is_some}
 use Rattle.std.specs.List.{AllByRecursion, list_all}
-use Rattle.std.proofs.lemmas.Bool.{eq-eqb, lt-ltb, and_parts, leb-true}
+use Rattle.std.proofs.lemmas.Bool.{eq-eqb, lt-ltb, and_parts, leb-true, not-true}
 use Rattle.std.proofs.lemmas.Bool.Decides.{nat_tests}
 use Rattle.std.proofs.lemmas.Fmt.{digits_decimal}
 use Rattle.std.proofs.lemmas.List.{length-append}
 use Rattle.hex.specs.Hex.{IsBytes, encode_lower}
 use Rattle.std.specs.FinMap as finite_map
+use Rattle.std.proofs.lemmas.List.Elements.{recursion_from_All}
 use Rattle.insn.specs.Encoding.{program_bytes, program_slots}
 use Rattle.insn.specs.Refusal.{Decodes}
 use Rattle.insn.proofs.Export.{spelled_is_read, size_is, slot_bytes_length}
@@ -46,7 +47,7 @@ use Rattle.dumps.proofs.Placing.{IsBefore, behind, key_of, all_joined, all_mappe
 use Rattle.dumps.proofs.Dumped.{IsRising, entry_listed, entry_rising, opening_rising, texts}
 use Rattle.dumps.proofs.Alike.{hash_keeps, array_has, same_maps}
 use Rattle.dumps.proofs.ProgramBytes.{program_are_bytes}
-use Rattle.dumps.proofs.Belongs.{Belongs, Rises, all_belong, all_rise, count, count_joined, hash_count, entry_fits, all_list, at_each, key_bytes, key_long}
+use Rattle.dumps.proofs.Belongs.{Belongs, Rises, all_belong, all_rise, count, count_joined, hash_count, entry_fits, at_each, key_bytes, key_long}
 
 -- ---- an entry has no fault
 
@@ -61,10 +62,6 @@ same_there (x ∷ maps) (y ∷ others) zero s h same =
 same_there (x ∷ maps) (y ∷ others) (suc i) s h same =
     let rest : shapes_of others ≡ shapes_of maps = cc in
     same_there maps others i s h rest
-
-not_true : (b : Bool) → not b ≡ true → b ≡ false
-not_true true h = absurd cc
-not_true false h = refl
 
 key_for : (t : MapState) (key : List ℕ) → IsMapState t → IsKeyOf t.shape key → is_key_for t key ≡ true
 key_for t key is of = by (is_hash t.shape) refl
@@ -152,7 +149,7 @@ one_entry shapes maps so e es has mid =
     let value = is_whole.each_value e.key e.value b.value in
     let size : length e.value ≡ value_size t.shape = value.0 ∙ ap value_size (sym found.2) in
     let order = in_order so e mid.empty mid.behind.0 in
-    let left : is_left_out t.shape e.value ≡ false = ap (λ x. is_left_out x e.value) found.2 ∙ not_true (is_left_out b.state.shape e.value) b.kept in
+    let left : is_left_out t.shape e.value ≡ false = ap (λ x. is_left_out x e.value) found.2 ∙ not-true (is_left_out b.state.shape e.value) b.kept in
     let free = room maps so.state.maps e t c of in
     let key = key_for t e.key is of in
     let p : Passes so e t = record { key = key; value = size; order = order; kept = left; room = free } in
@@ -358,7 +355,7 @@ unfolding loaded_state dump
 dump_is_read z s is =
     let ok = is.programs.shapes in
     let limit = is.programs.long_limit in
-    let good = all_good z s.programs (all_list (λ (c : Checked). c.shapes ≡ z.shapes) s.programs is.programs.accepted) (all_list IsAccepted s.programs is.programs.checked) (all_list (IsShort z.long) s.programs is.programs.short) in
+    let good = all_good z s.programs (recursion_from_All (λ (c : Checked). c.shapes ≡ z.shapes) s.programs is.programs.accepted) (recursion_from_All IsAccepted s.programs is.programs.checked) (recursion_from_All (IsShort z.long) s.programs is.programs.short) in
     let fits = all_joined (Fits z.long) (map Entry (entries_of s.maps)) (map as_line s.programs) (entries_fit z s.maps (entries_of s.maps) ok is.maps (all_belong 0 s.maps)) (programs_fit z s.programs limit good) in
     let read = entries_read z s.maps 1 (opening z) (entries_of s.maps) (spelled (map as_line s.programs)) ok is.maps (at_first z s.maps ok) in
     let few : length s.programs ≤ s.places = (let a = is.programs.few in let b = is.places in omega (arith, a, b)) in

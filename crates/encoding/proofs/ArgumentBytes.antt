@@ -4,12 +4,13 @@ use Rattle.std.specs.Int.{byte_at, bytes_low_first}
 use Rattle.std.specs.List.{AllZip, concat, list_all, onto_first}
 use Rattle.std.proofs.lemmas.Bool.{and_parts, and_from, ltb-true, lt-ltb}
 use Rattle.std.proofs.lemmas.List.{take-append-drop}
+use Rattle.std.proofs.lemmas.Option.{cond_some}
 use Rattle.hex.specs.declared.error.FromHexError.{FromHexError}
 use Rattle.hex.specs.Hex.{IsBytes, decode_of}
 use Rattle.hex.proofs.HexLemmas.{decode_of-ok}
 use Rattle.text.specs.Digits.{good}
 use Rattle.text.specs.Lines.{lines_of}
-use Rattle.text.proofs.Export.{steps, unless, where_true}
+use Rattle.text.proofs.Export.{steps, unless}
 use Rattle.encoding.specs.Calls.{CallsAreWritten, CallsWith, IsCallLine, IsNameAndValues, IsValue}
 use Rattle.encoding.proofs.Calls as Calls
 use Rattle.encoding.proofs.Calls.{calls_are_read}
@@ -63,7 +64,7 @@ number : (n : ℕ) (low high : ℤ) (field bytes : List ℕ) → number_within n
 unfolding number_within
 number n low high field bytes h =
     let read = steps (number_of field) _ bytes h in
-    let parts = where_true _ (number_bytes n read.0) bytes read.2 in
+    let parts = cond_some _ (number_bytes n read.0) bytes read.2 in
     subst (λ x. are x ≡ true) parts.1 (low_bytes 0 n (bits_of read.0))
 
 text : (field bytes : List ℕ) → are field ≡ true → quoted field ≡ Some bytes → are bytes ≡ true

@@ -5,6 +5,7 @@ use Rattle.std.proofs.lemmas.Slice.Eq.{bytes_eq-Decides}
 use Rattle.std.proofs.lemmas.Bool.{and_parts, and_from, eqb-true, ne_eqb, ltb-true, le-ltb, ltb-false, leb-true}
 use Rattle.std.proofs.lemmas.Bool.Decides.{nat_tests}
 use Rattle.std.proofs.lemmas.List.Sums.{split_at_first, passes_at_first}
+use Rattle.std.proofs.lemmas.Option.{cond_some}
 use Rattle.hex.specs.Hex.{IsBytes, decode_of, encode_lower, lower_digits}
 use Rattle.hex.proofs.HexLemmas.{decode_of-encode_lower, length-encode_with}
 use Rattle.text.specs.declared.lines.TheConstants.{LINE_BYTES}
@@ -14,7 +15,7 @@ use Rattle.text.specs.Digits.{field_bytes, good}
 use Rattle.text.specs.Fields.{cut_at, split_at_space, has_no_space}
 use Rattle.text.specs.Lines.{kind_of}
 use Rattle.text.specs.Words.{is_name, is_name_byte, is_lower}
-use Rattle.text.proofs.Export.{where_true, split_from, split_to}
+use Rattle.text.proofs.Export.{split_from, split_to}
 use Rattle.encoding.specs.declared.arguments.TheConstants.{ARGUMENT_BYTES}
 use Rattle.encoding.specs.declared.faults.LineFault.{LineFault}
 use Rattle.encoding.specs.declared.faults.Wanted.TheVariants as wanted
@@ -45,7 +46,7 @@ where_name false why r a h = absurd cc
 -- a text cut at its first colon
 colon_from : (t : List ℕ) (x : List ℕ × List ℕ) → cut_at 58 t ≡ Some x → t ≡ x.0 ++ 58 ∷ x.1
 colon_from t x e =
-    let parts = where_true (ltb (position_or_len (λ b. eqb b 58) t) (length t)) (before_first (λ b. eqb b 58) t, after_first (λ b. eqb b 58) t) x e in
+    let parts = cond_some (ltb (position_or_len (λ b. eqb b 58) t) (length t)) (before_first (λ b. eqb b 58) t, after_first (λ b. eqb b 58) t) x e in
     let lt : position_or_len (λ b. eqb b 58) t < length t = ltb-true _ _ parts.0 in
     let at : get_or t (position_or_len (λ b. eqb b 58) t) 0 ≡ 58 = eqb-true _ _ (passes_at_first (λ b. eqb b 58) t 0 lt) in
     let whole : t ≡ before_first (λ b. eqb b 58) t ++ 58 ∷ after_first (λ b. eqb b 58) t = split_at_first (λ b. eqb b 58) t 0 lt ∙ ap (λ b. before_first (λ b. eqb b 58) t ++ b ∷ after_first (λ b. eqb b 58) t) at in

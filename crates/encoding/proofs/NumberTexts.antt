@@ -3,12 +3,13 @@ use Rattle.std.proofs.Common.{inl, inr, cond, ltb, drop, Option, None, ◌≡◌
 use Rattle.std.specs.Prelude.{neg_ℤ, ◌≤ℤ◌, ◌<ℤ◌, int_le, option_map}
 use Rattle.std.specs.Char.{is_digit}
 use Rattle.std.specs.Str.Parse.{digits_value}
-use Rattle.std.proofs.lemmas.Bool.{ltb-true, eqb-true, and_parts, lt-ltb, ne_eqb}
+use Rattle.std.proofs.lemmas.Bool.{ltb-true, eqb-true, and_parts, lt-ltb, ne_eqb, and_right}
 use Rattle.std.proofs.lemmas.Int.{ints}
 use Rattle.std.proofs.Math.Pow.{suc_ones}
+use Rattle.std.proofs.lemmas.Option.{cond_some}
 use Rattle.byteorder.specs.Endian.{little_number, twos_complement}
 use Rattle.byteorder.specs.Numbers.{length-bytes_low_first}
-use Rattle.text.proofs.Export.{steps, where_true}
+use Rattle.text.proofs.Export.{steps}
 use Rattle.encoding.specs.Calls.{AreDigits, NumbersAreSpelled, SpellsMagnitude, SpellsNumber, UnsignedAreReadBack, SignedAreReadBack, UnsignedHaveBytes, SignedHaveBytes}
 use Rattle.encoding.specs.Values.{are_digits, bits_of, magnitude_of, number_bytes, number_of, number_within, unsigned_of}
 use Rattle.encoding.proofs.ReadBack.{unsigned_back, signed_back}
@@ -30,15 +31,11 @@ second : (cs : List ℕ) → are_digits 10 cs ≡ true → eqb (get_or cs 0 0) 1
 second [] h = refl
 second (c ∷ cs) h = no_digit c 120 refl (and_parts (is_digit c 10) (are_digits 10 cs) h).0
 
-both_false : (a b : Bool) → b ≡ false → (a && b) ≡ false
-both_false true b e = e
-both_false false b e = refl
-
 unsigned_decimal : (c : ℕ) (cs : List ℕ) (n : ℕ) → AreDigits 10 (c ∷ cs) n → unsigned_of (c ∷ cs) ≡ Some n
 unfolding unsigned_of
 unsigned_decimal c cs n are =
     let parts = and_parts (is_digit c 10) (are_digits 10 cs) are.each in
-    rw (both_false (eqb c 48) (eqb (get_or cs 0 0) 120) (second cs parts.1)) (magnitude 10 (c ∷ cs) n are)
+    rw (and_right (eqb c 48) (eqb (get_or cs 0 0) 120) (second cs parts.1)) (magnitude 10 (c ∷ cs) n are)
 
 unsigned_to : (n : ℕ) (field : List ℕ) → SpellsMagnitude n field → unsigned_of field ≡ Some n
 unfolding unsigned_of
@@ -60,7 +57,7 @@ number_to field z (inr (n, rest, is, text, spells)) = rw text (ap (option_map (�
 magnitude_from : (radix : ℕ) (digits : List ℕ) (n : ℕ) → magnitude_of radix digits ≡ Some n → AreDigits radix digits n
 unfolding magnitude_of
 magnitude_from radix digits n h =
-    let parts = where_true (ltb 0 (length digits) && are_digits radix digits && ltb (digits_value radix digits) (2 ^ 64)) (digits_value radix digits) n h in
+    let parts = cond_some (ltb 0 (length digits) && are_digits radix digits && ltb (digits_value radix digits) (2 ^ 64)) (digits_value radix digits) n h in
     let two = and_parts (ltb 0 (length digits) && are_digits radix digits) (ltb (digits_value radix digits) (2 ^ 64)) parts.0 in
     let one = and_parts (ltb 0 (length digits)) (are_digits radix digits) two.0 in
     record { some = ltb-true 0 (length digits) one.0; each = one.1; value = parts.1; small = subst (λ x. x < 2 ^ 64) parts.1 (ltb-true (digits_value radix digits) (2 ^ 64) two.1) }
@@ -68,7 +65,7 @@ magnitude_from radix digits n h =
 unsigned_from : (n : ℕ) (field : List ℕ) → unsigned_of field ≡ Some n → SpellsMagnitude n field
 unfolding unsigned_of
 unsigned_from n [] h = inl (magnitude_from 10 [] n h)
-unsigned_from n (c ∷ []) h = inl (magnitude_from 10 (c ∷ []) n (sym (ap (λ b. cond b (magnitude_of 16 (drop 2 (c ∷ []))) (magnitude_of 10 (c ∷ []))) (both_false (eqb c 48) false refl)) ∙ h))
+unsigned_from n (c ∷ []) h = inl (magnitude_from 10 (c ∷ []) n (sym (ap (λ b. cond b (magnitude_of 16 (drop 2 (c ∷ []))) (magnitude_of 10 (c ∷ []))) (and_right (eqb c 48) false refl)) ∙ h))
 unsigned_from n (c ∷ d ∷ rest) h = by (eqb c 48) (eqb d 120) (eqb-true c 48) (eqb-true d 120) h
   where
     by : (a b : Bool) → (a ≡ true → c ≡ 48) → (b ≡ true → d ≡ 120) → cond (a && b) (magnitude_of 16 rest) (magnitude_of 10 (c ∷ d ∷ rest)) ≡ Some n → SpellsMagnitude n (c ∷ d ∷ rest)
@@ -111,7 +108,7 @@ within : (n : ℕ) (low high : ℤ) (field bytes : List ℕ) → number_within n
 unfolding number_within
 within n low high field bytes h =
     let read = steps (number_of field) _ bytes h in
-    let parts = where_true (int_le low read.0 && int_le read.0 high) (number_bytes n read.0) bytes read.2 in
+    let parts = cond_some (int_le low read.0 && int_le read.0 high) (number_bytes n read.0) bytes read.2 in
     let limits = and_parts (int_le low read.0) (int_le read.0 high) parts.0 in
     record { number = read.0; says = read.1; least = le_of low read.0 limits.0; most = le_of read.0 high limits.1; is = parts.1 }
 

@@ -1,8 +1,9 @@
 -- What was read is text, or not, where it is known what there was to read.
-use Rattle.std.proofs.Common.{◌≡◌, ℕ, Bool, true, false, List, Option, Some, None, Ok, String, string_bytes, refl, subst, ◌∙◌}
+use Rattle.std.proofs.Common.{◌≡◌, ℕ, true, false, List, Option, Some, None, Ok, String, string_bytes, subst, ◌∙◌}
 use Rattle.std.specs.Prelude.{IfSome}
 use Rattle.std.specs.Str.{IsUtf8, is_utf8}
 use Rattle.std.proofs.lemmas.Str.{IsUtf8-from_is_utf8}
+use Rattle.std.proofs.lemmas.Bool.{false_from_ne_true}
 use Rattle.engine.specs.declared.reading.Stranger.{Stranger}
 use Rattle.engine.specs.Reading.{strange_text}
 use Rattle.engine.specs.Unread.{IsStrange, TextIs}
@@ -15,9 +16,5 @@ pub no_text : (name : List ℕ) (o : Option (List ℕ)) (bs : List ℕ) (s : Str
 no_text name None bs s known text same = tt
 no_text name (Some b) bs s known text same = subst (λ x. IsStrange name x s) known (text, same)
 
-by_bool : (b : Bool) → (b ≡ true → ⊥) → b ≡ false
-by_bool true h = absurd (h refl)
-by_bool false h = refl
-
 pub not_text_from_err : (bs : List ℕ) → (IsUtf8 bs → ⊥) → is_utf8 bs ≡ false
-not_text_from_err bs h = by_bool (is_utf8 bs) (λ e. h (IsUtf8-from_is_utf8 bs e))
+not_text_from_err bs h = false_from_ne_true (is_utf8 bs) (λ e. h (IsUtf8-from_is_utf8 bs e))

@@ -138,7 +138,3 @@ some_not_none false h = sym (h refl)
 
 pub others_written : (c : Contents) (e : Entry) (w : List ℕ) (m n : ℕ) → e.map ≡ m → n ≢ m → slice_get (write_value c e w) n ≡ slice_get c n
 others_written c e w m n same ne = others_kept _ c e.map n (λ is. ne (is ∙ same))
-
-pub true_not : (b : Bool) → not b ≡ false → b ≡ true
-true_not true h = refl
-true_not false h = sym h

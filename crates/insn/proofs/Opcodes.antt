@@ -7,6 +7,7 @@ use Rattle.std.specs.Cmp.{signed_Decides}
 use Rattle.std.specs.List.{list_any, AllByRecursion}
 use Rattle.std.proofs.lemmas.Bool.Decides.{nat_tests}
 use Rattle.std.proofs.lemmas.Int.{to_z-of_z, ints}
+use Rattle.std.proofs.lemmas.Bool.{not-false}
 use Rattle.insn.specs.declared.instruction.Source.TheVariants.{Reg, Imm}
 use Rattle.insn.specs.declared.instruction.Operation.{Operation}
 use Rattle.insn.specs.declared.instruction.Operation.TheVariants.{Add, Sub, Mul, Div, Or, And, Lsh, Rsh, Mod, Xor, Mov, Arsh, Sdiv, Smod}
@@ -27,7 +28,7 @@ use Rattle.opcodes.specs.Table.{Row, table, uses_of, is_among}
 use Rattle.insn.specs.Refusal.{is_wide, is_bad_half}
 use Rattle.insn.specs.Decoded.{wide_form}
 use Rattle.insn.proofs.Slots.{FieldsFit}
-use Rattle.insn.proofs.Rows.{not_false, or_left, or_right, FitsUse, FollowsUses, Clean}
+use Rattle.insn.proofs.Rows.{or_left, or_right, FitsUse, FollowsUses, Clean}
 
 -- one slot that an instruction spells
 pub record IsSpelled (f : Fields) : Type 0 where
@@ -364,10 +365,10 @@ true_left true e = refl
 true_left false e = cc
 
 zero_is : (n : ℕ) → not (n == 0) ≡ false → 0 ≡ n
-zero_is n e = let h = not_false (n == 0) e in grind (arith, nat_tests)
+zero_is n e = let h = not-false (n == 0) e in grind (arith, nat_tests)
 
 zero_int : (z : ℤ) → not (int_eq z (pos 0)) ≡ false → pos 0 ≡ z
-zero_int z e = sym ((signed_Decides z (pos 0)).0 (not_false (int_eq z (pos 0)) e))
+zero_int z e = sym ((signed_Decides z (pos 0)).0 (not-false (int_eq z (pos 0)) e))
 
 pub wide_opcode : (f : Fields) → is_wide f ≡ true → f.opcode ≡ 0x18
 wide_opcode f e = grind (arith, nat_tests)

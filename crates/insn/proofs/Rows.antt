@@ -1,6 +1,6 @@
 -- What a slot follows whose fields break no rule, and how the faults of two slots join.
 use Rattle.std.proofs.Common.{◌≡◌, ℕ, ◌≤◌, Bool, true, false, List, [], ◌∷◌, Option, Some, None, refl, sym, ap, ◌∙◌, arith}
-use Rattle.std.specs.Prelude.{ℤ, pos, ◌||◌, not, nat_lt, is_none, find, if◌then◌else◌}
+use Rattle.std.specs.Prelude.{ℤ, pos, ◌||◌, nat_lt, is_none, find, if◌then◌else◌}
 use Rattle.std.specs.Option.{option_or}
 use Rattle.std.specs.Ordering.{int_eq}
 use Rattle.std.specs.Cmp.{signed_Decides}
@@ -14,7 +14,7 @@ use Rattle.opcodes.specs.declared.Use.{Use}
 use Rattle.opcodes.specs.declared.Use.TheVariants.{Unused}
 use Rattle.opcodes.specs.declared.Uses.{Uses}
 use Rattle.opcodes.specs.Table.{uses_of, values_of}
-use Rattle.std.proofs.lemmas.Bool.{true≢false}
+use Rattle.std.proofs.lemmas.Bool.{true≢false, not-false}
 use Rattle.insn.specs.Refusal.{is_none_of, is_undefined, is_set_though_unused, some_field, is_wide, is_bad_half, first_fault, first_slot_faults, second_slot_faults, breaks}
 
 -- ---- what a row asks
@@ -27,10 +27,6 @@ abbrev pub FitsUse : Use → ℤ → Type 0
 FitsUse Unused z = z ≡ pos 0
 FitsUse u z = FitsValues (values_of u) z
 
-pub not_false : (b : Bool) → not b ≡ false → b ≡ true
-not_false true e = refl
-not_false false e = cc
-
 pub or_left : (a b : Bool) → a || b ≡ false → a ≡ false
 or_left true b e = e
 or_left false b e = refl
@@ -40,11 +36,11 @@ or_right true b e = cc
 or_right false b e = e
 
 fits_values : (o : Option (List ℤ)) (z : ℤ) → is_none_of o z ≡ false → FitsValues o z
-fits_values (Some values) z a = not_false _ a
+fits_values (Some values) z a = not-false _ a
 fits_values None z a = tt
 
 fits_use : (u : Use) (z : ℤ) → is_undefined u z ≡ false → is_set_though_unused u z ≡ false → FitsUse u z
-fits_use Unused z a b = (signed_Decides z (pos 0)).0 (not_false _ b)
+fits_use Unused z a b = (signed_Decides z (pos 0)).0 (not-false _ b)
 fits_use u z a b = fits_values (values_of u) z a
 
 abbrev pub FollowsUses : Uses → Fields → Type 0

@@ -1,9 +1,9 @@
 -- What a store's maps are, from the limits of each and of all together.
 use Rattle.maps.specs.declared.shapes.MapLimits.{MapLimits}
-use Rattle.std.proofs.Common.{◌≡◌, ◌<◌, Bool, true, false, leb, ltb, List, [], ◌∷◌, ◌++◌, length, Err, refl, arith, sum_by}
+use Rattle.std.proofs.Common.{◌≡◌, ◌<◌, true, false, leb, ltb, List, [], ◌∷◌, ◌++◌, length, Err, refl, arith, sum_by}
 use Rattle.std.specs.List.{All, AllByRecursion}
 use Rattle.std.proofs.lemmas.List.Elements.{All-push, All-weaker}
-use Rattle.std.proofs.lemmas.Bool.{leb-true, and_parts}
+use Rattle.std.proofs.lemmas.Bool.{leb-true, and_parts, false_from_ne_true}
 use Rattle.std.proofs.lemmas.List.{length_push}
 use Rattle.maps.specs.declared.shapes.Shape.{Shape}
 use Rattle.maps.specs.declared.shapes.TheConstants.{MAX_MAPS}
@@ -37,14 +37,10 @@ pub all_push : {X : Type 0} (P : X → Type 0) (xs : List X) (y : X) → AllByRe
 all_push P [] y h p = (p, tt)
 all_push P (x ∷ xs) y h p = (h.0, all_push P xs y h.1 p)
 
-by_bool : (b : Bool) → (b ≡ true → ⊥) → b ≡ false
-by_bool true h = absurd (h refl)
-by_bool false h = refl
-
 -- a map that goes past the limits
 pub too_many : (l : MapLimits) (v : CatalogueView) (s : Shape) → ltb 0 (length v.programs) ≡ false → IsPartial l v → IsShapeWithin l s → (AreShapesWithin l (v.shapes ++ s ∷ []) → ⊥) → with_map l v s ≡ Err faults.TooMany
 unfolding with_map
 too_many l v s none so_far within bad =
     let some : 0 < length (v.shapes ++ s ∷ []) = omega (arith, length_push v.shapes s) in
-    let off : are_few l (v.shapes ++ s ∷ []) ≡ false = by_bool _ (λ few. bad (shapes_are_within l _ some (All-push (IsShapeWithin l) v.shapes s so_far.within within) few)) in
+    let off : are_few l (v.shapes ++ s ∷ []) ≡ false = false_from_ne_true _ (λ few. bad (shapes_are_within l _ some (All-push (IsShapeWithin l) v.shapes s so_far.within within) few)) in
     rw (none, off) refl

@@ -2,12 +2,13 @@
 use Rattle.maps.specs.declared.shapes.MapLimits.{MapLimits}
 use Rattle.std.proofs.Common.{◌≡◌, ◌⊎◌, inl, inr, ℕ, ◌≤◌, Bool, true, false, cond, leb, ◌&&◌, List, ◌∷◌, ◌++◌, length, codes, bytes_eq, decimal, Some, None, refl, sym, ap, ap₂, subst, ◌∙◌}
 use Rattle.std.proofs.lemmas.Bool.{leb-true, and_parts}
+use Rattle.std.proofs.lemmas.Option.{cond_some}
 use Rattle.maps.specs.declared.shapes.Shape.TheVariants.{Array, Hash}
 use Rattle.verifier.specs.declared.refusal.Mode.{Mode}
 use Rattle.verifier.specs.declared.refusal.Mode.TheVariants.{Update, Read}
 use Rattle.text.specs.Fields.{split_at_space}
 use Rattle.text.specs.Words.{IsFrom, number_of, number_within, is_name}
-use Rattle.text.proofs.Export.{IsSilent, by_kind_from, numerals_are_decimals, steps, where_true, split_from}
+use Rattle.text.proofs.Export.{IsSilent, by_kind_from, numerals_are_decimals, steps, split_from}
 use Rattle.text.specs.declared.lines.TheConstants.{LINE_BYTES}
 use Rattle.loader.specs.Grammar.{is_path, Meaning, Comment, Map, Program, array_meaning, hash_meaning, map_meaning, mode_of, program_meaning, words_of, by_first_word, words_meaning, line_meaning}
 use Rattle.loader.specs.declared.grammar.FirstWord.{FirstWord}
@@ -19,7 +20,7 @@ pub within : (low high : ℕ) (t : List ℕ) (n : ℕ) → number_within low hig
 unfolding number_within
 within low high t n e =
     let read = steps (number_of t) _ n e in
-    let parts = where_true (leb low read.0 && leb read.0 high) read.0 n read.2 in
+    let parts = cond_some (leb low read.0 && leb read.0 high) read.0 n read.2 in
     let both = and_parts (leb low read.0) (leb read.0 high) parts.0 in
     let dec = (numerals_are_decimals t read.0).0 read.1 in
     (dec.0 ∙ ap decimal parts.1, (rw (← parts.1) (leb-true _ _ both.0), rw (← parts.1) (leb-true _ _ both.1)))
@@ -81,7 +82,7 @@ program_from l t x e =
     let len = steps (split_at_space mode.0.1) _ x mode.2 in
     let m = steps (mode_of mode.0.0) _ x len.2 in
     let n = steps (number_within 0 l.argument len.0.0) _ x m.2 in
-    let last = where_true (is_name name.0.0 && is_path len.0.1) (Program (record { name = name.0.0; mode = m.0; arg_len = n.0; file = len.0.1 })) x n.2 in
+    let last = cond_some (is_name name.0.0 && is_path len.0.1) (Program (record { name = name.0.0; mode = m.0; arg_len = n.0; file = len.0.1 })) x n.2 in
     let good = and_parts (is_name name.0.0) (is_path len.0.1) last.0 in
     let number = within 0 l.argument len.0.0 n.0 n.1 in
     let third : mode.0.1 ≡ decimal n.0 ++ 32 ∷ len.0.1 = split_from mode.0.1 len.0 len.1 ∙ ap (λ w. w ++ 32 ∷ len.0.1) number.0 in

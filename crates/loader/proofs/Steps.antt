@@ -2,8 +2,8 @@
 use Rattle.maps.specs.declared.shapes.MapLimits.{MapLimits}
 use Rattle.std.proofs.Common.{◌≡◌, ℕ, ◌<◌, ◌≤◌, Bool, true, false, cond, eqb, ltb, ◌||◌, List, [], ◌∷◌, ◌++◌, length, bytes_eq, Option, Some, None, Result, Ok, Err, refl, sym, ap, subst, arith}
 use Rattle.std.specs.Prelude.{IfSome}
-use Rattle.std.specs.List.{All, IsDistinct, list_any}
-use Rattle.std.proofs.lemmas.Bool.{le-leb, ltb-true, ltb-false, eqb-false}
+use Rattle.std.specs.List.{IsDistinct, list_any}
+use Rattle.std.proofs.lemmas.Bool.{le-leb, ltb-true, ltb-false, eqb-false, or_parts}
 use Rattle.std.proofs.lemmas.List.{length_push, map-append, nil_from_length}
 use Rattle.loader.specs.declared.refusals.LoadFault.{LoadFault}
 use Rattle.loader.specs.declared.refusals.LoadFault.TheVariants as faults
@@ -12,7 +12,7 @@ use Rattle.maps.specs.declared.shapes.TheConstants.{MOST_ARG_LEN}
 use Rattle.verifier.specs.Accepted.{IsAccepted}
 use Rattle.loader.specs.Grammar.{ProgramLine, Meaning, Comment, Map, Program, line_meaning}
 use Rattle.maps.specs.Shapes.{IsShapeWithin, AreShapesSupported, AreLimits}
-use Rattle.std.proofs.lemmas.List.Elements.{All-push}
+use Rattle.std.proofs.lemmas.List.Elements.{All-push, All-nil}
 use Rattle.loader.specs.CatalogueView.{Entry, CatalogueView, IsCatalogue, AreAccepted, AreFor, names_of, sizes_for}
 use Rattle.loader.specs.StoreState.{IsState}
 use Rattle.loader.specs.ProgramFiles.{Files, entry_for}
@@ -36,16 +36,12 @@ where_true false why x a e = absurd cc
 abbrev same_result : Result CatalogueView LoadFault → Result CatalogueView LoadFault → Type 0
 same_result r s = r ≡ s
 
-neither : (a b : Bool) → (a || b) ≡ false → (a ≡ false) × (b ≡ false)
-neither true b e = absurd cc
-neither false b e = (refl, e)
-
 -- one more name, which none before it equals
 pub distinct_push : (xs : List (List ℕ)) (y : List ℕ) → IsDistinct bytes_eq xs → list_any (λ n. bytes_eq n y) xs ≡ false → IsDistinct bytes_eq (xs ++ y ∷ [])
 unfolding IsDistinct
 distinct_push [] y apart new = (tt, tt)
 distinct_push (x ∷ xs) y apart new =
-    let both = neither (bytes_eq x y) (list_any (λ n. bytes_eq n y) xs) new in
+    let both = or_parts (bytes_eq x y) (list_any (λ n. bytes_eq n y) xs) new in
     (all_push (λ n. bytes_eq x n ≡ false) xs y apart.0 both.0, distinct_push xs y apart.1 both.1)
 
 map_within : (l : MapLimits) (s : Shape) (line : List ℕ) → AreLimits l → Spells l (Map s) line → IsShapeWithin l s
@@ -78,13 +74,10 @@ pub after_program : (fs : Files) (v : CatalogueView) (p : ProgramLine) (w : Cata
 unfolding with_program with_entry
 after_program fs v p w e =
     let first = unless (eqb (length v.shapes) 0 || is_taken v.programs p.name) faults.BadLine _ w e in
-    let test = neither _ _ first.0 in
+    let test = or_parts _ _ first.0 in
     let entry = steps (entry_for fs v.shapes p) (with_entry v) w first.1 in
     let last = where_true (ltb (length v.programs) MAX_PROGRAMS) faults.TooMany _ w entry.2 in
     record { entry = entry.0; read = entry.1; some_map = test.0; new = test.1; few = ltb-true _ _ last.0; same = last.1 }
-
-none_at_all : {X : Type 0} (P : X → Type 0) → All P []
-none_at_all P k d lt = absurd (omega (arith, lt))
 
 with_one_map : (l : MapLimits) (v : CatalogueView) (s : Shape) → IsPartial l v → IsShapeWithin l s → v.programs ≡ [] → are_few l (v.shapes ++ s ∷ []) ≡ true → IsPartial l (record v { shapes = v.shapes ++ s ∷ [] })
 with_one_map l v s so_far within none few =
@@ -92,8 +85,8 @@ with_one_map l v s so_far within none few =
       limits = so_far.limits;
       within = All-push (IsShapeWithin l) v.shapes s so_far.within within;
       few_maps = few;
-      accepted = subst (AreFor (v.shapes ++ s ∷ [])) (sym none) (none_at_all (λ e. e.checked.shapes ≡ v.shapes ++ s ∷ []));
-      checked = subst AreAccepted (sym none) (none_at_all (λ e. IsAccepted e.checked));
+      accepted = subst (AreFor (v.shapes ++ s ∷ [])) (sym none) (All-nil (λ e. e.checked.shapes ≡ v.shapes ++ s ∷ []));
+      checked = subst AreAccepted (sym none) (All-nil (λ e. IsAccepted e.checked));
       distinct = so_far.distinct;
       few = so_far.few;
       no_places = so_far.no_places;
@@ -154,4 +147,4 @@ is_catalogue l v so_far some =
 
 pub nothing_partial : (l : MapLimits) → AreLimits l → IsPartial l (record { shapes = []; programs = []; places = 0; long = 0; opening = None })
 unfolding IsDistinct
-nothing_partial l ok = record { limits = ok; within = none_at_all (IsShapeWithin l); few_maps = le-leb 0 l.bytes (omega arith); accepted = none_at_all (λ e. e.checked.shapes ≡ []); checked = none_at_all (λ e. IsAccepted e.checked); distinct = tt; few = omega arith; no_places = refl; no_long = refl; no_opening = refl }
+nothing_partial l ok = record { limits = ok; within = All-nil (IsShapeWithin l); few_maps = le-leb 0 l.bytes (omega arith); accepted = All-nil (λ e. e.checked.shapes ≡ []); checked = All-nil (λ e. IsAccepted e.checked); distinct = tt; few = omega arith; no_places = refl; no_long = refl; no_opening = refl }

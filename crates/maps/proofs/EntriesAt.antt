@@ -1,10 +1,10 @@
 -- The entries at some places of a map: each stands in it, none twice, and at all places they are as many as it has.
-use Rattle.std.proofs.Common.{append-nil, ◌≡◌, ◌≢◌, ◌⊎◌, inl, inr, ⊎_elim, min, ℕ, zero, suc, ◌+◌, ◌-◌, ◌*◌, ◌<◌, ◌≤◌, Bool, true, false, ◌||◌, List, [], ◌∷◌, ◌++◌, map, length, take, drop, Option, Some, None, refl, sym, ap, ap₂, ◌∙◌, arith, subst, bytes_eq, length-append, length-take, length-drop}
+use Rattle.std.proofs.Common.{append-nil, ◌≡◌, ◌≢◌, ◌⊎◌, inl, inr, ⊎_elim, min, ℕ, zero, suc, ◌+◌, ◌-◌, ◌*◌, ◌<◌, ◌≤◌, false, List, [], ◌∷◌, ◌++◌, map, length, take, drop, Option, Some, None, refl, sym, ap, ap₂, ◌∙◌, arith, subst, bytes_eq, length-append, length-take, length-drop}
 use Rattle.std.specs.Prelude.{slice_get, IfSome, IfNone}
 use Rattle.std.specs.List.{AllByRecursion, IsDistinct, list_any}
 use Rattle.std.specs.FinMap as finite_map
 use Rattle.std.specs.Cmp.Lexicographic.{bytes_decides, nat_list_eq_equiv}
-use Rattle.std.proofs.lemmas.Bool.{cases_Bool}
+use Rattle.std.proofs.lemmas.Bool.{cases_Bool, or_from}
 use Rattle.std.proofs.lemmas.List.Folds.{list_any-append}
 use Rattle.std.proofs.lemmas.Map.Keys.{IsDistinct-push}
 use Rattle.std.proofs.Math.Seq.{take-length}
@@ -109,10 +109,6 @@ mapped (x ∷ xs) ys = ap (λ u. x.0 ∷ u) (mapped xs ys)
 differ : (a b : List ℕ) → a ≢ b → bytes_eq a b ≡ false
 differ a b ne = ⊎_elim (λ y. absurd (ne ((bytes_decides a b).0 y))) (λ n. n) (cases_Bool (bytes_eq a b))
 
-neither : (a b : Bool) → a ≡ false → b ≡ false → (a || b) ≡ false
-neither true b p q = p
-neither false b p q = q
-
 module _ (s : Stored) (d : Distinct s.keys) where
   abbrev value : ℕ → List ℕ
   value p = value_in (value_size s.shape) s.bytes p
@@ -139,14 +135,14 @@ module _ (s : Stored) (d : Distinct s.keys) where
       by : (o : Option (Option (List ℕ))) → slice_get s.keys p ≡ o → list_any (bytes_eq k) (map (λ e. e.0) (standing (flat o) (value p))) ≡ false
       by None e = refl
       by (Some None) e = refl
-      by (Some (Some x)) e = neither (bytes_eq k x) false (differ k x (λ is. ne (e ∙ ap (λ r. Some (Some r)) (sym is)))) refl
+      by (Some (Some x)) e = or_from (bytes_eq k x) false (differ k x (λ is. ne (e ∙ ap (λ r. Some (Some r)) (sym is)))) refl
 
   other_places : (k : List ℕ) (from n : ℕ) → ((p : ℕ) → p < from + n → slice_get s.keys p ≢ Some (Some k)) → list_any (bytes_eq k) (map (λ e. e.0) (entries_from s from n)) ≡ false
   other_places k from zero h = refl
   other_places k from (suc n) h =
       ap (list_any (bytes_eq k)) (mapped (entries_from s from n) (entry_at s (from + n)))
       ∙ list_any-append (bytes_eq k) (map (λ e. e.0) (entries_from s from n)) (map (λ e. e.0) (entry_at s (from + n)))
-      ∙ neither _ _ (other_places k from n (λ p low. h p (omega (arith, low)))) (other_place k (from + n) (h (from + n) (omega arith)))
+      ∙ or_from _ _ (other_places k from n (λ p low. h p (omega (arith, low)))) (other_place k (from + n) (h (from + n) (omega arith)))
 
   pub all_once : (from n : ℕ) → IsDistinct bytes_eq (map (λ e. e.0) (entries_from s from n))
   unfolding IsDistinct

@@ -1,9 +1,9 @@
 -- The tests for the maps that a program names.
-use Rattle.std.proofs.Common.{◌≡◌, ℕ, zero, suc, ◌+◌, ◌<◌, ◌≤◌, Bool, true, false, cond, List, [], ◌∷◌, length, take, get_or, Option, Some, None, refl, sym, ap, ◌∙◌, arith, subst, inl, inr, ⊎_elim, eq-eqb, bit_or}
-use Rattle.std.specs.Prelude.{◌↔◌, ◌≢◌, ◌⊎◌, ◌*◌, ◌^◌, ◌%◌, ◌&&◌, ℤ, pos, negsuc, not, nat_eq, nat_lt, Contains, position, slice_get, option_map}
+use Rattle.std.proofs.Common.{◌≡◌, ℕ, ◌+◌, ◌<◌, ◌≤◌, Bool, true, false, cond, List, length, get_or, Option, Some, None, refl, sym, ap, ◌∙◌, arith, subst, inl, inr, ⊎_elim, eq-eqb, bit_or}
+use Rattle.std.specs.Prelude.{◌↔◌, ◌≢◌, ◌⊎◌, ◌*◌, ◌^◌, ◌%◌, pos, not, nat_eq, nat_lt, Contains, option_map}
 use Rattle.std.specs.Int.{w16, bit_at}
 use Rattle.std.specs.List.{list_any, position_or_len}
-use Rattle.std.proofs.lemmas.Bool.{and_parts, cases_eq, eqb-true, false≢true}
+use Rattle.std.proofs.lemmas.Bool.{and_parts, cases_eq, eqb-true, false≢true, not-false}
 use Rattle.std.proofs.lemmas.Bool.Decides.{nat_tests}
 use Rattle.std.proofs.lemmas.List.{get_or_default}
 use Rattle.std.proofs.lemmas.List.Elements.{Contains-get_or}
@@ -13,11 +13,10 @@ use Rattle.std.proofs.lemmas.Nat.Bits.{bit_at_set_same, bit_at_set_other}
 use Rattle.insn.specs.declared.instruction.Form.{Form}
 use Rattle.insn.specs.declared.instruction.Form.TheVariants.{MapRef, Exit}
 use Rattle.maps.specs.declared.shapes.TheConstants.{MAX_MAPS}
-use Rattle.maps.specs.Maps.{Maps}
 use Rattle.verifier.specs.Accepted.{Checked, IsAccepted, signature_of, slot_of}
 use Rattle.verifier.specs.Rules.{is_map_index}
-use Rattle.verifier.proofs.Export.{not_false, read, stands_in, unbroken_rules}
-use Rattle.machine.specs.Effects.{Effect, effect, effect_of, IsRun}
+use Rattle.verifier.proofs.Export.{read, stands_in, unbroken_rules}
+use Rattle.machine.specs.Effects.{effect_of}
 use Rattle.machine.specs.Isolation.{NamesMap, AgreeIn}
 use Rattle.machine.proofs.Export.{are_runs, others_stay, others_unseen}
 use Rattle.named_maps.specs.Naming.{IsIn, NamesOnly, map_named, outside_of, is_outside, first_outside, is_low, names, names_here, NamingIsTested, OthersStay, OthersAreUnseen}
@@ -140,7 +139,7 @@ known a ok m (dst, (k, lt, at)) =
     let i = MapRef dst (pos m) in
     let stands = stands_in a.program k i (read a.program k (get_or a.program k i) i lt (ap (get_or a.program k) (sym at)) (sym at)) in
     let unbroken = t.1.1.each i (slot_of a.program k) stands in
-    let index = not_false (is_map_index (signature_of a) (pos m)) (unbroken_rules (signature_of a) i (t.1.0 (slot_of a.program k)) unbroken).1.1.1.1.1.1.1.1.1.1.0 in
+    let index = not-false (is_map_index (signature_of a) (pos m)) (unbroken_rules (signature_of a) i (t.1.0 (slot_of a.program k)) unbroken).1.1.1.1.1.1.1.1.1.1.0 in
     let few = ok.shapes.many.1 in
     let below : m < length a.shapes = grind (arith, nat_tests) in
     omega (arith, below, few)

@@ -1,5 +1,6 @@
 -- The slots of the places, and those between.
 use Rattle.std.proofs.Common.{◌≡◌, ℕ, zero, suc, ◌+◌, ◌<◌, List, [], ◌∷◌, ◌++◌, append-nil, length, get_or, drop, sym, refl, ap, ◌∙◌, subst, arith, Option, None}
+use Rattle.std.proofs.lemmas.List.{length_push}
 use mathlib.Core.Logic.{dite}
 use native.Mathlib.Decide.{ℕ_discrete}
 use lib.ListN.{get_elem?}
@@ -72,17 +73,9 @@ gathered_all room xs all none so = so ∙ (ap (λ l. spread (room ++ l)) (spread
 pub passed : {A : Type 0} (rest more xs : List A) (x : A) → rest ≡ x ∷ more → rest ≡ x ∷ xs → more ≡ xs
 passed rest more xs x is so = ap (λ l. drop 1 l) (sym is ∙ so)
 
-pub long_more : {A : Type 0} (xs : List A) (x : A) → length (xs ++ x ∷ []) ≡ length xs + 1
-long_more [] x = refl
-long_more (y ∷ ys) x = let h = long_more ys x in omega (arith, h)
-
-pub nothing_left : {A : Type 0} (xs : List A) → length xs ≡ 0 → xs ≡ []
-nothing_left [] none = refl
-nothing_left (x ∷ xs) none = absurd (omega (arith, none))
-
 -- a value more stands in its place
 pub stands_more : {A : Type 0} (xs slots : List A) (x : A) (place slot : ℕ) → length xs ≡ place → slot ≡ slot_of place → StandsIn xs slots → At slot x slots → StandsIn (xs ++ x ∷ []) slots
 stands_more {A} xs slots x place slot long is stands here p o below at = dite (ℕ_discrete p place)
     (λ e. let same : x ≡ o = some-injective x o (sym here ∙ (ap (λ z. get_elem? slots z) (is ∙ ap slot_of (sym e)) ∙ at)) in
     subst (λ z. At p z (xs ++ x ∷ [])) same (at_last xs x p (long ∙ sym e)))
-    (λ ne. at_longer xs (x ∷ []) p o (stands p o (let more = long_more xs x in omega (arith, ne, below, more, long)) at))
+    (λ ne. at_longer xs (x ∷ []) p o (stands p o (let more = length_push xs x in omega (arith, ne, below, more, long)) at))

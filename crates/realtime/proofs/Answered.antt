@@ -1,6 +1,5 @@
 -- What is answered to a transcript and its history, from what was read.
-use Rattle.std.proofs.Common.{◌≡◌, ℕ, List, Ok, Err, Result, refl}
-use Rattle.std.specs.Prelude.{IfOk}
+use Rattle.std.proofs.Common.{◌≡◌, ℕ, List, Result, refl}
 use Rattle.text.specs.Lines.{lines_of}
 use Rattle.engine.specs.declared.replies.Verdict.TheVariants as verdicts
 use Rattle.engine.specs.Answer.{Answer}
@@ -13,7 +12,3 @@ use Rattle.realtime.specs.TimedAnswer.{history_answer}
 pub timed_by : (answer : Answer) (transcript history : List ℕ) (read : Result (List Timed) ℕ) → answer.verdict ≡ verdicts.Good
     → calls_of (ranks_of (lines_of transcript)) (lines_of history) ≡ read → history_answer answer read ≡ timed answer transcript history
 timed_by answer transcript history read good is = rw (good, is) refl
-
-pub if_ok : {X E : Type 0} (r : Result X E) (P Q : X → Type 0) → ((x : X) → P x → Q x) → IfOk r P → IfOk r Q
-if_ok (Ok x) P Q f p = f x p
-if_ok (Err e) P Q f p = tt

@@ -6,7 +6,7 @@ use Rattle.std.proofs.lemmas.Option.{none-some, same_Some, slice_get-get_or, get
 use Rattle.std.proofs.lemmas.List.Folds.{Any-from_list_any}
 use Rattle.combiner.specs.declared.slots.Reply.TheVariants as replies
 use Rattle.schedule.specs.Trace.{Updated, Event, Call, Back, Trace}
-use Rattle.schedule.proofs.Export.{get_in, get_some}
+use Rattle.schedule.proofs.Export.{get_some}
 use Rattle.realtime.specs.declared.histories.Timed.{Timed}
 use Rattle.realtime.specs.Laws.{ShareNone, AreCalls}
 use Rattle.realtime.specs.Linearizable.{TranscriptCall, IsTraceOf}
@@ -129,7 +129,7 @@ module _ (ranks : List ℕ) (told : List TranscriptCall) (calls : List Timed) (a
     called = called_at;
     back = back_at;
     only = λ x e g.
-        let in_range : x < 2 * length calls = let l = get_in trace x e g in omega (arith, l, length-listed (event_at zs) 0 (2 * length calls)) in
+        let in_range : x < 2 * length calls = let l = slice_get_within trace x e g in omega (arith, l, length-listed (event_at zs) 0 (2 * length calls)) in
         let u = user x in_range in (
           u.0,
           u.1,

@@ -2,7 +2,7 @@
 use Rattle.std.proofs.Common.{◌≡◌, ⊎_elim, ℕ, zero, suc, ◌≤◌, List, [], ◌∷◌, ◌++◌, map, length, take, Option, Some, None, refl, sym, ap, subst, ◌∙◌, arith}
 use Rattle.std.specs.Prelude.{slice_get, option_map}
 use Rattle.std.specs.List.{cons_option, take-map}
-use Rattle.std.proofs.lemmas.Option.{none-some, same_Some}
+use Rattle.std.proofs.lemmas.Option.{none-some, same_Some, slice_get_within}
 use Rattle.std.proofs.lemmas.List.{append_assoc, append-nil, length-append, length-map, map-append, take-append-le}
 use Rattle.verifier.specs.declared.refusal.Mode.{Mode}
 use Rattle.verifier.specs.declared.refusal.Mode.TheVariants.{Update, Read}
@@ -15,7 +15,7 @@ use Rattle.combiner.specs.declared.slots.Reply.TheVariants as replies
 use Rattle.replica.specs.StoreMeaning.{store_meaning}
 use Rattle.schedule.specs.Trace.{Answer, Updated, ReadBack, Positions}
 use Rattle.schedule.specs.Explains.{count_of}
-use Rattle.schedule.proofs.Export.{get_more, get_new, get_snoc, get_in, take_all_front}
+use Rattle.schedule.proofs.Export.{get_more, get_new, get_snoc, take_all_front}
 use Rattle.realtime.specs.declared.histories.Timed.{Timed}
 use Rattle.realtime.specs.Linearizable.{TranscriptCall, if_placed, operations_of}
 use Rattle.realtime.proofs.Agreeing.{Replies, AllReply}
@@ -138,7 +138,7 @@ owner_more h more zs z i p o = record {
 right_more : (c : CatalogueView) (h more : History) (ps ends : Positions) (begun : ℕ) (mode : Mode) (op : Operation) (a : Answer) → length ps ≡ length h
     → Right c h ps begun mode op a → Right c (h ++ more) (ps ++ ends) begun mode op a
 right_more c h more ps ends begun mode op (Updated (replies.Placed i reply)) long r =
-    let l = get_in ps i begun r.1 in
+    let l = slice_get_within ps i begun r.1 in
     (r.0, get_more ps ends i begun r.1, reply_more_at c h more i op (omega (arith, l, long)) ∙ r.2)
   where
     reply_more_at : (c : CatalogueView) (h more : History) (k : ℕ) (op : Operation) → k ≤ length h → reply_at store_meaning c (h ++ more) k op ≡ reply_at store_meaning c h k op
@@ -207,7 +207,7 @@ module _ (c : CatalogueView) (g h : History) (ps : Positions) (zs : List Made) (
           })
           (get_snoc ps call.begun j p e);
       seqs = λ j r e. ⊎_elim
-          (λ old. let l = get_in h j r old in x.seqs j r old ∙ ap (λ es. count_of r.author es) (sym (take-append-le j h (entry ∷ []) (omega (arith, l)))))
+          (λ old. let l = slice_get_within h j r old in x.seqs j r old ∙ ap (λ es. count_of r.author es) (sym (take-append-le j h (entry ∷ []) (omega (arith, l)))))
           (λ new. subst (λ (y : Record). y.seq ≡ count_of y.author (take j (h ++ entry ∷ []))) new.1
           (ap (λ es. count_of call.session es) (sym (ap (λ k. take k (h ++ entry ∷ [])) new.0 ∙ take_all_front h (entry ∷ [])))))
           (get_snoc h entry j r e);

@@ -1,13 +1,14 @@
 -- What is read of a history.
-use Rattle.std.proofs.Common.{◌≡◌, ◌≢◌, ℕ, ◌+◌, ◌-◌, ◌*◌, ◌^◌, if◌then◌else◌, ◌<◌, ◌≤◌, Bool, true, false, ◌||◌, not, eqb, List, [], ◌∷◌, ◌++◌, length, get_or, set, replicate, Option, Some, None, Ok, Err, refl, sym, ap, subst, ◌∙◌, arith, ⊎_elim}
+use Rattle.std.proofs.Common.{◌≡◌, ◌≢◌, ℕ, ◌+◌, ◌-◌, ◌*◌, ◌^◌, if◌then◌else◌, ◌<◌, ◌≤◌, Bool, true, false, ◌||◌, eqb, List, [], ◌∷◌, ◌++◌, length, get_or, set, replicate, Option, Some, None, Ok, Err, refl, sym, ap, subst, ◌∙◌, arith, ⊎_elim}
 use Rattle.std.specs.List.{slice_get, AllPairs}
 use Rattle.std.specs.Option.{option_map_or}
-use Rattle.std.proofs.lemmas.Bool.{ltb-true, leb-true, eqb-true, eqb-false, eq-eqb, ne_eqb, and_parts, or_parts, or_left, or_right, cases_eq, cases_lt, false_from_ne_true}
+use Rattle.std.proofs.lemmas.Bool.{ltb-true, leb-true, eqb-true, eqb-false, eq-eqb, ne_eqb, and_parts, or_parts, or_left, or_right, cases_eq, cases_lt, false_from_ne_true, not-true}
 use Rattle.std.proofs.lemmas.Option.{slice_get_within}
 use Rattle.std.proofs.lemmas.List.{length-set, get_or-set_other, get_or-replicate, length-replicate, length-append}
 use Rattle.std.proofs.lemmas.Grind.{common_steps, get_or-set_at}
 use Rattle.std.proofs.lemmas.List.Elements.{All-push, All-nil}
 use Rattle.std.proofs.lemmas.List.Folds.{list_any-append, list_any_at}
+use Rattle.std.proofs.Math.Bool.{or-false}
 use Rattle.std.proofs.lemmas.List.Quantifiers.{all_pairs_push}
 use Rattle.text.specs.Words.{number_of, number_within}
 use Rattle.text.specs.Fields.{split_at_space}
@@ -22,14 +23,6 @@ use Rattle.realtime.specs.Judging.{HasTaken, TakesCall, AreGood, calls_of}
 -- a call began or was back at this number
 abbrev pub uses : ℕ → Timed → Bool
 uses x call = eqb call.begun x || eqb call.ended x
-
-or-false : (b : Bool) → (b || false) ≡ b
-or-false true = refl
-or-false false = refl
-
-not_true : (b : Bool) → not b ≡ true → b ≡ false
-not_true false e = refl
-not_true true e = absurd cc
 
 -- one more number is marked
 mark : (used : List Bool) (p : ℕ → Bool) (i : ℕ) → ((x : ℕ) → x < length used → get_or used x false ≡ p x)
@@ -69,8 +62,8 @@ fits_so numbers before call e =
     record {
       backs = ltb-true _ _ first.0;
       below = ltb-true _ _ second.0;
-      begun = not_true _ third.0;
-      ended = not_true _ third.1;
+      begun = not-true _ third.0;
+      ended = not-true _ third.1;
     }
 
 pub has_next : (ranks : List ℕ) (t n : Taken) (call : Timed) → HasTaken ranks t → (rank : ℕ) → slice_get ranks (length t.calls.items) ≡ Some rank → n.calls.items ≡ t.calls.items ++ call ∷ []

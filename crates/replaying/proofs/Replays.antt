@@ -2,7 +2,7 @@
 use Rattle.std.proofs.Common.{◌≡◌, ℕ, Bool, true, false, eqb, ltb, length, Option, Some, refl, sym, ap, subst, ◌∙◌, arith, None}
 use Rattle.std.specs.Prelude.{option_map}
 use Rattle.std.specs.Option.{option_map_or}
-use Rattle.std.proofs.lemmas.Bool.{ltb-true, eqb-true, false≢true}
+use Rattle.std.proofs.lemmas.Bool.{ltb-true, eqb-true, false≢true, false_from_ne_true}
 use Rattle.loader.specs.StoreState.{StoreState}
 use Rattle.verifier.specs.declared.refusal.Mode.TheVariants.{Update, Read}
 use Rattle.machine.specs.Effects.{effect_of}
@@ -28,10 +28,6 @@ use Rattle.running.proofs.Export.{here, effect_here, has_room, updated_follows}
 abbrev is_reply : ℕ → Option ℕ → Bool
 is_reply reply o = option_map_or (λ r. eqb r reply) o false
 
-is_off : (b : Bool) → (b ≡ true → ⊥) → b ≡ false
-is_off true h = absurd (h refl)
-is_off false h = refl
-
 same_index : (n : ℕ) → eqb n n ≡ true
 same_index n = by_test (eqb n n) refl
   where
@@ -42,7 +38,7 @@ same_index n = by_test (eqb n n) refl
 module _ (c : CatalogueView) (at : Replayed) (op : Operation) (index reply : ℕ) (old : Replaying) (has : HasReplayed c at old) where
   -- a line that tells another index
   away : (index ≡ tail_of old.node.log → ⊥) → eqb index (length at.history) ≡ false
-  away other = is_off (eqb index (length at.history)) (λ e. other (eqb-true index (length at.history) e ∙ sym has.placed.count))
+  away other = false_from_ne_true (eqb index (length at.history)) (λ e. other (eqb-true index (length at.history) e ∙ sym has.placed.count))
 
   pub read_elsewhere : (new : Replaying) → (index ≡ tail_of old.node.log → ⊥) → IsCompared c (read_agrees c at.history op index reply) (record at { reads = next_count at.reads }) false new
   read_elsewhere new other = rw (away other) (record { told = refl; goes_on = λ on. absurd (false≢true on) })
@@ -96,7 +92,7 @@ module _ (c : CatalogueView) (at : Replayed) (op : Operation) (old : Replaying) 
   due_full m end due is =
       let limit = end.full ∙ has.placed.limit_is in
       let count = has.placed.count in
-      let none : ltb (length at.history) MAX_LIMIT ≡ false = is_off (ltb (length at.history) MAX_LIMIT) (λ e. let low = ltb-true (length at.history) MAX_LIMIT e in omega (arith, low, limit, count)) in
+      let none : ltb (length at.history) MAX_LIMIT ≡ false = false_from_ne_true (ltb (length at.history) MAX_LIMIT) (λ e. let low = ltb-true (length at.history) MAX_LIMIT e in omega (arith, low, limit, count)) in
       is ∙ rw (count, none) refl
 
   -- a read

@@ -1,6 +1,7 @@
 -- What is not refused early is an operation.
 use Rattle.std.proofs.Common.{◌≡◌, inl, inr, ℕ, ◌+◌, ◌<◌, ◌≤◌, Bool, true, false, List, length, Option, Some, None, Result, Ok, Err, refl, sym, ap, ◌∙◌, eq-eqb, ne_eqb, if◌then◌else◌}
 use Rattle.std.specs.Prelude.{nat_lt, nat_le, is_ok}
+use Rattle.std.proofs.lemmas.Bool.{and_from}
 use mathlib.Core.Logic.{dite}
 use native.Mathlib.Decide.{ℕ_discrete}
 use Rattle.maps.specs.Maps.{AreBytes}
@@ -15,7 +16,7 @@ use Rattle.oplog.specs.Calls.{Call, NewProgram}
 use Rattle.replica.specs.StoreMeaning.{program_at, are_bytes, is_call, is_installable}
 use Rattle.replica.specs.declared.refusals.StoreRefused.TheVariants.{UnknownProgram, ArgumentLength, TooLarge}
 use Rattle.replica.specs.Refusals.{is_small, mode_refusal, program_refusal, offered_refusal, place_refusal, early_refusal, reading_refusal, install_refusal}
-use Rattle.replica.proofs.Tested.{tests_call, below, not_below, at_most, both_are, bytes_are}
+use Rattle.replica.proofs.Tested.{tests_call, below, not_below, at_most, bytes_are}
 
 same_mode : (asked mode : Mode) → mode_refusal asked mode ≡ None → mode ≡ asked
 same_mode Update Update e = refl
@@ -73,5 +74,5 @@ may_install c new e bytes = by_size (is_small c.long new) refl e
 
     by_size : (b : Bool) → is_small c.long new ≡ b → (if b then reading_refusal reading else Some TooLarge) ≡ None
         → is_installable c new ≡ true
-    by_size true small f = both_are _ _ small (both_are (are_bytes new.bytes) (is_ok reading) (bytes_are new.bytes bytes) (is_read reading f))
+    by_size true small f = and_from _ _ small (and_from (are_bytes new.bytes) (is_ok reading) (bytes_are new.bytes bytes) (is_read reading f))
     by_size false large f = absurd cc

@@ -5,6 +5,7 @@ use Rattle.std.specs.List.{list_all}
 use Rattle.std.specs.Option.{option_map}
 use Rattle.std.proofs.lemmas.Bool.Decides.{nat_tests}
 use Rattle.std.proofs.lemmas.Option.{slice_get_within}
+use Rattle.std.proofs.lemmas.Bool.{and_parts, and_from}
 use Rattle.insn.proofs.Export.{read_is_spelled, spelled_is_read}
 use Rattle.maps.specs.Maps.{AreBytes}
 use Rattle.verifier.specs.declared.refusal.Mode.{Mode}
@@ -21,16 +22,6 @@ use Rattle.oplog.specs.Operations.{Operation}
 use Rattle.oplog.specs.declared.records.Op.TheVariants.{Run, Install}
 use Rattle.replica.specs.StoreMeaning.{program_at, suits, IsOffered, IsOfPlace, IsCall, IsInstallable, IsOperation, is_mode, are_bytes, fits, fits_place, is_call, is_installable, is_operation}
 use Rattle.replica.specs.HistoryLaws.{OperationsAreTested}
-
-both : (a b : Bool) → (a && b) ≡ true → (a ≡ true) × (b ≡ true)
-both true true e = (refl, refl)
-both true false e = absurd cc
-both false b e = absurd cc
-
-pub both_are : (a b : Bool) → a ≡ true → b ≡ true → (a && b) ≡ true
-both_are true true e f = refl
-both_are true false e f = absurd cc
-both_are false b e f = absurd cc
 
 same_mode : (m n : Mode) → is_mode m n ≡ true → m ≡ n
 same_mode Update Update e = refl
@@ -69,36 +60,36 @@ is_equal a b h = grind (arith, nat_tests)
 bytes_from : (xs : List ℕ) → are_bytes xs ≡ true → AreBytes xs
 bytes_from [] e = tt
 bytes_from (x ∷ xs) e =
-    let parts = both (nat_lt x 256) (list_all (λ b. nat_lt b 256) xs) e in (below x 256 parts.0, bytes_from xs parts.1)
+    let parts = and_parts (nat_lt x 256) (list_all (λ b. nat_lt b 256) xs) e in (below x 256 parts.0, bytes_from xs parts.1)
 
 pub bytes_are : (xs : List ℕ) → AreBytes xs → are_bytes xs ≡ true
 bytes_are [] h = refl
-bytes_are (x ∷ xs) h = both_are (nat_lt x 256) (list_all (λ b. nat_lt b 256) xs) (is_below x 256 h.0) (bytes_are xs h.1)
+bytes_are (x ∷ xs) h = and_from (nat_lt x 256) (list_all (λ b. nat_lt b 256) xs) (is_below x 256 h.0) (bytes_are xs h.1)
 
 -- ---- a program that suits
 
 pub suited : (mode : Mode) (argument : List ℕ) (p : Checked) → suits mode argument p ≡ true → (p.mode ≡ mode) × (length argument ≡ p.arg_len)
 suited mode argument p e =
-    let parts = both (is_mode p.mode mode) (nat_eq (length argument) p.arg_len) e in
+    let parts = and_parts (is_mode p.mode mode) (nat_eq (length argument) p.arg_len) e in
     (same_mode p.mode mode parts.0, equal (length argument) p.arg_len parts.1)
 
 pub suits_so : (mode : Mode) (argument : List ℕ) (p : Checked) → p.mode ≡ mode → length argument ≡ p.arg_len → suits mode argument p ≡ true
 suits_so mode argument p same long =
-    both_are (is_mode p.mode mode) (nat_eq (length argument) p.arg_len) (subst (λ (m : Mode). is_mode p.mode m ≡ true) same (mode_same p.mode)) (is_equal (length argument) p.arg_len long)
+    and_from (is_mode p.mode mode) (nat_eq (length argument) p.arg_len) (subst (λ (m : Mode). is_mode p.mode m ≡ true) same (mode_same p.mode)) (is_equal (length argument) p.arg_len long)
 
 -- ---- calls
 
 offered_from : (mode : Mode) (c : CatalogueView) (call : Call) (o : Option Checked) → program_at c call.program ≡ o → fits mode call.argument o ≡ true → IsOffered mode c call
 offered_from mode c call None named e = absurd cc
 offered_from mode c call (Some p) named e =
-    let parts = both (suits mode call.argument p) (are_bytes call.argument) e in
+    let parts = and_parts (suits mode call.argument p) (are_bytes call.argument) e in
     let known = suited mode call.argument p parts.0 in
     record { program = p; named = named; mode_is = known.0; length_is = known.1; bytes = bytes_from call.argument parts.1 }
 
 of_place_from : (c : CatalogueView) (call : Call) → length c.programs ≤ call.program → fits_place c call ≡ true → IsOfPlace c call
 of_place_from c call behind e =
-    let parts = both (nat_lt call.program (length c.programs + c.places)) _ e in
-    let rest = both (nat_le (length call.argument) (most_argument c.long)) (are_bytes call.argument) parts.1 in
+    let parts = and_parts (nat_lt call.program (length c.programs + c.places)) _ e in
+    let rest = and_parts (nat_le (length call.argument) (most_argument c.long)) (are_bytes call.argument) parts.1 in
     record { behind = behind; within = below _ _ parts.0; short = at_most _ _ rest.0; bytes = bytes_from call.argument rest.1 }
 
 call_from : (mode : Mode) (c : CatalogueView) (call : Call) (b : Bool) → nat_lt call.program (length c.programs) ≡ b
@@ -121,13 +112,13 @@ pub tests_offered : (mode : Mode) (c : CatalogueView) (call : Call) → IsOffere
 tests_offered mode c call h =
     ap (λ b. if b then fits mode call.argument (program_at c call.program) else fits_place c call) (is_below _ _ (offered_below c call.program h.program h.named))
     ∙ ap (fits mode call.argument) h.named
-    ∙ both_are (suits mode call.argument h.program) (are_bytes call.argument) (suits_so mode call.argument h.program h.mode_is h.length_is) (bytes_are call.argument h.bytes)
+    ∙ and_from (suits mode call.argument h.program) (are_bytes call.argument) (suits_so mode call.argument h.program h.mode_is h.length_is) (bytes_are call.argument h.bytes)
 
 tests_place : (mode : Mode) (c : CatalogueView) (call : Call) → IsOfPlace c call → is_call mode c call ≡ true
 tests_place mode c call h =
     ap (λ b. if b then fits mode call.argument (program_at c call.program) else fits_place c call) (is_not_below _ _ h.behind)
-    ∙ both_are (nat_lt call.program (length c.programs + c.places)) _ (is_below _ _ h.within)
-    (both_are (nat_le (length call.argument) (most_argument c.long)) (are_bytes call.argument) (is_at_most _ _ h.short) (bytes_are call.argument h.bytes))
+    ∙ and_from (nat_lt call.program (length c.programs + c.places)) _ (is_below _ _ h.within)
+    (and_from (nat_le (length call.argument) (most_argument c.long)) (are_bytes call.argument) (is_at_most _ _ h.short) (bytes_are call.argument h.bytes))
 
 pub tests_call : (mode : Mode) (c : CatalogueView) (call : Call) → IsCall mode c call → is_call mode c call ≡ true
 tests_call mode c call (inl h) = tests_offered mode c call h
@@ -146,9 +137,9 @@ good (Err why) e = absurd cc
 
 pub installable_tested : (c : CatalogueView) (new : NewProgram) → is_installable c new ≡ true → IsInstallable c new
 installable_tested c new e =
-    let parts = both (nat_le (length new.bytes) (most_bytes c.long) && nat_le new.arg_len (most_argument c.long)) _ e in
-    let sizes = both (nat_le (length new.bytes) (most_bytes c.long)) (nat_le new.arg_len (most_argument c.long)) parts.0 in
-    let rest = both (are_bytes new.bytes) (is_ok (installed_program c.shapes new.mode new.arg_len new.bytes)) parts.1 in
+    let parts = and_parts (nat_le (length new.bytes) (most_bytes c.long) && nat_le new.arg_len (most_argument c.long)) _ e in
+    let sizes = and_parts (nat_le (length new.bytes) (most_bytes c.long)) (nat_le new.arg_len (most_argument c.long)) parts.0 in
+    let rest = and_parts (are_bytes new.bytes) (is_ok (installed_program c.shapes new.mode new.arg_len new.bytes)) parts.1 in
     let known = good (installed_program c.shapes new.mode new.arg_len new.bytes) rest.1 in
     let read = installed_reads c.shapes new.mode new.arg_len new.bytes known.0 known.1 in
     let bytes = bytes_from new.bytes rest.0 in
@@ -169,9 +160,9 @@ installs_as c new h =
 
 pub tests_installable : (c : CatalogueView) (new : NewProgram) → IsInstallable c new → is_installable c new ≡ true
 tests_installable c new h =
-    both_are (nat_le (length new.bytes) (most_bytes c.long) && nat_le new.arg_len (most_argument c.long)) _
-    (both_are (nat_le (length new.bytes) (most_bytes c.long)) (nat_le new.arg_len (most_argument c.long)) (is_at_most _ _ h.few) (is_at_most _ _ h.argument))
-    (both_are (are_bytes new.bytes) (is_ok (installed_program c.shapes new.mode new.arg_len new.bytes)) (bytes_are new.bytes h.bytes) (ap (λ (r : Result Checked InstallRefusal). is_ok r) (installs_as c new h)))
+    and_from (nat_le (length new.bytes) (most_bytes c.long) && nat_le new.arg_len (most_argument c.long)) _
+    (and_from (nat_le (length new.bytes) (most_bytes c.long)) (nat_le new.arg_len (most_argument c.long)) (is_at_most _ _ h.few) (is_at_most _ _ h.argument))
+    (and_from (are_bytes new.bytes) (is_ok (installed_program c.shapes new.mode new.arg_len new.bytes)) (bytes_are new.bytes h.bytes) (ap (λ (r : Result Checked InstallRefusal). is_ok r) (installs_as c new h)))
 
 -- ---- operations
 

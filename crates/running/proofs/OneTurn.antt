@@ -1,8 +1,8 @@
 -- What the law of a run says of lines allows one turn of each only: each relation in it is that of a function.
-use Rattle.std.proofs.Common.{◌≡◌, ◌≢◌, inl, inr, ℕ, ◌+◌, ◌<◌, ◌≤◌, Bool, true, false, cond, eqb, leb, ltb, List, [], ◌∷◌, ◌++◌, length, Option, Some, None, Ok, refl, sym, ap, subst, ◌∙◌, append_assoc, arith}
+use Rattle.std.proofs.Common.{◌≡◌, ◌≢◌, inl, inr, ℕ, ◌+◌, ◌<◌, ◌≤◌, Bool, true, false, cond, eqb, List, [], ◌∷◌, ◌++◌, length, Option, Some, None, Ok, refl, sym, ap, subst, ◌∙◌, append_assoc, arith}
 use Rattle.std.specs.Prelude.{◌&&◌, nat_lt, nat_le, option_and_then, option_map, if◌then◌else◌}
 use Rattle.std.specs.Option.{option_map_or}
-use Rattle.std.proofs.lemmas.Bool.{lt-ltb, eq-eqb}
+use Rattle.std.proofs.lemmas.Bool.{lt-ltb, eq-eqb, le-ltb, le-leb, lt-leb}
 use Rattle.std.proofs.lemmas.Bool.Decides.{nat_tests}
 use Rattle.std.proofs.lemmas.List.{length-append}
 use Rattle.std.proofs.lemmas.Option.{same_Some}
@@ -36,15 +36,6 @@ use Rattle.running.proofs.RunsOfLines.{has_effects, left_behind, line_turns_are_
 use Rattle.running.proofs.Turns.{install_told, performed_by, update_told}
 
 -- ---- tests of numbers
-
-not_below : (a b : ℕ) → b ≤ a → ltb a b ≡ false
-not_below a b h = grind (arith, nat_tests)
-
-at_most : (a b : ℕ) → a ≤ b → leb a b ≡ true
-at_most a b h = grind (arith, nat_tests)
-
-above : (a b : ℕ) → b < a → leb a b ≡ false
-above a b h = grind (arith, nat_tests)
 
 pub unequal : (a b : ℕ) → a ≢ b → eqb a b ≡ false
 unequal a b other = grind (arith, nat_tests)
@@ -88,17 +79,17 @@ module _ (c : CatalogueView) (mode : Mode) (call : TheCall) where
       ∙ ap (program_refusal mode call.argument) named
 
   of_place : length c.programs ≤ call.program → early ≡ behind_programs
-  of_place beyond = ap (λ b. if b then offered_refusal c mode call.program call.argument else behind_programs) (not_below _ _ beyond)
+  of_place beyond = ap (λ b. if b then offered_refusal c mode call.program call.argument else behind_programs) (le-ltb _ _ beyond)
 
   is_beyond : length c.programs + c.places ≤ call.program → early ≡ Some UnknownProgram
   is_beyond beyond =
-      of_place (omega (arith, beyond)) ∙ ap (λ b. if b then place_refusal c call.argument else Some UnknownProgram) (not_below _ _ beyond)
+      of_place (omega (arith, beyond)) ∙ ap (λ b. if b then place_refusal c call.argument else Some UnknownProgram) (le-ltb _ _ beyond)
 
   is_long : HasOtherLength c call → early ≡ Some ArgumentLength
   is_long (inl (p, named, other)) = of_program p named ∙ ap (λ b. if b then mode_refusal mode p.mode else Some ArgumentLength) (unequal _ _ other)
   is_long (inr (beyond, within, long)) =
       of_place beyond ∙ ap (λ b. if b then place_refusal c call.argument else Some UnknownProgram) (lt-ltb _ _ within)
-      ∙ ap (λ b. if b then None else Some ArgumentLength) (above _ _ long)
+      ∙ ap (λ b. if b then None else Some ArgumentLength) (lt-leb _ _ long)
 
   is_wrong : (p : Checked) → program_at c call.program ≡ Some p → length call.argument ≡ p.arg_len → p.mode ≢ mode → early ≡ Some WrongMode
   is_wrong p named fits other =
@@ -110,7 +101,7 @@ module _ (c : CatalogueView) (mode : Mode) (call : TheCall) where
       ∙ ap (mode_refusal mode) is.mode_is ∙ right mode
   goes_on (inr is) =
       of_place is.behind ∙ ap (λ b. if b then place_refusal c call.argument else Some UnknownProgram) (lt-ltb _ _ is.within)
-      ∙ ap (λ b. if b then None else Some ArgumentLength) (at_most _ _ is.short)
+      ∙ ap (λ b. if b then None else Some ArgumentLength) (le-leb _ _ is.short)
 
   -- of a program the argument has its length
   fits : (p : Checked) → program_at c call.program ≡ Some p → IsCall mode c call → length call.argument ≡ p.arg_len
@@ -125,7 +116,7 @@ module _ (c : CatalogueView) (mode : Mode) (call : TheCall) where
 module _ (limit : ℕ) (c : CatalogueView) (is_whole : IsCatalogue c) (h : History) (updates : AreUpdates c h) where
   full : (line : ℕ → Effect StoreState → List ℕ) (op : Operation) → limit ≤ length h → submitted limit line c h op ≡ refused h Ended
   full line op most =
-      ap (λ b. cond b (record { text = option_map_or (line (length h)) (effect_at store_meaning c h (length h) op) []; history = with_operation h op }) (refused h Ended)) (not_below _ _ most)
+      ap (λ b. cond b (record { text = option_map_or (line (length h)) (effect_at store_meaning c h (length h) op) []; history = with_operation h op }) (refused h Ended)) (le-ltb _ _ most)
 
   goes_in : (line : ℕ → Effect StoreState → List ℕ) (op : Operation) (e : Effect StoreState) → length h < limit → effect_at store_meaning c h (length h) op ≡ Some e
       → submitted limit line c h op ≡ record { text = line (length h) e; history = with_operation h op }
@@ -186,8 +177,8 @@ module _ (limit : ℕ) (c : CatalogueView) (is_whole : IsCatalogue c) (h : Histo
       → installed limit c h new ≡ submitted limit install_told c h (AnInstall new)
   install_goes new p is read =
       ap (λ o. option_map_or (refused h) o (submitted limit install_told c h (AnInstall new)))
-      (ap (λ b. if b && nat_le new.arg_len (most_argument c.long) then reading_refusal (installed_program c.shapes new.mode new.arg_len new.bytes) else Some TooLarge) (at_most _ _ is.few)
-      ∙ ap (λ b. if b then reading_refusal (installed_program c.shapes new.mode new.arg_len new.bytes) else Some TooLarge) (at_most _ _ is.argument) ∙ ap reading_refusal read)
+      (ap (λ b. if b && nat_le new.arg_len (most_argument c.long) then reading_refusal (installed_program c.shapes new.mode new.arg_len new.bytes) else Some TooLarge) (le-leb _ _ is.few)
+      ∙ ap (λ b. if b then reading_refusal (installed_program c.shapes new.mode new.arg_len new.bytes) else Some TooLarge) (le-leb _ _ is.argument) ∙ ap reading_refusal read)
 
   why_install : (new : NewProgram) (why : StoreRefused) → IsWhyInstall limit c (length h) new why → installed limit c h new ≡ refused h why
   why_install new UnknownProgram e = install_refuses new UnknownProgram e

@@ -4,7 +4,7 @@ use Rattle.std.specs.Prelude.{◌-◌, option_map, slice_get, if◌then◌else�
 use Rattle.std.specs.List.{position_from}
 use Rattle.std.specs.Option.{option_map_or, option_or}
 use Rattle.std.proofs.lemmas.Bool.{ltb-true, ltb-false, lt-ltb, leb-false, eqb-true, eq-eqb, false≢true}
-use Rattle.std.proofs.lemmas.Option.{same_Some}
+use Rattle.std.proofs.lemmas.Option.{same_Some, cond_some}
 use Rattle.hex.specs.Hex.{decode_of}
 use Rattle.hex.proofs.HexLemmas.{decode_of-ok}
 use Rattle.maps.specs.Maps.{AreBytes}
@@ -18,7 +18,7 @@ use Rattle.text.specs.Lines.{lines_of, next_line}
 use Rattle.text.specs.Fields.{split_at_space}
 use Rattle.text.specs.Words.{is_name, number_of}
 use Rattle.text.specs.Digits.{good, field_bytes}
-use Rattle.text.proofs.Export.{IsSilent, by_kind_from, steps, where_true}
+use Rattle.text.proofs.Export.{IsSilent, by_kind_from, steps}
 use Rattle.loader.specs.Installed.{installed_program, most_argument, most_bytes}
 use Rattle.loader.specs.declared.installed.InstallRefusal.{InstallRefusal}
 use Rattle.loader.specs.declared.installed.InstallRefusal.TheVariants.{Decode, Verify}
@@ -72,7 +72,7 @@ named_bytes : (name digits : List ℕ) (call : ProgramCall) → named_call name 
 unfolding named_call
 named_bytes name digits call e =
     let argument = steps (field_bytes digits) _ call e in
-    let last = where_true (is_name name) (record { name = name; argument = argument.0 }) call argument.2 in
+    let last = cond_some (is_name name) (record { name = name; argument = argument.0 }) call argument.2 in
     subst (λ (x : ProgramCall). AreBytes x.argument) last.1 (field_are_bytes digits argument.0 argument.1)
 
 numbered_bytes : (text : List ℕ) (call : TheCall) → numbered_call text ≡ Some call → AreBytes call.argument

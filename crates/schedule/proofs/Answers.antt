@@ -1,8 +1,9 @@
 -- The answers of a batch, and the steps that hand answers out.
-use Rattle.std.proofs.Common.{◌≡◌, ℕ, zero, suc, ◌+◌, ◌≤◌, List, [], ◌∷◌, ◌++◌, length, take, true, Option, Some, None, refl, sym, ap, ◌∙◌, ⊎_elim, arith, subst}
+use Rattle.std.proofs.Common.{◌≡◌, ℕ, suc, ◌+◌, ◌≤◌, List, [], ◌∷◌, ◌++◌, length, take, true, Option, Some, None, refl, sym, ap, ◌∙◌, ⊎_elim, arith, subst}
 use Rattle.std.specs.Prelude.{slice_get, slice_set, cond, option_map}
 use Rattle.std.specs.Option.{option_and_then}
 use Rattle.std.proofs.lemmas.Bool.{cases_lt}
+use Rattle.std.proofs.lemmas.Option.{slice_get_past}
 use Rattle.oplog.specs.declared.records.Op.TheVariants.{Run}
 use Rattle.oplog.specs.History.{ReadEffect, History}
 use Rattle.oplog.specs.Logs.{Log}
@@ -135,13 +136,8 @@ steps_next start now new steps i step answer so_far at is are takes =
           ∙ sym (answers_snoc start.opening start.world (take i steps) step) ∙ ap (answers_to start.opening start.world) (sym longer),
     )
 
-pub get_beyond : {A : Type 0} (xs : List A) (i : ℕ) → length xs ≤ i → slice_get xs i ≡ None
-get_beyond [] i l = refl
-get_beyond (x ∷ xs) zero l = absurd (omega arith)
-get_beyond (x ∷ xs) (suc i) l = get_beyond xs i (omega arith)
-
 -- a step of a node that is not there
 pub not_there : (s : WorldState) (step : Step) → length s.world.nodes ≤ node_of step → Takes (took s.opening s.world step) s s answers.NotNow
 not_there s step l =
-    let finds : took s.opening s.world step ≡ None = ap (λ o. option_and_then (λ k. option_map (put_part s.world (node_of step)) (part_of s.opening step s.world.log k)) o) (get_beyond s.world.nodes (node_of step) l) in
+    let finds : took s.opening s.world step ≡ None = ap (λ o. option_and_then (λ k. option_map (put_part s.world (node_of step)) (part_of s.opening step s.world.log k)) o) (slice_get_past s.world.nodes (node_of step) l) in
     subst (λ o. Takes o s s answers.NotNow) (sym finds) (refl, refl)

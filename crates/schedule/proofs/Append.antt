@@ -3,6 +3,7 @@ use Rattle.std.proofs.Common.{◌≡◌, ◌≢◌, ℕ, zero, suc, ◌+◌, ◌
 use Rattle.std.specs.Prelude.{slice_get, slice_set, ◌⊎◌, nat_le, min, if◌then◌else◌}
 use Rattle.std.proofs.lemmas.Option.{same_Some}
 use Rattle.std.proofs.lemmas.Bool.{ne_eqb, eq-eqb, and_parts, leb-true}
+use Rattle.std.proofs.Math.Nat.{min-le_left, min-le_right}
 use Rattle.oplog.specs.History.{History}
 use Rattle.oplog.specs.Logs.{room_in, HandView, tail_of, left_of, records_from}
 use Rattle.oplog.specs.Sessions.{session}
@@ -32,12 +33,6 @@ get_append [] ys i v g = inr (i, omega arith, g)
 get_append (x ∷ xs) ys zero v g = inl g
 get_append (x ∷ xs) ys (suc i) v g = ⊎_elim inl (λ (j, at, is). inr (j, omega arith, is)) (get_append xs ys i v g)
 
-min_left : (a b : ℕ) → min a b ≤ a
-min_left a b = omega arith
-
-min_right : (a b : ℕ) → min a b ≤ b
-min_right a b = omega arith
-
 min_short : (a b : ℕ) → min a b < a → min a b ≡ b
 min_short a b l = omega arith
 
@@ -66,10 +61,10 @@ batch_grow m h rs replica hand (InLog b) l x = record {
 module _ (m : Opening) (w : WorldView) (h : History) (positions : Positions) (t : Trace) (n : ℕ) (node : NodeView) (b : BatchView) (at_n : slice_get w.nodes n ≡ Some node) (is_b : node.batch ≡ Held b)
     (above : w.log.base ≤ node.replica.tail) (x : Stands m w h positions t) where
   few : room_for b.records w.log ≤ length b.records
-  few = min_left (length b.records) (left_of w.log)
+  few = min-le_left (length b.records) (left_of w.log)
 
   fits : length h + room_for b.records w.log ≤ m.config.limit
-  fits = let a = min_right (length b.records) (left_of w.log) in let e = x.log.ends in let l = x.log.limit in let v = x.log.within in omega arith
+  fits = let a = min-le_right (length b.records) (left_of w.log) in let e = x.log.ends in let l = x.log.limit in let v = x.log.within in omega arith
 
   end : Grown m w h positions t n b (room_for b.records w.log)
   end = grown_to m w h positions t n node b at_n is_b x (room_for b.records w.log) few fits

@@ -1,7 +1,7 @@
 -- A batch is appended to the history, request by request.
 use Rattle.std.proofs.Common.{◌≡◌, ◌≢◌, ℕ, zero, suc, ◌+◌, ◌<◌, ◌≤◌, List, [], ◌∷◌, ◌++◌, length, map, take, Option, Some, None, refl, sym, ap, ◌∙◌, ⊎_elim, arith, subst, length-append, append_assoc}
 use Rattle.std.specs.Prelude.{slice_get, nat_eq, nat_lt, replicate, if◌then◌else◌, option_map}
-use Rattle.std.proofs.lemmas.Option.{none-some, same_Some, slice_get-map}
+use Rattle.std.proofs.lemmas.Option.{none-some, same_Some, slice_get-map, slice_get_within}
 use Rattle.std.proofs.lemmas.Bool.{cases_lt, cases_eq, lt-ltb, le-ltb, ne_eqb, eq-eqb}
 use Rattle.verifier.specs.declared.refusal.Mode.TheVariants.{Update}
 use Rattle.machine.specs.declared.running.Outcome.{Outcome}
@@ -20,7 +20,7 @@ use Rattle.schedule.specs.declared.parts.Opening.{Opening}
 use Rattle.schedule.specs.Explains.{Explains, count_of}
 use Rattle.schedule.specs.Worlds.{NodeView, WorldView}
 use Rattle.schedule.specs.Stands.{OpenAt, StageStands, Stands, batch_in, index_in}
-use Rattle.schedule.proofs.Lists.{get_new, get_in, get_some}
+use Rattle.schedule.proofs.Lists.{get_new, get_some}
 use Rattle.schedule.proofs.Slots.{claimed_get, claimed_once}
 use Rattle.schedule.proofs.Explained.{explains_entry}
 use Rattle.schedule.proofs.Seats.{other_slot, other_node, stage_entry, stage_batch, count_self}
@@ -124,7 +124,7 @@ module _ (m : Opening) (w : WorldView) (h : History) (positions : Positions) (t 
   none_yet k = let no = le-ltb k 0 (omega arith) in rw no refl
 
   slot_in : (k : ℕ) (old : NodeView) (s : ℕ) (y : Slot) → slice_get w.nodes k ≡ Some old → slice_get old.desk.slots s ≡ Some y → s < m.config.slots
-  slot_in k old s y g there = let a = get_in old.desk.slots s y there in let d = ((x.nodes k old g).desk).slots in omega arith
+  slot_in k old s y g there = let a = slice_get_within old.desk.slots s y there in let d = ((x.nodes k old g).desk).slots in omega arith
 
   grown_none : Grown m w h positions t n b 0
   grown_none =
@@ -200,7 +200,7 @@ module _ (m : Opening) (w : WorldView) (h : History) (positions : Positions) (t 
 
   grown_next : (j : ℕ) (r : Record) → slice_get b.records j ≡ Some r → length h + j < m.config.limit → Grown m w h positions t n b j → Grown m w h positions t n b (suc j)
   grown_next j r at_j room_left y =
-      let inside = get_in b.records j r at_j in
+      let inside = slice_get_within b.records j r at_j in
       let len : length (h ++ take j b.records) ≡ length h + j = grown_length j (omega arith) in
       let mine = waits j r at_j y in
       let c = mine.c in
@@ -249,7 +249,7 @@ module _ (m : Opening) (w : WorldView) (h : History) (positions : Positions) (t 
           → (s : ℕ) (z : Slot) (read : Option BegunRead) → slice_get node.desk.slots s ≡ Some z → slice_get node.reads s ≡ Some read
           → StageStands m w.log.done ((h ++ take j b.records) ++ r ∷ []) (y.positions_then ++ mine.c ∷ []) t (session m.config n s) (placed (length h) b (suc j)) z.count z.stage read
       own_next j r at_j y mine stage s z read there begun =
-          let inside = get_in b.records j r at_j in
+          let inside = slice_get_within b.records j r at_j in
           let len : length (h ++ take j b.records) ≡ length h + j = grown_length j (omega arith) in
           let done = x.log.done in
           ⊎_elim

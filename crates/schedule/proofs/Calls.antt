@@ -1,7 +1,7 @@
 -- The steps of one slot: a call or an answer.
 use Rattle.std.proofs.Common.{◌≡◌, ◌≢◌, ℕ, suc, ◌+◌, ◌*◌, ◌<◌, ◌≤◌, false, List, [], ◌∷◌, ◌++◌, length, Option, Some, None, refl, sym, ap, ◌∙◌, ⊎_elim, arith, subst}
 use Rattle.std.specs.Prelude.{slice_get, slice_set, ◌&&◌, nat_le, option_map}
-use Rattle.std.proofs.lemmas.Option.{same_Some}
+use Rattle.std.proofs.lemmas.Option.{same_Some, slice_get_within}
 use Rattle.std.proofs.lemmas.Bool.{cases_eq, and_parts, leb-true}
 use Rattle.verifier.specs.declared.refusal.Mode.{Mode}
 use Rattle.verifier.specs.declared.refusal.Mode.TheVariants.{Update, Read}
@@ -26,7 +26,7 @@ use Rattle.schedule.specs.Explains.{count_of}
 use Rattle.schedule.specs.Worlds.{NodeView, WorldView}
 use Rattle.schedule.specs.Steps.{Part, with_call_or_back, put_part, with_event, session_of_slot, is_idle, is_free, no_read, post, collect, read_begin, read_answer, with_read}
 use Rattle.schedule.specs.Stands.{OpenAt, ReplyStands, StageStands, DeskStands, NodeStands, LogStands, Stands}
-use Rattle.schedule.proofs.Lists.{get_snoc, get_in, get_some, get_set, set_same, set_length}
+use Rattle.schedule.proofs.Lists.{get_snoc, get_some, get_set, set_same, set_length}
 use Rattle.schedule.proofs.Options.{cond_gives, map_gives, then_gives, free_is, no_read_is, read_is, posted_is, collected_is}
 use Rattle.schedule.proofs.Slots.{claimed_same}
 use Rattle.schedule.proofs.Traces.{open_new, open_once, idle_back, op_in, stamp_less}
@@ -105,7 +105,7 @@ seat_event m w h positions t n s node desk reads e at_n inside by fine early sta
   log = x.log;
   count = set_length w.nodes n (seats_of node desk reads) ∙ x.count;
   callers = λ c y mode op g. ⊎_elim (λ old. x.callers c y mode op old)
-      (λ new. (n, (s, inside, sym (ap caller new.1) ∙ by, (let l = get_in w.nodes n node at_n in let count = x.count in omega arith))))
+      (λ new. (n, (s, inside, sym (ap caller new.1) ∙ by, (let l = slice_get_within w.nodes n node at_n in let count = x.count in omega arith))))
       (get_snoc t e c (Call y mode op) g);
   stamps = λ b y a g. ⊎_elim (λ old. x.stamps b y a old) (λ new. let is = new.1 in subst (λ f. stamp_of m f ≤ w.log.done) is early) (get_snoc t e b (Back y a) g);
   nodes = nodes_put (λ k y. NodeStands m w.log.done h positions (t ++ e ∷ []) k y) w.nodes n (seats_of node desk reads)
@@ -114,7 +114,7 @@ seat_event m w h positions t n s node desk reads e at_n inside by fine early sta
         desk = o.desk;
         batch = o.batch;
         seats = λ j y read there begun.
-            let within : j < m.config.slots = (let a = get_in old.desk.slots j y there in let b = o.desk.slots in omega arith) in
+            let within : j < m.config.slots = (let a = slice_get_within old.desk.slots j y there in let b = o.desk.slots in omega arith) in
             stage_event m w.log.done h positions t (session m.config k j) old.batch y.count y.stage read e (λ same. other_node m.config n k s j inside within ne (sym by ∙ same)) (o.seats j y read there begun);
       })
       (let o = x.nodes n node at_n in record {
@@ -127,7 +127,7 @@ seat_event m w h positions t n s node desk reads e at_n inside by fine early sta
             (this y read (subst (λ i. slice_get desk.slots i ≡ Some y) same there) (subst (λ i. slice_get reads i ≡ Some read) same begun)))
             (λ ne.
             let old = others j y read ne there begun in
-            let within : j < m.config.slots = (let a = get_in node.desk.slots j y old.0 in let b = o.desk.slots in omega arith) in
+            let within : j < m.config.slots = (let a = slice_get_within node.desk.slots j y old.0 in let b = o.desk.slots in omega arith) in
             stage_event m w.log.done h positions t (session m.config n j) node.batch y.count y.stage read e (λ same. other_slot m.config n n s j inside within ne (sym by ∙ same)) (o.seats j y read old.0 old.1))
             (cases_eq j s);
       });
@@ -141,7 +141,7 @@ pub stage_at : (m : Opening) (done : ℕ) (h : History) (positions : Positions) 
 stage_at m done h positions t n s node x st read o at begun is = subst (λ y. StageStands m done h positions t (session m.config n s) node.batch x.count y read) is (o.seats s x read at begun)
 
 slot_in : (m : Opening) (n s : ℕ) (node : NodeView) (x : Slot) → DeskStands m n node → slice_get node.desk.slots s ≡ Some x → s < m.config.slots
-slot_in m n s node x d at = let a = get_in node.desk.slots s x at in let b = d.slots in omega arith
+slot_in m n s node x d at = let a = slice_get_within node.desk.slots s x at in let b = d.slots in omega arith
 
 pub keeps_post : (m : Opening) (w : WorldView) (h : History) (positions : Positions) (t : Trace) (n s : ℕ) (op : Operation) (node : NodeView) (p : Part)
     → slice_get w.nodes n ≡ Some node → post m s op w.log node ≡ Some p → Stands m w h positions t → Kept m w h positions t n p
@@ -290,7 +290,7 @@ keeps_read_answer m w h positions t n s node p at_n taken x =
     let done = leb-true node.replica.tail w.log.done tests.1 in
     let d = map_gives (λ (f : ReadEffect). with_call_or_back (Back (session_of_slot node s) (ReadBack (record { point = node.replica.tail; reply = f.reply }))) w.log (with_read node s None)) (store_meaning.read m.catalogue (Run read.call) node.replica.state) p c.1 in
     let a : Answer = ReadBack (record { point = node.replica.tail; reply = d.0.reply }) in
-    let there : (y : Slot) × (slice_get node.desk.slots s ≡ Some y) = get_some node.desk.slots s (let l = get_in node.reads s (Some read) begun in let f = o.desk.reads in let g = o.desk.slots in omega arith) in
+    let there : (y : Slot) × (slice_get node.desk.slots s ≡ Some y) = get_some node.desk.slots s (let l = slice_get_within node.reads s (Some read) begun in let f = o.desk.reads in let g = o.desk.slots in omega arith) in
     let q = read_waits m w.log.done h positions t (session m.config n s) node.batch (there.0).count (there.0).stage read (o.seats s there.0 (Some read) there.1 begun) in
     let old = q.1 in
     let right : read_reply_at store_meaning m.catalogue h node.replica.tail (Run read.call) ≡ Some d.0.reply =

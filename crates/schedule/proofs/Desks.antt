@@ -1,7 +1,7 @@
 -- A batch is claimed at a desk, and is answered there.
 use Rattle.std.proofs.Common.{◌≡◌, ℕ, zero, suc, ◌+◌, ◌*◌, ◌<◌, ◌≤◌, List, [], ◌∷◌, length, map, Option, Some, None, refl, sym, ap, ◌∙◌, ⊎_elim, arith, subst}
 use Rattle.std.specs.Prelude.{slice_get, slice_set, ◌&&◌, nat_le, if◌then◌else◌, option_map}
-use Rattle.std.proofs.lemmas.Option.{none-some, same_Some, slice_get-map}
+use Rattle.std.proofs.lemmas.Option.{none-some, same_Some, slice_get-map, slice_get_within}
 use Rattle.std.proofs.lemmas.List.{length-map}
 use Rattle.std.proofs.lemmas.Bool.{cases_lt, lt-ltb, le-ltb, and_parts, leb-true}
 use Rattle.verifier.specs.declared.refusal.Mode.TheVariants.{Update}
@@ -28,7 +28,7 @@ use Rattle.schedule.specs.declared.parts.Opening.{Opening}
 use Rattle.schedule.specs.Worlds.{NodeView, WorldView, own_of}
 use Rattle.schedule.specs.Steps.{Part, claim, no_batch, inner, seen_of, put_seen}
 use Rattle.schedule.specs.Stands.{OpenAt, ReplyStands, StageStands, DeskStands, NodeStands, BatchStands, WrittenStands, Stands, batch_in, index_in}
-use Rattle.schedule.proofs.Lists.{get_in, set_length}
+use Rattle.schedule.proofs.Lists.{set_length}
 use Rattle.schedule.proofs.Options.{cond_gives, none_is, no_batch_is, appended_is}
 use Rattle.schedule.proofs.Slots.{claims_own, requests_have, request_of, claimed_has, claimed_once, answered_get, answered_length, AllAnswered, none_claimed, answer_found}
 use Rattle.schedule.proofs.Calls.{nodes_put, Kept, same_history, session_is}
@@ -145,7 +145,7 @@ module _ (m : Opening) (w : WorldView) (h : History) (positions : Positions) (t 
       ))
       (λ ge.
       let no = le-ltb k (length b.replies.outcomes) ge in
-      let inside = get_in b.batch.records k r g in
+      let inside = slice_get_within b.batch.records k r g in
       let full = wr.ended (omega arith) in
       let all : m.config.limit ≤ w.log.done = omega arith in (
         Ended,

@@ -2,6 +2,7 @@
 use Rattle.std.proofs.Common.{◌≡◌, ◌≢◌, ℕ, ◌<◌, ◌≤◌, true, [], ◌∷◌, ◌++◌, length, take, Some, sym, ap, ◌∙◌, ⊎_elim, arith, subst, length-append}
 use Rattle.std.specs.Prelude.{slice_get, option_map}
 use Rattle.std.proofs.lemmas.List.{take-append-le}
+use Rattle.std.proofs.lemmas.Option.{slice_get_within}
 use Rattle.verifier.specs.declared.refusal.Mode.{Mode}
 use Rattle.verifier.specs.declared.refusal.Mode.TheVariants.{Update}
 use Rattle.oplog.specs.declared.records.Record.{Record}
@@ -12,7 +13,7 @@ use Rattle.replica.specs.StoreMeaning.{store_meaning, is_operation}
 use Rattle.schedule.specs.Trace.{Answer, Updated, ReadBack, Event, Call, Back, Trace, Positions, IsOpen, IsIdle, StampBefore, stamp, Suits}
 use Rattle.schedule.specs.declared.parts.Opening.{Opening}
 use Rattle.schedule.specs.Explains.{Explains, IsRight, count_of}
-use Rattle.schedule.proofs.Lists.{get_more, get_snoc, get_in, get_some}
+use Rattle.schedule.proofs.Lists.{get_more, get_snoc, get_some}
 use Rattle.schedule.proofs.Traces.{take_all_front, answers_in, answers_more, answers_less, stamp_less}
 
 -- what an answer has to be
@@ -33,11 +34,11 @@ Fine m h positions t (Back x a) = (mode : Mode) × (op : Operation) × (c : ℕ)
 
 pub in_trace : {m : Opening} {h : History} {positions : Positions} {t : Trace} → Explains m h positions t → (i c : ℕ) → slice_get positions i ≡ Some c → (i < length h) × (c < length t) × ((e : Record) × (slice_get h i ≡ Some e) × (slice_get t c ≡ Some (Call e.author Update e.op)))
 in_trace {m} {h} {positions} {t} x i c g =
-    let l = get_in positions i c g in
+    let l = slice_get_within positions i c g in
     let p = x.each_placed in
     let e = get_some h i (omega arith) in
     let k = x.calls i c e.0 e.1 g in
-    (get_in h i e.0 e.1, get_in t c (Call (e.0).author Update (e.0).op) k, (e.0, e.1, k))
+    (slice_get_within h i e.0 e.1, slice_get_within t c (Call (e.0).author Update (e.0).op) k, (e.0, e.1, k))
 
 right_at : (m : Opening) (h : History) (positions : Positions) (t : Trace) (x : ℕ) (mode : Mode) (op : Operation) (c : ℕ) (a : Answer) (e : Event) → Fine m h positions t e → e ≡ Back x a → IsOpen t x mode op c → Right m h positions t op c a
 right_at m h positions t x mode op c a e fine same o = let f = subst (λ y. Fine m h positions t y) same fine in f.5 mode op c o
@@ -53,10 +54,10 @@ explains_event {m} {h} {positions} {t} e x fine = record {
   placed_later = λ c i s p before. let l = (in_trace x i c p).1 in x.placed_later c i s p (stamp_less m.config.limit t e (omega arith) before);
   read_later = λ y mode op c b k r s ans before. ⊎_elim
       (λ old. let l = answers_in old in let l0 = l.0 in let l1 = l.1 in x.read_later y mode op c b k r s old (stamp_less m.config.limit t e (omega arith) before))
-      (λ new. let w = right_at m h positions t y mode op c (ReadBack (record { point = k; reply = r })) e fine new.1 new.2 in let l = get_in t c (Call y mode op) (new.2).call in w.2 s (stamp_less m.config.limit t e (omega arith) before))
+      (λ new. let w = right_at m h positions t y mode op c (ReadBack (record { point = k; reply = r })) e fine new.1 new.2 in let l = slice_get_within t c (Call y mode op) (new.2).call in w.2 s (stamp_less m.config.limit t e (omega arith) before))
       (answers_less e ans);
   calls_in_turn = λ c y mode op g. ⊎_elim
-      (λ old. let l = get_in t c (Call y mode op) old in subst (λ s. IsIdle s y) (sym (take-append-le c t (e ∷ []) (omega arith))) (x.calls_in_turn c y mode op old))
+      (λ old. let l = slice_get_within t c (Call y mode op) old in subst (λ s. IsIdle s y) (sym (take-append-le c t (e ∷ []) (omega arith))) (x.calls_in_turn c y mode op old))
       (λ new. let idle = subst (λ f. Fine m h positions t f) new.1 fine in subst (λ k. IsIdle (take k (t ++ e ∷ [])) y) (sym new.0) (subst (λ s. IsIdle s y) (sym (take_all_front t (e ∷ []))) idle))
       (get_snoc t e c (Call y mode op) g);
   answers_in_turn = λ b y a g. ⊎_elim
@@ -86,15 +87,15 @@ explains_entry {m} {h} {positions} {t} e c x may call free seq room stamps = rec
   updates = λ i f g. ⊎_elim (λ old. x.updates i f old) (λ new. subst (λ z. is_operation Update m.catalogue z.op ≡ true) new.1 may) (get_snoc h e i f g);
   each_placed = let p = x.each_placed in simp (length-append) (omega arith);
   calls = λ i d f g p. ⊎_elim
-      (λ old. ⊎_elim (λ oldp. x.calls i d f old oldp) (λ new. absurd (let l = get_in h i f old in let n = new.0 in let q = x.each_placed in omega arith)) (get_snoc positions c i d p))
-      (λ new. ⊎_elim (λ oldp. absurd (let l = get_in positions i d oldp in let n = new.0 in let q = x.each_placed in omega arith)) (λ newp. subst (λ k. slice_get t k ≡ Some (Call f.author Update f.op)) newp.1 (subst (λ z. slice_get t c ≡ Some (Call z.author Update z.op)) new.1 call)) (get_snoc positions c i d p))
+      (λ old. ⊎_elim (λ oldp. x.calls i d f old oldp) (λ new. absurd (let l = slice_get_within h i f old in let n = new.0 in let q = x.each_placed in omega arith)) (get_snoc positions c i d p))
+      (λ new. ⊎_elim (λ oldp. absurd (let l = slice_get_within positions i d oldp in let n = new.0 in let q = x.each_placed in omega arith)) (λ newp. subst (λ k. slice_get t k ≡ Some (Call f.author Update f.op)) newp.1 (subst (λ z. slice_get t c ≡ Some (Call z.author Update z.op)) new.1 call)) (get_snoc positions c i d p))
       (get_snoc h e i f g);
   once = λ i j d p q. ⊎_elim
       (λ oldp. ⊎_elim (λ oldq. x.once i j d oldp oldq) (λ newq. absurd (free i (subst (λ k. slice_get positions i ≡ Some k) (sym newq.1) oldp))) (get_snoc positions c j d q))
       (λ newp. ⊎_elim (λ oldq. absurd (free j (subst (λ k. slice_get positions j ≡ Some k) (sym newp.1) oldq))) (λ newq. newp.0 ∙ sym newq.0) (get_snoc positions c j d q))
       (get_snoc positions c i d p);
   seqs = λ i f g. ⊎_elim
-      (λ old. let l = get_in h i f old in x.seqs i f old ∙ ap (λ es. count_of f.author es) (sym (take-append-le i h (e ∷ []) (omega arith))))
+      (λ old. let l = slice_get_within h i f old in x.seqs i f old ∙ ap (λ es. count_of f.author es) (sym (take-append-le i h (e ∷ []) (omega arith))))
       (λ new. subst (λ z. z.seq ≡ count_of z.author (take i (h ++ e ∷ []))) new.1 (seq ∙ ap (λ es. count_of e.author es) (sym (ap (λ k. take k (h ++ e ∷ [])) new.0 ∙ take_all_front h (e ∷ [])))))
       (get_snoc h e i f g);
   right = λ y mode op d b a ans. more op d a (x.right y mode op d b a ans);

@@ -1,6 +1,6 @@
 -- Lists, by their elements.
 use Rattle.std.proofs.Common.{◌≡◌, ◌≢◌, ℕ, zero, suc, ◌+◌, ◌<◌, List, [], ◌∷◌, ◌++◌, length, take, drop, Some, refl, sym, ap, ◌∙◌, inl, inr, ⊎_elim, arith}
-use Rattle.std.specs.Prelude.{slice_get, slice_set, replicate, ◌⊎◌}
+use Rattle.std.specs.Prelude.{slice_get, slice_set, ◌⊎◌}
 use Rattle.std.proofs.lemmas.Option.{none-some, same_Some}
 
 pub get_more : {A : Type 0} (xs ys : List A) (i : ℕ) (v : A) → slice_get xs i ≡ Some v → slice_get (xs ++ ys) i ≡ Some v
@@ -17,11 +17,6 @@ get_snoc [] y zero v h = inr (refl, same_Some y v h)
 get_snoc [] y (suc i) v h = absurd (none-some v h)
 get_snoc (x ∷ xs) y zero v h = inl h
 get_snoc (x ∷ xs) y (suc i) v h = ⊎_elim inl (λ p. inr (ap suc p.0, p.1)) (get_snoc xs y i v h)
-
-pub get_in : {A : Type 0} (xs : List A) (i : ℕ) (v : A) → slice_get xs i ≡ Some v → i < length xs
-get_in [] i v h = absurd (none-some v h)
-get_in (x ∷ xs) zero v h = omega arith
-get_in (x ∷ xs) (suc i) v h = let l = get_in xs i v h in omega arith
 
 pub get_some : {A : Type 0} (xs : List A) (i : ℕ) → i < length xs → (v : A) × (slice_get xs i ≡ Some v)
 get_some [] i h = absurd (omega arith)
@@ -63,10 +58,6 @@ pub set_length : {A : Type 0} (xs : List A) (i : ℕ) (v : A) → length (slice_
 set_length [] i v = refl
 set_length (x ∷ xs) zero v = refl
 set_length (x ∷ xs) (suc i) v = ap suc (set_length xs i v)
-
-pub replicate_next : {A : Type 0} (n : ℕ) (v : A) → replicate (n + 1) v ≡ replicate n v ++ v ∷ []
-replicate_next zero v = refl
-replicate_next (suc n) v = let i : suc n + 1 ≡ suc (n + 1) = omega arith in ap (λ k. replicate k v) i ∙ ap (λ xs. v ∷ xs) (replicate_next n v)
 
 pub set_back : {A : Type 0} (xs : List A) (i : ℕ) (v : A) → slice_get xs i ≡ Some v → slice_set xs i v ≡ xs
 set_back [] i v g = refl

@@ -2,7 +2,7 @@
 use Rattle.std.proofs.Common.{◌≡◌, ℕ, suc, ◌+◌, ◌<◌, ◌≤◌, ◌^◌, true, false, Bool, List, [], ◌∷◌, length, Option, Some, None, refl, sym, ap, ◌∙◌, arith, subst}
 use Rattle.std.specs.Prelude.{slice_get, ◌&&◌, ◌||◌, ◌==◌, cond, if◌then◌else◌}
 use Rattle.std.specs.List.{list_any}
-use Rattle.std.proofs.lemmas.Option.{none-some}
+use Rattle.std.proofs.lemmas.Option.{none-some, slice_get_within}
 use Rattle.std.proofs.lemmas.Bool.{false≢true}
 use Rattle.loader.specs.StoreState.{IsState, sizes_of}
 use Rattle.loader.proofs.Export.{state_sizes}
@@ -32,7 +32,7 @@ use Rattle.schedule.specs.Worlds.{NodeView, own_of}
 use Rattle.schedule.specs.Steps.{silent, claim, no_batch}
 use Rattle.schedule.specs.Stands.{StageStands, batch_in}
 use Rattle.schedule.specs.Taking.{IsOfStore, TakesPart}
-use Rattle.schedule.proofs.Lists.{get_in, get_some}
+use Rattle.schedule.proofs.Lists.{get_some}
 use Rattle.schedule.proofs.Replays.{after_all, runs_next}
 
 -- ---- the state
@@ -75,7 +75,7 @@ history_short x = let a = x.log.within in let b = (x.config.limit).1 in omega ar
 pub countable : {m : Opening} {g : Log} {node : NodeView} → IsOfStore m g node → (s : ℕ) (y : Slot) → slice_get node.desk.slots s ≡ Some y → suc y.count < 2 ^ 64
 countable {m} {g} {node} x s y at =
     let o = x.stands in
-    let a = get_in node.desk.slots s y at in
+    let a = slice_get_within node.desk.slots s y at in
     let b = o.desk.slots in
     let c = o.desk.reads in
     let read = get_some node.reads s (omega arith) in

@@ -1,7 +1,7 @@
 -- A replica applies what was copied for it.
 use Rattle.std.proofs.Common.{◌≡◌, ◌≢◌, ℕ, zero, suc, ◌+◌, ◌-◌, ◌<◌, ◌≤◌, true, [], ◌∷◌, length, take, Some, None, refl, sym, ap, ◌∙◌, inl, inr, ⊎_elim, arith, subst}
 use Rattle.std.specs.Prelude.{slice_get, slice_set, ◌⊎◌, ◌&&◌, not, nat_lt, if◌then◌else◌}
-use Rattle.std.proofs.lemmas.Option.{none-some, same_Some}
+use Rattle.std.proofs.lemmas.Option.{none-some, same_Some, slice_get_within}
 use Rattle.std.proofs.lemmas.Bool.{cases_eq, and_parts, or_cases, leb-true, ltb-true}
 use Rattle.loader.specs.StoreState.{StoreState}
 use Rattle.loader.specs.CatalogueView.{CatalogueView, IsCatalogue}
@@ -25,7 +25,7 @@ use Rattle.node.proofs.Export.{after_count, after_first}
 use Rattle.schedule.specs.Worlds.{NodeView, WorldView, own_of}
 use Rattle.schedule.specs.Steps.{Part, inner, seen_of, put_seen}
 use Rattle.schedule.specs.Stands.{DeskStands, NodeStands, LogStands, BatchStands, WrittenStands, Stands, batch_in, index_in}
-use Rattle.schedule.proofs.Lists.{get_drop, get_in, set_length}
+use Rattle.schedule.proofs.Lists.{get_drop, set_length}
 use Rattle.schedule.proofs.Options.{cond_gives, some_is}
 use Rattle.schedule.proofs.Seats.{stage_batch}
 use Rattle.schedule.proofs.Calls.{nodes_put, Kept, same_history}
@@ -57,7 +57,7 @@ pub after_all : (c : CatalogueView) (h rs : History) (tail : ℕ) (state : Store
 after_all c h [] tail state next is inside = let i : tail ≡ tail + 0 = omega arith in (is ∙ ap (λ k. state_after store_meaning c h k) i, omega arith)
 after_all c h (r ∷ rs) tail state next is inside =
     let there = first_there h rs r tail next in
-    let within = get_in h tail r there in
+    let within = slice_get_within h tail r there in
     let step = ap (λ y. left_by (store_meaning.update c r.op y) y) is ∙ sym (after_next c h tail r there) in
     let more = after_all c h rs (tail + 1) (left_by (store_meaning.update c r.op state) state) (later_there h rs r tail next) step (omega arith) in
     let i : (tail + 1) + length rs ≡ tail + suc (length rs) = omega arith in

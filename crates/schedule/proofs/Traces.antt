@@ -1,13 +1,13 @@
 -- Traces that grow at their end.
 use Rattle.std.proofs.Common.{◌≡◌, ◌≢◌, ℕ, zero, ◌<◌, ◌≤◌, List, [], ◌∷◌, ◌++◌, length, take, Some, refl, sym, ap, ◌∙◌, inl, inr, ⊎_elim, arith, subst}
 use Rattle.std.specs.Prelude.{slice_get, ◌⊎◌}
-use Rattle.std.proofs.lemmas.Option.{same_Some}
+use Rattle.std.proofs.lemmas.Option.{same_Some, slice_get_within}
 use Rattle.std.proofs.lemmas.Bool.{cases_order}
 use Rattle.std.proofs.lemmas.List.{take-append-le}
 use Rattle.verifier.specs.declared.refusal.Mode.{Mode}
 use Rattle.oplog.specs.Operations.{Operation}
 use Rattle.schedule.specs.Trace.{Answer, Event, Call, Back, Trace, caller, IsOpen, IsIdle, Answers, StampBefore}
-use Rattle.schedule.proofs.Lists.{get_more, get_new, get_snoc, get_in, get_take}
+use Rattle.schedule.proofs.Lists.{get_more, get_new, get_snoc, get_take}
 
 abbrev pub is_call : Event → ℕ
 is_call (Call x mode op) = 1
@@ -29,7 +29,7 @@ take_all_front [] ys = take_none ys
 take_all_front (x ∷ xs) ys = ap (λ zs. x ∷ zs) (take_all_front xs ys)
 
 pub open_in : {t : Trace} {x : ℕ} {mode : Mode} {op : Operation} {c : ℕ} → IsOpen t x mode op c → c < length t
-open_in {t} {x} {mode} {op} {c} o = get_in t c (Call x mode op) o.call
+open_in {t} {x} {mode} {op} {c} o = slice_get_within t c (Call x mode op) o.call
 
 pub open_more : {t : Trace} {x : ℕ} {mode : Mode} {op : Operation} {c : ℕ} (e : Event) → caller e ≢ x → IsOpen t x mode op c → IsOpen (t ++ e ∷ []) x mode op c
 open_more {t} {x} {mode} {op} {c} e ne o = record {
@@ -40,7 +40,7 @@ open_more {t} {x} {mode} {op} {c} e ne o = record {
 pub open_new : (t : Trace) (x : ℕ) (mode : Mode) (op : Operation) → IsOpen (t ++ Call x mode op ∷ []) x mode op (length t)
 open_new t x mode op = record {
   call = get_new t (Call x mode op);
-  last = λ j f l g. absurd (⊎_elim (λ old. let b = get_in t j f old in omega arith) (λ new. let b = new.0 in omega arith) (get_snoc t (Call x mode op) j f g));
+  last = λ j f l g. absurd (⊎_elim (λ old. let b = slice_get_within t j f old in omega arith) (λ new. let b = new.0 in omega arith) (get_snoc t (Call x mode op) j f g));
 }
 
 -- the only call open after an event is that event, or was open and is another caller's
@@ -49,7 +49,7 @@ open_less {t} {x} {mode} {op} {c} e o =
     ⊎_elim
     (λ old. inl (
       record { call = old; last = λ j f l g. o.last j f l (get_more t (e ∷ []) j f g) },
-      o.last (length t) e (get_in t c (Call x mode op) old) (get_new t e),
+      o.last (length t) e (slice_get_within t c (Call x mode op) old) (get_new t e),
     ))
     (λ new. inr new)
     (get_snoc t e c (Call x mode op) o.call)
@@ -67,7 +67,7 @@ open_once {t} {x} {mode} {other} {op} {op2} {c} {d} o p =
     (same, same_Some (Call x mode op) (Call x other op2) (sym q ∙ p.call))
 
 pub answers_in : {t : Trace} {x : ℕ} {mode : Mode} {op : Operation} {c b : ℕ} {a : Answer} → Answers t x mode op c b a → (c < b) × (b < length t) × (slice_get t c ≡ Some (Call x mode op))
-answers_in {t} {x} {mode} {op} {c} {b} {a} h = let g = get_take b t c (Call x mode op) h.open_call.call in (g.1, get_in t b (Back x a) h.back, g.0)
+answers_in {t} {x} {mode} {op} {c} {b} {a} h = let g = get_take b t c (Call x mode op) h.open_call.call in (g.1, slice_get_within t b (Back x a) h.back, g.0)
 
 pub answers_more : {t : Trace} {x : ℕ} {mode : Mode} {op : Operation} {c b : ℕ} {a : Answer} (e : Event) → Answers t x mode op c b a → Answers (t ++ e ∷ []) x mode op c b a
 answers_more {t} {x} {mode} {op} {c} {b} {a} e h =
@@ -80,7 +80,7 @@ answers_more {t} {x} {mode} {op} {c} {b} {a} e h =
 pub answers_less : {t : Trace} {x : ℕ} {mode : Mode} {op : Operation} {c b : ℕ} {a : Answer} (e : Event) → Answers (t ++ e ∷ []) x mode op c b a → (Answers t x mode op c b a) ⊎ ((b ≡ length t) × (e ≡ Back x a) × IsOpen t x mode op c)
 answers_less {t} {x} {mode} {op} {c} {b} {a} e h =
     ⊎_elim
-    (λ old. let l = get_in t b (Back x a) old in inl (record { open_call = subst (λ s. IsOpen s x mode op c) (take-append-le b t (e ∷ []) (omega arith)) h.open_call; back = old }))
+    (λ old. let l = slice_get_within t b (Back x a) old in inl (record { open_call = subst (λ s. IsOpen s x mode op c) (take-append-le b t (e ∷ []) (omega arith)) h.open_call; back = old }))
     (λ new. inr (new.0, new.1, let f = take_all_front t (e ∷ []) in subst (λ s. IsOpen s x mode op c) f (subst (λ k. IsOpen (take k (t ++ e ∷ [])) x mode op c) new.0 h.open_call)))
     (get_snoc t e b (Back x a) h.back)
 

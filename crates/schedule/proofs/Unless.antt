@@ -2,6 +2,7 @@
 use Rattle.std.proofs.Common.{◌≡◌, ◌≤◌, ℕ, Bool, true, false, List, length, Option, Some, None, refl, sym, ap, ◌∙◌, arith, subst}
 use Rattle.std.specs.Prelude.{◌&&◌, slice_get, cond, option_map, if◌then◌else◌}
 use Rattle.std.specs.Option.{option_and_then}
+use Rattle.std.proofs.lemmas.Option.{slice_get_past, slice_get_within}
 use Rattle.verifier.specs.declared.refusal.Mode.TheVariants.{Read}
 use Rattle.oplog.specs.declared.records.Op.TheVariants.{Run}
 use Rattle.oplog.specs.declared.records.Record.{Record}
@@ -24,8 +25,7 @@ use Rattle.schedule.specs.Steps.{put_part, part_of, node_of, took, read_answer}
 use Rattle.schedule.specs.Stands.{StageStands}
 use Rattle.schedule.specs.Taking.{IsOfStore}
 use Rattle.schedule.specs.Blocking.{IsTakenUnless, read_block, blocked}
-use Rattle.schedule.proofs.Lists.{get_in, get_some}
-use Rattle.schedule.proofs.Answers.{get_beyond}
+use Rattle.schedule.proofs.Lists.{get_some}
 
 -- ---- reads
 
@@ -47,7 +47,7 @@ has_answer {m} {g} {node} x s read at =
     let o = x.stands in
     let b = o.desk.slots in
     let c = o.desk.reads in
-    let within = get_in node.reads s (Some read) at in
+    let within = slice_get_within node.reads s (Some read) at in
     let y = get_some node.desk.slots s (omega arith) in
     let may = begun_may m g.done x.history x.positions x.trace (session m.config x.number s) node.batch (y.0).count (y.0).stage read (o.seats s y.0 (Some read) y.1 at) in
     let r = (have_effects m.catalogue x.catalogue x.history x.updates).reads node.replica.tail read.call may in
@@ -82,4 +82,4 @@ blocked_there m w step node why at taken =
 -- and of one that is not
 pub blocked_away : (m : Opening) (w : WorldView) (step : Step) → length w.nodes ≤ node_of step
     → (Some (NoNode (length w.nodes)) ≡ blocked m w step) × IsTakenUnless (Some (NoNode (length w.nodes))) (took m w step)
-blocked_away m w step past = let none = get_beyond w.nodes (node_of step) past in rw none (refl, tt)
+blocked_away m w step past = let none = slice_get_past w.nodes (node_of step) past in rw none (refl, tt)

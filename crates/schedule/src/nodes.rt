@@ -85,7 +85,7 @@ pub(crate) fn program_of<'a>(
 }
 
 // Room for so many reads, none of which is begun.
-#[tactic(auto, using(crate::proofs::Lists::replicate_next))]
+#[tactic(auto, using(std::proofs::lemmas::Grind::replicate_next))]
 fn no_reads(alloc: Global, count: usize) -> Result<Vec<ReadRoom>, AllocError>
     ensures none { IfOk result (λ reads. reads.items ≡ replicate count None) }
 {

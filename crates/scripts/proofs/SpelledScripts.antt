@@ -5,12 +5,12 @@ use Rattle.std.specs.Option.{option_or}
 use Rattle.std.specs.List.{list_all}
 use Rattle.std.proofs.lemmas.Bool.{and_parts, false≢true}
 use Rattle.std.proofs.lemmas.Bool.Decides.{nat_tests}
-use Rattle.std.proofs.lemmas.Option.{same_Some}
+use Rattle.std.proofs.lemmas.Option.{same_Some, cond_some}
 use Rattle.text.specs.declared.lines.TheConstants.{LINE_BYTES}
 use Rattle.text.specs.Fields.{has_no_space, split_at_space}
 use Rattle.text.specs.Words.{is_lower, is_name_byte, is_name, number_of}
 use Rattle.text.specs.Digits.{field_bytes}
-use Rattle.text.proofs.Export.{IsSilent, by_kind_from, by_words, by_hash, by_empty, steps, where_true, split_from, split_to}
+use Rattle.text.proofs.Export.{IsSilent, by_kind_from, by_words, by_hash, by_empty, steps, split_from, split_to}
 use Rattle.loader.specs.Spelling.{mode_word}
 use Rattle.loader.proofs.Export.{word_is, no_space_in_name, no_space_in_number}
 use Rattle.oplog.specs.Calls.{Call as NumberedCall}
@@ -34,7 +34,7 @@ named_from : (name digits : List ℕ) (call : ProgramCall) → named_call name d
 unfolding named_call
 named_from name digits call e =
     let argument = steps (field_bytes digits) _ call e in
-    let last = where_true (is_name name) (record { name = name; argument = argument.0 }) call argument.2 in
+    let last = cond_some (is_name name) (record { name = name; argument = argument.0 }) call argument.2 in
     subst (λ (c : ProgramCall). (name ≡ c.name) × (is_name c.name ≡ true) × SpellsBytes c.argument digits) last.1 (refl, last.0, argument.1)
 
 numbered_from : (t : List ℕ) (call : NumberedCall) → numbered_call t ≡ Some call

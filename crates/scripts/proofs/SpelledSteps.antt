@@ -1,11 +1,11 @@
 -- A line of a list of steps says what it spells.
 use Rattle.std.proofs.Common.{◌≡◌, ◌⊎◌, inl, inr, ℕ, ◌≤◌, true, false, eqb, List, [], ◌∷◌, ◌++◌, length, codes, decimal, Some, refl, sym, ap, subst, ◌∙◌}
 use Rattle.std.specs.Prelude.{option_map, option_and_then}
-use Rattle.std.proofs.lemmas.Option.{same_Some}
+use Rattle.std.proofs.lemmas.Option.{same_Some, cond_some}
 use Rattle.text.specs.declared.lines.TheConstants.{LINE_BYTES}
 use Rattle.text.specs.Fields.{has_no_space, split_at_space}
 use Rattle.text.specs.Words.{number_of}
-use Rattle.text.proofs.Export.{IsSilent, by_kind_from, by_words, by_hash, by_empty, steps, where_true, split_from, split_to}
+use Rattle.text.proofs.Export.{IsSilent, by_kind_from, by_words, by_hash, by_empty, steps, split_from, split_to}
 use Rattle.loader.specs.Spelling.{mode_word}
 use Rattle.oplog.specs.Calls.{NewProgram}
 use Rattle.scripts.specs.Script.{KeyedCall, keyed_call, new_program}
@@ -44,7 +44,7 @@ at_from n t at e =
     let node = steps (number_of first.0.0) _ at third.2 in
     let slot = steps (number_of second.0.0) _ at node.2 in
     let call = steps (keyed_call third.0.0 third.0.1) _ at slot.2 in
-    let last = where_true (is_named_so n call.0.key) (record { node = node.0; slot = slot.0 }, call.0) at call.2 in
+    let last = cond_some (is_named_so n call.0.key) (record { node = node.0; slot = slot.0 }, call.0) at call.2 in
     let a = number_from first.0.0 node.0 node.1 in
     let s = number_from second.0.0 slot.0 slot.1 in
     let k = keyed_from third.0.0 third.0.1 call.0 call.1 in

@@ -1,6 +1,5 @@
 -- The turn of a line, from what was done with it.
-use Rattle.std.proofs.Common.{◌≡◌, ℕ, true, false, List, ◌++◌, length, Option, Some, None, Result, Ok, Err, refl, sym, ap, subst, ◌∙◌}
-use Rattle.std.specs.Prelude.{OnOk}
+use Rattle.std.proofs.Common.{◌≡◌, ℕ, true, false, List, ◌++◌, length, Option, Some, None, refl, sym, ap, subst, ◌∙◌}
 use Rattle.loader.specs.CatalogueView.{CatalogueView}
 use Rattle.loader.specs.StoreState.{StoreState}
 use Rattle.oplog.specs.History.{History}
@@ -15,10 +14,6 @@ use Rattle.serving.specs.ServeAnswer.{asking_turn}
 
 pub none_taken : (c : CatalogueView) (o : Option Turn) (node : SingleNode) (old : List ℕ) → o ≡ None → LineTaken ENDLESS c o false node old old
 none_taken c o node old is = subst (λ (x : Option Turn). LineTaken ENDLESS c x false node old old) (sym is) (refl, refl)
-
-pub on_ok : {A E P Q : Type 0} (r : Result A E) → (P → Q) → OnOk r P → OnOk r Q
-on_ok (Ok x) f p = f p
-on_ok (Err e) f p = tt
 
 -- a line that asks
 pub told : (c : CatalogueView) (h : History) (node : SingleNode) (old new : List ℕ) → Follows ENDLESS c h node → new ≡ old ++ store_text (tail_of node.log) c node.own.replica.state

@@ -1,9 +1,9 @@
 -- A text whose lines all end is served as its lines are run.
-use Rattle.std.proofs.Common.{◌≡◌, ℕ, Bool, true, false, List, [], ◌∷◌, ◌++◌, Option, Some, None, refl, sym, ap, subst, ◌∙◌, append_assoc, arith}
+use Rattle.std.proofs.Common.{◌≡◌, ℕ, true, false, List, [], ◌∷◌, ◌++◌, Option, Some, None, refl, sym, ap, subst, ◌∙◌, append_assoc, arith}
 use Rattle.std.specs.Prelude.{not, unwrap_or}
 use Rattle.std.specs.Option.{option_map_or}
 use Rattle.std.specs.List.{list_all}
-use Rattle.std.proofs.lemmas.Bool.{and_parts}
+use Rattle.std.proofs.lemmas.Bool.{and_parts, not-true}
 use Rattle.text.specs.Lines.{lines_of, next_line}
 use Rattle.loader.specs.CatalogueView.{CatalogueView}
 use Rattle.oplog.specs.declared.configuration.TheConstants.{MAX_LIMIT, ENDLESS}
@@ -33,16 +33,12 @@ by_line n h (Some turn) text next behind_it =
       whole = behind_it.whole;
     }
 
-not_true : (b : Bool) → not b ≡ true → b ≡ false
-not_true false is = refl
-not_true true is = sym is
-
 module _ (c : CatalogueView) (n : ℕ) (h : History) where
   abbrev at : List ℕ → ServiceState
   at before = record { has_values = false; number = n; history = h; left = before }
 
   is_turn : (line : List ℕ) → is_utf8 line ≡ true → not (asks line) ≡ true → text_turn false c h line ≡ line_turn ENDLESS c h line
-  is_turn line text quiet = rw (not_true (asks line) quiet) (rw text refl)
+  is_turn line text quiet = rw (not-true (asks line) quiet) (rw text refl)
 
   line_begins : (line text : List ℕ) (ls : List (List ℕ)) → is_utf8 line ≡ true → not (asks line) ≡ true → BeginsAs text (lines_answer ENDLESS c (next_line n) (turn_at c (at line)).history ls)
       → BeginsAs ((turn_at c (at line)).text ++ text) (lines_answer ENDLESS c n h (line ∷ ls))

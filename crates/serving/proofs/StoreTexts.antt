@@ -4,9 +4,9 @@ use Rattle.std.specs.Prelude.{IfSome, OnOk}
 use Rattle.std.specs.FinMap as finite_map
 use Rattle.std.specs.List.{flat_map}
 use Rattle.std.specs.Option.{option_map, option_map_or}
+use Rattle.std.proofs.lemmas.Result.{on_ok_weaker}
 use Rattle.maps.specs.declared.shapes.Shape.{Shape}
 use Rattle.maps.specs.Maps.{MapState}
-use Rattle.serving.proofs.LineTurns.{on_ok}
 use Rattle.serving.specs.StoreText.{keys_line, map_line}
 
 -- ---- lines in order
@@ -41,4 +41,4 @@ map_told (Some m) shape keys is count =
 
 pub put_together : {E : Type 0} (r : Result (Unit {0}) E) (old one two new a b d : List ℕ) → one ≡ old ++ a → two ≡ one ++ b → OnOk r (new ≡ two ++ d) → OnOk r (new ≡ old ++ (a ++ (b ++ d)))
 put_together r old one two new a b d p q put =
-    on_ok r (λ e. e ∙ ap (λ (x : List ℕ). x ++ d) (q ∙ ap (λ (x : List ℕ). x ++ b) p) ∙ append_assoc (old ++ a) b d ∙ append_assoc old a (b ++ d)) put
+    on_ok_weaker r (λ e. e ∙ ap (λ (x : List ℕ). x ++ d) (q ∙ ap (λ (x : List ℕ). x ++ b) p) ∙ append_assoc (old ++ a) b d ∙ append_assoc old a (b ++ d)) put

@@ -2,7 +2,7 @@
 use Rattle.std.proofs.Common.{◌≡◌, ◌≢◌, ℕ, zero, suc, ◌+◌, ◌≤◌, ◌<◌, true, length, take, Option, Some, None, refl, sym, ◌∙◌, inl, inr, ⊎_elim, arith, subst}
 use Rattle.std.specs.Prelude.{slice_get, ◌⊎◌}
 use Rattle.std.proofs.lemmas.Bool.{and_parts, cases_order}
-use Rattle.std.proofs.lemmas.Option.{none-some, same_Some}
+use Rattle.std.proofs.lemmas.Option.{none-some, same_Some, slice_get_within}
 use Rattle.verifier.specs.declared.refusal.Mode.{Mode}
 use Rattle.oplog.specs.Operations.{Operation}
 use Rattle.oplog.specs.History.{History}
@@ -14,7 +14,7 @@ use Rattle.schedule.specs.Explains.{Explains}
 use Rattle.schedule.specs.Worlds.{NodeView, WorldView}
 use Rattle.schedule.specs.Steps.{is_idle, is_free, no_read}
 use Rattle.schedule.specs.Stands.{NodeStands, StageStands, Stands}
-use Rattle.schedule.proofs.Export.{get_in, get_take, get_taken, free_is, no_read_is}
+use Rattle.schedule.proofs.Export.{get_take, get_taken, free_is, no_read_is}
 use Rattle.settlement.specs.Settling.{IsSettledAt, AllAnswered}
 
 -- ---- the first event of a session behind its call
@@ -60,7 +60,7 @@ pub has_its_answer : (m : Opening) (h : History) (positions : Positions) (t : Tr
     → Explains m h positions t → IsIdle t x → slice_get t c ≡ Some (Call x mode op) → (b : ℕ) × (answer : Answer) × Answers t x mode op c b answer
 has_its_answer m h positions t x mode op c explains idle call =
     ⊎_elim
-    (λ none. absurd (idle mode op c (record { call = call; last = λ j e lt at. (let in_it = get_in t j e at in none j e lt (omega arith) at) })))
+    (λ none. absurd (idle mode op c (record { call = call; last = λ j e lt at. (let in_it = slice_get_within t j e at in none j e lt (omega arith) at) })))
     (λ first. by first first.event first.there first.own)
     (look t x c (length t))
   where

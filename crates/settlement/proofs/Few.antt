@@ -10,10 +10,11 @@ use Rattle.replica.specs.StoreMeaning.{store_meaning}
 use Rattle.node.specs.Following.{no_records, may_answer}
 use Rattle.schedule.specs.Trace.{Updated, ReadBack, Back}
 use Rattle.schedule.specs.Stands.{StageStands}
-use Rattle.schedule.proofs.Export.{get_in, get_some, collected_is, of_store}
+use Rattle.schedule.proofs.Export.{get_some, collected_is, of_store}
 use Rattle.settlement.proofs.Handing.{HandsOut, HandsRead, collect_empties, read_empties}
 use Rattle.std.specs.Option.{option_and_then}
 use Rattle.std.proofs.lemmas.Bool.{false≢true}
+use Rattle.std.proofs.lemmas.Option.{slice_get_within}
 use Rattle.oplog.specs.Logs.{Log}
 use Rattle.combiner.specs.declared.slots.Stage.{Stage}
 use Rattle.combiner.specs.declared.slots.Stage.TheVariants.{Empty, Posted, Claimed, Answered}
@@ -125,7 +126,7 @@ module _ (m : Opening) (n : ℕ) where
   no_read_beside : (g : Log) (node : NodeView) → IsOfStore m g node → (s : ℕ) (c : Collection) → collected s node.desk ≡ Some c → read_at node s ≡ None
   no_read_beside g node x s c e =
       let k = collected_is s node.desk c e in
-      let l = get_in node.desk.slots s k.0 k.1 in
+      let l = slice_get_within node.desk.slots s k.0 k.1 in
       let a = x.stands.desk.slots in
       let b = x.stands.desk.reads in
       let y = get_some node.reads s (omega arith) in

@@ -3,6 +3,7 @@ use Rattle.std.proofs.Common.{◌≡◌, ◌≢◌, ℕ, zero, suc, ◌≤◌, �
 use Rattle.std.specs.Prelude.{slice_get, slice_set, cond, option_map, ◌⊎◌, ◌&&◌, nat_le}
 use Rattle.std.specs.Option.{option_and_then}
 use Rattle.std.proofs.lemmas.Bool.{and_from, le-leb}
+use Rattle.std.proofs.lemmas.Option.{slice_get_within}
 use Rattle.oplog.specs.declared.records.Record.{Record}
 use Rattle.oplog.specs.declared.records.Op.TheVariants.{Run}
 use Rattle.oplog.specs.History.{ReadEffect}
@@ -23,7 +24,7 @@ use Rattle.schedule.specs.Trace.{Updated, ReadBack, Back, Trace}
 use Rattle.schedule.specs.Worlds.{NodeView, own_of}
 use Rattle.schedule.specs.Steps.{Part, with_call_or_back, session_of_slot, is_free, no_read, is_idle, with_read, read_answer}
 use Rattle.schedule.specs.Stands.{StageStands, batch_in}
-use Rattle.schedule.proofs.Export.{get_in, get_some, set_same, claimed_has, requests_have, has_answer}
+use Rattle.schedule.proofs.Export.{get_some, set_same, claimed_has, requests_have, has_answer}
 use Rattle.settlement.proofs.OwnSteps.{Fact, Stays, Leads, log_after, node_after, set_other}
 use Rattle.settlement.proofs.Lines.{IsUp, IsFree, up_stays, posted_at, no_kind, requests_alike, as_claimed}
 
@@ -104,12 +105,12 @@ collect_empties m n s inside g node x ((empty, above, end, done, free), idle) =
         subst Q (sym (collected_none s node.desk y at is)) ((empty, above, end, done, free), idle, here)
     go y at (Posted op) is =
         let r = requests_have node.desk.slots (first_author node.desk) s y op at is in
-        let l = get_in _ r.0 _ r.1 in
+        let l = slice_get_within _ r.0 _ r.1 in
         let few = free.2 in
         absurd (omega arith)
     go y at Claimed is =
         let r = claimed_has node.desk.slots (first_author node.desk) s y at is in
-        let l = get_in _ r.0 _ r.1 in
+        let l = slice_get_within _ r.0 _ r.1 in
         let count = as_claimed x in
         let none : length (batch_in node.batch).records ≡ 0 = ap (λ b. length (batch_in b).records) (no_kind node.batch free.0) in
         absurd (omega arith)
@@ -168,7 +169,7 @@ read_empties m n s inside g node x ((empty, above, end, done, room), idle, free)
         let here : is_idle node s ≡ true = and_from (is_free (slice_get node.desk.slots s)) (no_read (slice_get node.reads s)) free (ap no_read at) in
         subst Q (sym none) ((empty, above, end, done, room), one_more_idle node s idle here)
     go (Some read) at =
-        let y = get_some node.desk.slots s (let l = get_in node.reads s (Some read) at in let a = x.stands.desk.slots in let b = x.stands.desk.reads in omega arith) in
+        let y = get_some node.desk.slots s (let l = slice_get_within node.reads s (Some read) at in let a = x.stands.desk.slots in let b = x.stands.desk.reads in omega arith) in
         let seen = saw m g.done x.history x.positions x.trace (session m.config x.number s) node.batch (y.0).count (y.0).stage read (x.stands.seats s y.0 (Some read) y.1 at) in
         let e = has_answer x s read at in
         let may : may_answer read.seen g.done (own_of node) ≡ true = and_from (nat_le read.seen node.replica.tail) (nat_le node.replica.tail g.done) (le-leb read.seen node.replica.tail (omega arith)) (le-leb node.replica.tail g.done (omega arith)) in

@@ -2,7 +2,7 @@
 use Rattle.std.proofs.Common.{◌≡◌, ◌≢◌, ℕ, zero, suc, ◌+◌, ◌-◌, ◌≤◌, Bool, true, false, not, List, [], ◌∷◌, ◌++◌, length, map, take, Option, Some, None, refl, sym, ap, ◌∙◌, arith, subst, length-drop, length-append, length-take}
 use Rattle.std.specs.Prelude.{cond, ◌&&◌, ◌||◌, nat_lt, nat_le, if◌then◌else◌}
 use Rattle.std.specs.List.{list_any}
-use Rattle.std.proofs.lemmas.Bool.{and_parts, or_parts, and_from, ltb-true, ltb-false, le-leb, false≢true}
+use Rattle.std.proofs.lemmas.Bool.{and_parts, or_parts, and_from, ltb-true, ltb-false, le-leb, false≢true, not-false}
 use Rattle.std.proofs.lemmas.List.{length-map}
 use Rattle.oplog.specs.declared.records.Record.{Record}
 use Rattle.oplog.specs.History.{History}
@@ -107,10 +107,6 @@ by_guard m g node k Q takes leaves = go (may k (seen_of g node)) takes leaves
     go true y n = y refl
     go false y n = n refl
 
-not_no : (b : Bool) → not b ≡ false → b ≡ true
-not_no true e = refl
-not_no false e = absurd (false≢true (sym e))
-
 and_no : (a b : Bool) → a ≡ true → (a && b) ≡ false → b ≡ false
 and_no true b e f = f
 and_no false b e f = absurd (false≢true e)
@@ -134,7 +130,7 @@ pub replay_empties : (m : Opening) (n : ℕ) (S : Side) → Leads m (Replay n) (
 replay_empties m n S g node x s =
     by_guard m g node Replays (IsBare S)
     (λ e. (refl, replayed_side m S g node (with_next g (own_of node)) s))
-    (λ e. (none_is node.hand.records (not_no (no_records node.hand.records) (or_parts (not (no_records node.hand.records)) _ e).0), s))
+    (λ e. (none_is node.hand.records (not-false (no_records node.hand.records) (or_parts (not (no_records node.hand.records)) _ e).0), s))
 
 -- a replica that is below the base becomes the base
 pub rebase_lifts : (m : Opening) (n : ℕ) (S : Side) → Leads m (Rebase n) (IsBare S) (IsAbove S)
@@ -182,7 +178,7 @@ replay_rest m n S g node x (above, rest, s) =
     (λ e. (refl, omega arith, end, replayed_side m S g node (with_next g (own_of node)) s))
     (λ e.
     let o = or_parts (not (no_records node.hand.records)) _ e in
-    let empty = none_is node.hand.records (not_no (no_records node.hand.records) o.0) in
+    let empty = none_is node.hand.records (not-false (no_records node.hand.records) o.0) in
     let nil : length node.hand.records ≡ 0 = ap length empty in
     (empty, above, omega arith, s))
 

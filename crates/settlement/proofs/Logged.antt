@@ -2,7 +2,7 @@
 use Rattle.std.proofs.Common.{◌≡◌, ℕ, zero, suc, ◌+◌, ◌≤◌, true, List, [], ◌∷◌, ◌++◌, length, Option, Some, None, refl, sym, ap, ◌∙◌, arith, subst}
 use Rattle.std.specs.Prelude.{slice_get, ◌&&◌, nat_le}
 use Rattle.std.proofs.lemmas.Bool.{and_from, ltb-false, le-leb, false≢true}
-use Rattle.std.proofs.lemmas.Option.{none-some, same_Some}
+use Rattle.std.proofs.lemmas.Option.{none-some, same_Some, slice_get_within}
 use Rattle.oplog.specs.Logs.{Log}
 use Rattle.combiner.specs.declared.slots.Stage.TheVariants.{Claimed, Answered}
 use Rattle.combiner.specs.declared.slots.Slot.{Slot}
@@ -22,7 +22,7 @@ use Rattle.schedule.specs.Steps.{took, world_after, world_of, seen_of, put_seen}
 use Rattle.schedule.specs.Stands.{batch_in}
 use Rattle.schedule.specs.Taking.{IsStanding, IsOfStore}
 use Rattle.settlement.specs.Others.{AreOfOthers, HasEnded, LoggedBatchesEnd}
-use Rattle.schedule.proofs.Export.{claimed_has, get_in, of_store}
+use Rattle.schedule.proofs.Export.{claimed_has, of_store}
 use Rattle.settlement.proofs.InTurn.{world_append}
 use Rattle.settlement.proofs.OwnSteps.{Fact, Leads, GoesUp, Reaches, other_step, own_next, world_up, stands_on, the_store}
 use Rattle.settlement.proofs.Lines.{Side, SideOf, IsBare, kind_of, as_claimed, replay_empties, by_guard}
@@ -97,7 +97,7 @@ has_answer {m} {g} {new} o absent y desk same s x at is = by (answer_for (first_
     by (Some reply) there = (answered_slot (Some reply) x, reply, there, ap (answered_stage (Some reply)) is)
     by None there =
         let r = claimed_has new.desk.slots (first_author new.desk) s (answered_slot None x) there (ap (answered_stage None) is) in
-        let l = get_in _ r.0 _ r.1 in
+        let l = slice_get_within _ r.0 _ r.1 in
         let count = as_claimed o in
         let none : length (batch_in new.batch).records ≡ 0 = ap (λ b. length (batch_in b).records) absent in
         absurd (omega arith)

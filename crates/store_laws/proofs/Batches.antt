@@ -2,7 +2,7 @@
 use Rattle.std.proofs.Common.{◌≡◌, ℕ, zero, suc, ◌+◌, ◌<◌, ◌≤◌, true, List, [], ◌∷◌, ◌++◌, length, map, take, Option, Some, None, refl, sym, ap, ◌∙◌, subst, ⊎_elim, arith, length-append, append_assoc, append-nil}
 use Rattle.std.specs.Prelude.{slice_get}
 use mathlib.Core.Option.{some-injective}
-use Rattle.std.proofs.lemmas.Option.{same_Some}
+use Rattle.std.proofs.lemmas.Option.{same_Some, slice_get_within}
 use Rattle.std.proofs.lemmas.Bool.{cases_eq}
 use Rattle.ownlock.specs.Seats.{At}
 use Rattle.verifier.specs.declared.refusal.Mode.TheVariants.{Update}
@@ -21,7 +21,7 @@ use Rattle.schedule.specs.declared.parts.Opening.{Opening}
 use Rattle.schedule.specs.Explains.{Explains}
 use Rattle.schedule.specs.Stands.{OpenAt}
 use Rattle.schedule.specs.Trace.{Call, Trace, Positions}
-use Rattle.schedule.proofs.Export.{take_length, take_snoc, explains_entry, get_in, get_new, get_some, count_self}
+use Rattle.schedule.proofs.Export.{take_length, take_snoc, explains_entry, get_new, get_some, count_self}
 use Rattle.store_laws.specs.Stands.{CallStands, EventsStand, IndexIs}
 use Rattle.store_laws.specs.Threads.{Moment}
 use Rattle.store_laws.proofs.Calls.{call_entry}
@@ -116,7 +116,7 @@ module _ (m : Opening) (s : Moment) (positions : Positions) (t : Trace) (stands 
   grown_next : (k : ℕ) (q : Claim) → slice_get n.batch k ≡ Some q → length h + k < m.config.limit → Grown k → Grown (suc k)
   grown_next k q g room y =
       let r : Record = record_of q in
-      let inside = get_in n.batch k q g in
+      let inside = slice_get_within n.batch k q g in
       let len = grown_long k (omega arith) in
       let asked = w.requested c k q (in_batch k q g) in
       let a : SessionNote = asked.0 in

@@ -1,7 +1,7 @@
 -- Each step of the threads keeps what holds of the notes and the events.
 use Rattle.std.proofs.Common.{◌≡◌, ℕ, zero, suc, ◌+◌, ◌≤◌, true, List, [], ◌∷◌, ◌++◌, length, map, take, drop, replicate, max, Option, Some, None, refl, sym, ap, ◌∙◌, subst, ⊎_elim, arith, length-append, append-nil}
 use Rattle.std.specs.Prelude.{slice_get, slice_set}
-use Rattle.std.proofs.lemmas.Option.{same_Some, none-some}
+use Rattle.std.proofs.lemmas.Option.{same_Some, none-some, slice_get_within}
 use Rattle.ownlock.specs.Seats.{At}
 use Rattle.verifier.specs.declared.refusal.Mode.TheVariants.{Update, Read}
 use Rattle.loader.specs.CatalogueView.{CatalogueView}
@@ -28,7 +28,7 @@ use Rattle.schedule.specs.declared.parts.BegunRead.{BegunRead}
 use Rattle.schedule.specs.declared.parts.Opening.{Opening}
 use Rattle.schedule.specs.Stands.{OpenAt}
 use Rattle.schedule.specs.Trace.{Event, IsOpen, Call, Back, Updated, ReadBack, Trace, Positions}
-use Rattle.schedule.proofs.Export.{Right, get_in, get_new, get_set, get_snoc, get_some, set_length, set_same, idle_back, take_all_front, take_length}
+use Rattle.schedule.proofs.Export.{Right, get_new, get_set, get_snoc, get_some, set_length, set_same, idle_back, take_all_front, take_length}
 use Rattle.store_laws.specs.Threads.{Moment, ThreadStep, PutsBack, Raises, BeginsRead, AnswersRead, Runs, Begins, Then, AnswersAreTold, IsTold, ThreadsAreExplained, events_of}
 use Rattle.store_laws.specs.Stands.{CallStands, EventsStand, IndexIs, OpeningStands, StepsKeepIt}
 use Rattle.store_laws.proofs.Batches.{Waiting, batch_stands, map_length, waits_for}
@@ -242,7 +242,7 @@ module _ (m : Opening) (s : Moment) (positions : Positions) (t : Trace) (stands 
       → EventsStand m (with_seats s s.notes (slice_set s.reads x None)) positions (t ++ Back x (ReadBack answer) ∷ [])
   answers_read read answer begun tells =
       let e : Event = Back x (ReadBack answer) in
-      let inside = get_in s.reads x (Some read) begun in
+      let inside = slice_get_within s.reads x (Some read) begun in
       let same = stands.long in
       let note = get_some s.notes x (omega (arith, inside, same)) in
       let here = at_of s.notes x note.0 note.1 in

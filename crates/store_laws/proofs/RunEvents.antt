@@ -2,6 +2,7 @@
 use Rattle.std.proofs.Common.{◌≡◌, ◌≢◌, ◌==◌, eq-eqb, ne_eqb, Bool, true, false, if◌then◌else◌, ℕ, zero, suc, ◌<◌, ◌≤◌, ◌⊎◌, List, [], ◌∷◌, ◌++◌, map, take, drop, length, replicate, Option, Some, None, sym, ap, ◌∙◌, refl, subst, ⊎_elim, inl, inr, arith, append-nil, append_assoc}
 use Rattle.std.specs.Prelude.{slice_get, slice_set}
 use Rattle.std.proofs.lemmas.Bool.{cases_eq}
+use Rattle.std.proofs.lemmas.Option.{slice_get_within}
 use Rattle.ownlock.specs.declared.known.ShelfStep.TheVariants.{Took, Put, Read, Raised}
 use Rattle.ownlock.specs.Rules.{IsAmong, Move}
 use Rattle.ownlock.specs.Seats.{At}
@@ -24,7 +25,7 @@ use Rattle.schedule.specs.declared.parts.BegunRead.{BegunRead}
 use Rattle.schedule.specs.declared.parts.Opening.{Opening}
 use Rattle.schedule.specs.Explains.{Explains}
 use Rattle.schedule.specs.Trace.{Answer, Back, Event, Positions, Trace, stamp}
-use Rattle.schedule.proofs.Export.{get_in, get_some, set_length, set_same}
+use Rattle.schedule.proofs.Export.{get_some, set_length, set_same}
 use Rattle.store_steps.specs.declared.values.Value.{Value}
 use Rattle.store_steps.specs.Shelving.{IsSized, places_of, session_rules, sessions_of, store_rules, view_of}
 use Rattle.ownlock.specs.Runs.{Begins, Loads, Puts, Raises, Runs, Takes, keeping}
@@ -389,5 +390,5 @@ called_later m sessions places since run e l ns says leads may =
           let many = before.each_placed in
           let there = get_front k.positions k.now.0 i c (omega (arith, many, low)) at in
           let r = get_some e.progress.history i low in
-          get_in (events_in says (e ∷ run)) c _ (before.calls i c r.0 r.1 there),
+          slice_get_within (events_in says (e ∷ run)) c _ (before.calls i c r.0 r.1 there),
     )

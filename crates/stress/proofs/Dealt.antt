@@ -46,11 +46,6 @@ skipped n (suc skip) (c ∷ cs) = skipped n skip cs
 pub next : {X : Type 0} (n : ℕ) (c : X) (cs : List X) → dealt n 0 (c ∷ cs) ≡ c ∷ dealt n 0 (drop (n - 1) cs)
 next n c cs = ap (λ rest. c ∷ rest) (skipped n (n - 1) cs)
 
-pub drop_map : {X Y : Type 0} (f : X → Y) (k : ℕ) (xs : List X) → drop k (map f xs) ≡ map f (drop k xs)
-drop_map f zero xs = refl
-drop_map f (suc k) [] = refl
-drop_map f (suc k) (x ∷ xs) = drop_map f k xs
-
 -- the calls seen otherwise
 pub one_map : {X Y : Type 0} (f : X → Y) (n skip : ℕ) (cs : List X) → dealt n skip (map f cs) ≡ map f (dealt n skip cs)
 one_map f n skip [] = refl

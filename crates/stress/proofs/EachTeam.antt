@@ -3,7 +3,7 @@ use Rattle.std.proofs.Common.{◌≡◌, ◌∙◌, ⊎_elim, ℕ, zero, suc, �
 use Rattle.std.specs.Prelude.{Vec, Result, Ok, Err, IfOk, MatchResult}
 use Rattle.std.specs.List.{flat_map}
 use Rattle.std.proofs.lemmas.Bool.{cases_lt}
-use Rattle.std.proofs.lemmas.List.{length_push, length-drop, length-take}
+use Rattle.std.proofs.lemmas.List.{length_push, length-drop, length-take, drop-map, drop_all}
 use Rattle.std.proofs.lemmas.Nat.{mod_below, mod-mul-add}
 use Rattle.std.proofs.lemmas.List.Elements.{All-nil, All-append, All-push}
 use Rattle.ownlock.specs.Seats.{At}
@@ -23,7 +23,7 @@ use Rattle.stress.specs.Shown.{called, calls_told, timed_of, to_be_told, told_ca
 use Rattle.stress.specs.Timed.{IsInTurn}
 use Rattle.stress.specs.Teams.{AreAtWork, AreEmpty, AreOnOneNode, AreSeated, AreTeam, AreUntold, AreWhole, Grow, HasMade, HaveMade, IsAnswered, IsAtWork, MakeEach, WereTold}
 use Rattle.stress.proofs.Asked.{one_call, one_more}
-use Rattle.stress.proofs.Dealt.{drop_map, last_apart, skipped}
+use Rattle.stress.proofs.Dealt.{last_apart, skipped}
 use Rattle.stress.proofs.OneHistory.{asked_more, none_of_none, none_told, told_more}
 use Rattle.stress.proofs.Standing.{at_dropped, at_set, at_taken, read, set_else, stands}
 use Rattle.stress.proofs.Steady.{long_of, steady_to}
@@ -64,12 +64,6 @@ module _ {X : Type 0} (old : List (Vec AnsweredCall X)) (answers : List Answered
 
 -- ---- round after round
 
-drop_none : {A : Type 0} (k : ℕ) (xs : List A) → length xs ≤ k → drop k xs ≡ []
-drop_none zero [] h = refl
-drop_none (suc k) [] h = refl
-drop_none zero (x ∷ xs) h = absurd (omega (arith, h))
-drop_none (suc k) (x ∷ xs) h = drop_none k xs (omega (arith, h))
-
 drop_nil : {A : Type 0} (k : ℕ) → drop {0} {A = A} k [] ≡ []
 drop_nil zero = refl
 drop_nil (suc k) = refl
@@ -90,7 +84,7 @@ module _ {X : Type 0} (n first : ℕ) (calls : List ScriptCall) where
         record {
           dealt = ap (λ (xs : List AnsweredCall). calls_told xs ++ dealt n 0 (to_be_told (drop j (drop first calls)))) none
               ∙ ap (λ (cs : List ScriptCall). dealt n 0 (to_be_told cs)) (drop_more j first calls)
-              ∙ ap (dealt n 0) (sym (drop_map one_call (first + j) calls))
+              ∙ ap (dealt n 0) (sym (drop-map one_call (first + j) calls))
               ∙ sym (skipped n (first + j) (to_be_told calls));
           known = subst (IsTold s) (sym none) (none_told s (new j s at_s));
           noted = subst (All (λ t. t.noted.session ≡ first + j)) (sym none) (All-nil (λ t. t.noted.session ≡ first + j));
@@ -125,8 +119,8 @@ module _ {X : Type 0} (n first : ℕ) (calls : List ScriptCall) where
     -- it has no call in this round, and none after it
     stays : (j : ℕ) (s : SessionView) (u : Vec AnsweredCall X) → length left ≤ j → IsAtWork n (first + j) calls (drop j left) s u.items → IsAtWork n (first + j) calls (drop j after) s u.items
     stays j s u few is =
-        let here : drop j left ≡ [] = drop_none j left few in
-        let there : drop j after ≡ [] = drop_more j n left ∙ drop_none (n + j) left (omega (arith, few)) in
+        let here : drop j left ≡ [] = drop_all j left few in
+        let there : drop j after ≡ [] = drop_more j n left ∙ drop_all (n + j) left (omega (arith, few)) in
         subst (λ cs. IsAtWork n (first + j) calls cs s u.items) (here ∙ sym there) is
 
     few_left : (j : ℕ) → j < length old → length round ≤ j → length left ≤ j
@@ -165,7 +159,7 @@ module _ {X : Type 0} (n first : ℕ) (calls : List ScriptCall) where
     each = λ j s v at_s at_v.
         let is = work.each j s v at_s at_v in
         let below = at_below sessions j s at_s in
-        let rest : drop j left ≡ [] = drop_none j left (let e = ap length none in omega (arith, e)) in
+        let rest : drop j left ≡ [] = drop_all j left (let e = ap length none in omega (arith, e)) in
         let calls_are : calls_told v.items ≡ dealt n (first + j) (to_be_told calls) =
         sym (append-nil (calls_told v.items)) ∙ ap (λ (cs : List ScriptCall). calls_told v.items ++ dealt n 0 (to_be_told cs)) (sym rest) ∙ is.dealt in
         record { dealt = calls_are; known = is.known; turns = in_turn n (first + j) (omega (arith, below, within)) calls v.items calls_are is.noted };

@@ -5,14 +5,11 @@ use Rattle.std.specs.List.Sorted.{IsStableByKey, ties}
 use Rattle.std.specs.Ordering.{is_lt, nat_cmp}
 use Rattle.std.proofs.lemmas.Bool.{eqb-true}
 use Rattle.std.proofs.lemmas.Bool.Decides.{nat_tests}
+use Rattle.std.proofs.lemmas.List.Elements.{filter_agree}
 
 -- two ranks tie where they are one
 tie_is : (a b : ℕ) → not (is_lt (nat_cmp a b)) && not (is_lt (nat_cmp b a)) ≡ (b == a)
 tie_is a b = grind (arith, nat_tests)
-
-filters_alike : {X : Type 0} (p q : X → Bool) → ((x : X) → p x ≡ q x) → (xs : List X) → filter p xs ≡ filter q xs
-filters_alike p q same [] = refl
-filters_alike p q same (x ∷ xs) = λ i. if same x i then x ∷ filters_alike p q same xs i else filters_alike p q same xs i
 
 module _ {X : Type 0} (rank : X → ℕ) where
   abbrev at : ℕ → List X → List X
@@ -30,7 +27,7 @@ module _ {X : Type 0} (rank : X → ℕ) where
   module _ (xs ys : List X) (stable : IsStableByKey rank nat_cmp xs ys) where
     one_rank : (r : ℕ) (x : X) → rank x ≡ r → at r ys ≡ at r xs
     one_rank r x is =
-        let alike : (zs : List X) → at (rank x) zs ≡ filter (ties (λ (a b : X). is_lt (nat_cmp (rank a) (rank b))) x) zs = λ zs. filters_alike _ _ (λ (y : X). sym (tie_is (rank x) (rank y))) zs in
+        let alike : (zs : List X) → at (rank x) zs ≡ filter (ties (λ (a b : X). is_lt (nat_cmp (rank a) (rank b))) x) zs = λ zs. filter_agree _ _ (λ (y : X). sym (tie_is (rank x) (rank y))) zs in
         subst (λ n. at n ys ≡ at n xs) is (alike ys ∙ stable x ∙ sym (alike xs))
 
     pub stays : (r : ℕ) → at r ys ≡ at r xs

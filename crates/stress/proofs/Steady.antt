@@ -1,8 +1,8 @@
 -- The answers of a session have their lines in the order of its calls.
-use Rattle.std.proofs.Common.{◌≡◌, ◌∙◌, ⊎_elim, ℕ, zero, suc, ◌+◌, ◌-◌, ◌*◌, ◌<◌, ◌≤◌, List, [], ◌∷◌, ◌++◌, All, Option, map, length, take, drop, refl, sym, ap, subst, arith, append-nil, not-suc-le-zero}
+use Rattle.std.proofs.Common.{◌≡◌, ◌∙◌, ⊎_elim, ℕ, zero, suc, ◌+◌, ◌-◌, ◌*◌, ◌<◌, ◌≤◌, List, [], ◌∷◌, ◌++◌, All, Option, map, length, take, drop, sym, ap, subst, arith, append-nil, not-suc-le-zero}
 use Rattle.std.specs.Prelude.{filter, not}
 use Rattle.std.proofs.lemmas.Bool.{cases_lt}
-use Rattle.std.proofs.lemmas.List.{length-append, length-drop, length-map, take-append-le, drop-append-le, take_all}
+use Rattle.std.proofs.lemmas.List.{length-append, length-drop, length-map, take-append-le, drop-append-le, take_all, drop-map, take-map}
 use lib.Seq.{drop-length}
 use Rattle.std.proofs.lemmas.List.Elements.{All-nil, All-cons, All-head, All-tail, All-get_or, All-weaker, filter-append}
 use Rattle.std.proofs.lemmas.List.Sorted.{IsNonDecreasingBy-push, IsNonDecreasingBy-short}
@@ -14,7 +14,7 @@ use Rattle.stress.specs.Dealt.{dealt, dealt_from, share_of}
 use Rattle.stress.specs.Lines.{Said, Updated, Seen, Ended, ToldCall, AreOrdered, AreSteady, is_ended, rank}
 use Rattle.stress.specs.Shown.{calls_told, told_call, told_of}
 use Rattle.stress.specs.Playing.{AreSteadyTo, IsBefore, IsBehind, IsUpTo}
-use Rattle.stress.proofs.Dealt.{last_apart, one_map, dealt_map, drop_map}
+use Rattle.stress.proofs.Dealt.{last_apart, one_map, dealt_map}
 
 pub none_steady : AreSteady []
 none_steady = IsNonDecreasingBy-short (λ (t : ToldCall). rank t.said) [] (omega arith)
@@ -123,11 +123,6 @@ module _ (n m : ℕ) (calls : List (Option Called)) where
 
 -- ---- the same of calls that are seen otherwise
 
-take_map : {X Y : Type 0} (f : X → Y) (k : ℕ) (xs : List X) → take k (map f xs) ≡ map f (take k xs)
-take_map f zero xs = refl
-take_map f (suc k) [] = refl
-take_map f (suc k) (x ∷ xs) = ap (λ rest. f x ∷ rest) (take_map f k xs)
-
 module _ {X Y Z : Type 0} (f : X → Y) (g : X → Z) (n k : ℕ) (calls : List X) where
   same_part : length (dealt n k (map f calls)) ≡ length (dealt n k (map g calls))
   same_part = ap length (one_map f n k calls) ∙ length-map (dealt n k calls) f ∙ sym (ap length (one_map g n k calls) ∙ length-map (dealt n k calls) g)
@@ -139,5 +134,5 @@ module _ {X Y Z : Type 0} (f : X → Y) (g : X → Z) (n k : ℕ) (calls : List 
   pub share_map : {A B : Type 0} (p : A → B) (all : List A) → share_of n k (map f calls) (map p all) ≡ map p (share_of n k (map g calls) all)
   share_map p all =
       (λ i. take (same_part i) (drop (same_offset i) (map p all)))
-      ∙ ap (take (length (dealt n k (map g calls)))) (drop_map p (length (dealt_from n 0 k (map g calls))) all)
-      ∙ take_map p (length (dealt n k (map g calls))) (drop (length (dealt_from n 0 k (map g calls))) all)
+      ∙ ap (take (length (dealt n k (map g calls)))) (drop-map p (length (dealt_from n 0 k (map g calls))) all)
+      ∙ take-map p (length (dealt n k (map g calls))) (drop (length (dealt_from n 0 k (map g calls))) all)

@@ -4,8 +4,8 @@ use Rattle.std.specs.List.{position_or_len, position_from}
 use Rattle.std.proofs.lemmas.Bool.{ltb-true, lt-ltb, eqb-true}
 use Rattle.std.proofs.lemmas.List.Sums.{passes_at_first}
 use Rattle.std.proofs.lemmas.Iterator.Adapters.{position_from-zero}
+use Rattle.std.proofs.lemmas.Option.{cond_some}
 use Rattle.text.specs.Fields.{cut_at}
-use Rattle.text.proofs.Cuts.{where_true}
 
 abbrev pub is_byte : ℕ → ℕ → Bool
 is_byte wanted b = eqb b wanted
@@ -23,7 +23,7 @@ where_none false x e = refl
 pub first_is : (wanted : ℕ) (text : List ℕ) (at : ℕ) → Some at ≡ position_from (is_byte wanted) 0 text → IsFirst wanted text at
 first_is wanted text at e =
     let first = position_or_len (is_byte wanted) text in
-    let parts = where_true (ltb first (length text)) first at (position_from-zero (is_byte wanted) text ∙ sym e) in
+    let parts = cond_some (ltb first (length text)) first at (position_from-zero (is_byte wanted) text ∙ sym e) in
     let lt : first < length text = ltb-true _ _ parts.0 in
     let is : first ≡ at = parts.1 in
     let there : get_or text first 0 ≡ wanted = eqb-true _ _ (passes_at_first (is_byte wanted) text 0 lt) in

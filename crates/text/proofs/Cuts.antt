@@ -6,16 +6,13 @@ use Rattle.std.proofs.lemmas.Bool.{ltb-true, lt-ltb, eqb-true, and_parts}
 use Rattle.std.proofs.lemmas.List.{length-append}
 use Rattle.std.proofs.lemmas.List.Sums.{split_at_first, passes_at_first}
 use Rattle.std.proofs.Math.Seq.{take-append_seam, drop-append-add}
+use Rattle.std.proofs.lemmas.Option.{cond_some}
 use Rattle.text.specs.Fields.{is_space, has_no_space, split_at_space}
 
 -- a step that gives something comes of two that do
 pub steps : {A B : Type 0} (o : Option A) (f : A → Option B) (b : B) → option_and_then f o ≡ Some b → (a : A) × (o ≡ Some a) × (f a ≡ Some b)
 steps (Some a) f b e = (a, refl, e)
 steps None f b e = absurd cc
-
-pub where_true : {A : Type 0} (t : Bool) (x a : A) → cond t (Some x) None ≡ Some a → (t ≡ true) × (x ≡ a)
-where_true true x a e = (refl, cc)
-where_true false x a e = absurd cc
 
 pub if_true : {A : Type 0} (t : Bool) (o : Option A) (a : A) → cond t o None ≡ Some a → (t ≡ true) × (o ≡ Some a)
 if_true true o a e = (refl, e)
@@ -27,7 +24,7 @@ unless false o a e = (refl, e)
 
 pub split_from : (t : List ℕ) (x : List ℕ × List ℕ) → split_at_space t ≡ Some x → t ≡ x.0 ++ 32 ∷ x.1
 split_from t x e =
-    let parts = where_true (ltb (position_or_len is_space t) (length t)) (before_first is_space t, after_first is_space t) x e in
+    let parts = cond_some (ltb (position_or_len is_space t) (length t)) (before_first is_space t, after_first is_space t) x e in
     let lt : position_or_len is_space t < length t = ltb-true _ _ parts.0 in
     let at : get_or t (position_or_len is_space t) 0 ≡ 32 = eqb-true _ _ (passes_at_first is_space t 0 lt) in
     let whole : t ≡ before_first is_space t ++ 32 ∷ after_first is_space t = split_at_first is_space t 0 lt ∙ ap (λ b. before_first is_space t ++ b ∷ after_first is_space t) at in

@@ -1,6 +1,7 @@
 -- What a line's kind says of it.
 use Rattle.std.proofs.Common.{◌≡◌, ◌⊎◌, inl, inr, ℕ, ◌≤◌, Bool, true, false, cond, eqb, ltb, ◌||◌, List, [], ◌∷◌, length, get_or, Option, Some, refl, ap, arith}
-use Rattle.std.proofs.lemmas.Bool.{le-ltb, ltb-false, eqb-true, ne_eqb}
+use Rattle.std.proofs.lemmas.Bool.{le-ltb, ltb-false, eqb-true, ne_eqb, or_cases}
+use Rattle.std.proofs.lemmas.Option.{same_Some}
 use Rattle.text.specs.declared.lines.TheConstants.{LINE_BYTES}
 use Rattle.text.specs.declared.lines.LineKind.TheVariants as kinds
 use Rattle.text.specs.Lines.{kind_of, by_kind}
@@ -9,10 +10,6 @@ use Rattle.text.specs.Lines.{kind_of, by_kind}
 abbrev pub IsSilent : List ℕ → Type 0
 IsSilent line = (line ≡ []) ⊎ ((rest : List ℕ) × (line ≡ 35 ∷ rest))
 
-or_cases : (a b : Bool) → (a || b) ≡ true → (a ≡ true) ⊎ (b ≡ true)
-or_cases true b h = inl refl
-or_cases false b h = inr h
-
 silent_from : (line : List ℕ) → (eqb (length line) 0 || eqb (get_or line 0 0) 35) ≡ true → IsSilent line
 silent_from [] h = inl refl
 silent_from (c ∷ cs) h = inr (cs, ap (λ b. b ∷ cs) (is_hash (or_cases _ _ h)))
@@ -20,9 +17,6 @@ silent_from (c ∷ cs) h = inr (cs, ap (λ b. b ∷ cs) (is_hash (or_cases _ _ h
     is_hash : ((eqb (length (c ∷ cs)) 0 ≡ true) ⊎ (eqb c 35 ≡ true)) → c ≡ 35
     is_hash (inl e) = absurd (omega (arith, eqb-true _ _ e))
     is_hash (inr e) = eqb-true _ _ e
-
-inside : {M : Type 0} (x y : M) → Some x ≡ Some y → x ≡ y
-inside x y e = cc
 
 -- a line that means something is short, and says nothing, or means what its words mean
 pub by_kind_from : {M : Type 0} (nothing : M) (words : Option M) (line : List ℕ) (x : M) → by_kind nothing words (kind_of line) ≡ Some x
@@ -34,7 +28,7 @@ by_kind_from {M} nothing words line x e = by_length (ltb LINE_BYTES (length line
         → (long ≡ false → length line ≤ LINE_BYTES) → (silent ≡ true → IsSilent line)
         → (length line ≤ LINE_BYTES) × ((IsSilent line × (nothing ≡ x)) ⊎ (words ≡ Some x))
     by_length true silent e f g = absurd cc
-    by_length false true e f g = (f refl, inl (g refl, inside nothing x e))
+    by_length false true e f g = (f refl, inl (g refl, same_Some nothing x e))
     by_length false false e f g = (f refl, inr e)
 
 -- a short line that begins with something else than # means what its words mean

@@ -1,6 +1,6 @@
 -- Where no rule is broken, none of them is, and the other way round.
 use Rattle.std.proofs.Common.{◌≡◌, Bool, true, false, cond, List, [], ◌∷◌, Option, Some, None, refl, sym}
-use Rattle.std.specs.Prelude.{◌||◌, ◌&&◌, not, find}
+use Rattle.std.specs.Prelude.{◌||◌, ◌&&◌, find}
 use Rattle.std.specs.List.{AllByRecursion}
 use Rattle.std.proofs.lemmas.Bool.{false≢true}
 use Rattle.insn.specs.declared.instruction.Form.{Form}
@@ -21,10 +21,6 @@ or_from false b e g = g
 pub both_true : (a b : Bool) → a && b ≡ true → (a ≡ true) × (b ≡ true)
 both_true true b e = (refl, e)
 both_true false b e = absurd (false≢true e)
-
-pub not_false : (b : Bool) → not b ≡ false → b ≡ true
-not_false true e = refl
-not_false false e = absurd (false≢true (sym e))
 
 -- ---- the first that is found
 

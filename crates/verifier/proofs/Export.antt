@@ -1,5 +1,5 @@
 -- The lemmas that other crates may cite.
-pub use Rattle.verifier.proofs.Broken.{both_true, not_false, or_parts, unbroken_rules}
+pub use Rattle.verifier.proofs.Broken.{both_true, or_parts, unbroken_rules}
 pub use Rattle.verifier.proofs.Joins.{is_leads, leads_is}
 pub use Rattle.verifier.proofs.Kept.{slot_after, stands_here}
 pub use Rattle.verifier.proofs.MoreMaps.{first_maps}

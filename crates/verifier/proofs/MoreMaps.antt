@@ -3,7 +3,7 @@ use Rattle.std.proofs.Common.{◌≡◌, ℕ, zero, suc, ◌<◌, Bool, true, fa
 use Rattle.std.specs.Prelude.{ℤ, pos, negsuc, ◌+ℤ◌, ◌||◌, ◌&&◌, not, unsigned_abs, is_none, slice_get}
 use Rattle.std.specs.List.{list_any}
 use Rattle.std.specs.Option.{option_map_or}
-use Rattle.std.proofs.lemmas.Bool.{false≢true}
+use Rattle.std.proofs.lemmas.Bool.{false≢true, not-false}
 use Rattle.std.proofs.lemmas.Bool.Decides.{nat_tests}
 use Rattle.std.proofs.lemmas.Option.{slice_get_within}
 use Rattle.insn.specs.declared.instruction.Form.{Form}
@@ -32,7 +32,7 @@ use Rattle.verifier.specs.Rules.{leaves_region, writes_through, changes_map, is_
 use Rattle.verifier.specs.FrameAfter.{frame_after}
 use Rattle.verifier.specs.Typing.{Frames, IsTyping, IsTypable}
 use Rattle.verifier.specs.MoreAllowed.{ComeFirst}
-use Rattle.verifier.proofs.Broken.{find_none_too, unbroken_rules, not_false}
+use Rattle.verifier.proofs.Broken.{find_none_too, unbroken_rules}
 use Rattle.verifier.proofs.Lists.{get_left}
 use Rattle.verifier.proofs.MapsOfKinds.{IsKindOf, IsFrameOf, RefersTo, kind_of, less, of_after, of_entry}
 
@@ -106,7 +106,7 @@ module _ (l m : Signature) (f : Frame) (a : Allows l m f) where
   rule_too (Call id) HelperArgument e = e
   rule_too i HelperArgument e = refl
   rule_too (Call id) UnknownHelperOrMap e = e
-  rule_too (MapRef dst index) UnknownHelperOrMap e = ap not (a.maps index (not_false (is_map_index l index) e))
+  rule_too (MapRef dst index) UnknownHelperOrMap e = ap not (a.maps index (not-false (is_map_index l index) e))
   rule_too i UnknownHelperOrMap e = refl
   rule_too Exit PointerReply e = e
   rule_too i PointerReply e = refl
@@ -207,7 +207,7 @@ module _ (p : List Form) (shapes others : List Shape) (arg_len : ℕ) (mode : Mo
   -- an instruction that breaks no rule refers to a map that is there
   refers : (i : Form) (f : Frame) → first_broken l i f ≡ None → RefersTo (length shapes) i
   unfolding l wide
-  refers (MapRef dst index) f e = by index (not_false (is_map_index l index) (unbroken_rules l (MapRef dst index) f e).1.1.1.1.1.1.1.1.1.1.0)
+  refers (MapRef dst index) f e = by index (not-false (is_map_index l index) (unbroken_rules l (MapRef dst index) f e).1.1.1.1.1.1.1.1.1.1.0)
     where
       by : (z : ℤ) → is_map_index l z ≡ true → unsigned_abs z < length shapes
       by (pos m) h = grind (arith, nat_tests)

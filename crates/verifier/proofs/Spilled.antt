@@ -2,7 +2,7 @@
 use Rattle.std.proofs.Common.{◌≡◌, ℕ, ◌+◌, ◌*◌, ◌/◌, ◌%◌, ◌<◌, ◌≤◌, Bool, true, false, cond, Option, Some, None, refl, sym, ap, ◌∙◌, arith, subst}
 use Rattle.std.specs.Prelude.{◌&&◌, not, ◌==◌, option_and_then, ℤ, pos, negsuc, ◌+ℤ◌, int_le}
 use Rattle.std.specs.Int.{bit_at}
-use Rattle.std.proofs.lemmas.Bool.{false≢true, and_parts, eqb-true}
+use Rattle.std.proofs.lemmas.Bool.{false≢true, and_parts, eqb-true, not-false}
 use Rattle.std.proofs.lemmas.Int.{ints}
 use Rattle.std.proofs.lemmas.Nat.Bits.{bit_at-zero}
 use Rattle.regkind.specs.declared.frames.Kind.{Kind}
@@ -81,10 +81,6 @@ pub spilled_unmarked : (f : Frame) (c : ℕ) (p : Kind) → cell f c ≡ Spilled
 unfolding mark
 spilled_unmarked f c p s k e = ap (λ (x : Cell). bit_at (marks_of x) (k % 8) == 1) (ap (cell f) e ∙ s) ∙ ap (λ (n : ℕ). n == 1) (bit_at-zero (k % 8))
 
-not_true : (b : Bool) → not b ≡ false → b ≡ true
-not_true true e = refl
-not_true false e = absurd (false≢true (sym e))
-
 -- bytes of the stack that all have marks are no pointer
 pub marked_is_no_pointer : (l : Signature) (f : Frame) (k : Kind) (d : ℤ) (n : ℕ) (p : Kind) → has_unmarked l f k d n ≡ false → pointer_in f k d n ≡ Some p → ⊥
 marked_is_no_pointer l f k d n p e has =
@@ -93,7 +89,7 @@ marked_is_no_pointer l f k d n p e has =
     let z = whole.offset +ℤ d in
     let at_stack : has_unmarked l f (Stack whole.offset) d n ≡ false = subst (λ x. has_unmarked l f x d n ≡ false) whole.base e in
     let unmarked : not (all_marked f (stack_index z) n) ≡ false = ap (λ (b : Bool). b && not (all_marked f (stack_index z) n)) (sym whole.inside) ∙ at_stack in
-    let marked = frames.all_marked_each f (stack_index z) n (not_true _ unmarked) (8 * pointer.place) (omega (arith, whole.first)) (omega (arith, whole.first, whole.bytes)) in
+    let marked = frames.all_marked_each f (stack_index z) n (not-false _ unmarked) (8 * pointer.place) (omega (arith, whole.first)) (omega (arith, whole.first, whole.bytes)) in
     false≢true (sym (spilled_unmarked f pointer.place p pointer.spilled (8 * pointer.place) (omega arith)) ∙ marked)
 
 -- ---- what is forgotten

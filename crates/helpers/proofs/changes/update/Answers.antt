@@ -1,7 +1,8 @@
 use Rattle.std.proofs.Common.{◌≡◌, ◌<◌, true, ◌∙◌, arith}
+use Rattle.std.proofs.lemmas.Bool.{not-false}
 use Rattle.maps.specs.MapSets.{write_value}
 use Rattle.helpers.specs.Helpers.{exist, noexist}
-use Rattle.helpers.proofs.MapChanges.{put_written, insert_done, others_written, true_not}
+use Rattle.helpers.proofs.MapChanges.{put_written, insert_done, others_written}
 use Rattle.helpers.proofs.changes.update.Goals as goal
 use Rattle.helpers.proofs.changes.update.Goals.{else-flags-eq-NOEXIST-via-then-flags-eq-NOEXIST+else-not-inserted, else-flags-eq-NOEXIST-via-else-flags-eq-NOEXIST}
 
@@ -12,7 +13,7 @@ returns-clause-answers c =
     let after = c.insert.new.self in let w = c.copy_from_slice.new.self in
     let low : c.args.flags < exist = let a = c.if-flags-gt-EXIST.false in let b = c.if-flags-eq-EXIST.false in omega (arith, a, b) in
     let first : c.args.flags ≡ noexist → r.is_new ≡ true = elim c.else-flags-eq-NOEXIST.branch [
-      | else-flags-eq-NOEXIST-via-then-flags-eq-NOEXIST+else-not-inserted w ↦ λ _. true_not r.is_new w.if-not-inserted.false
+      | else-flags-eq-NOEXIST-via-then-flags-eq-NOEXIST+else-not-inserted w ↦ λ _. not-false r.is_new w.if-not-inserted.false
       | else-flags-eq-NOEXIST-via-else-flags-eq-NOEXIST w ↦ λ e. absurd (w.if-flags-eq-NOEXIST.false e)
     ] in
     insert_done before (write_value after r.entry w) m key value c.args.flags r.is_new c.requires.map h.found h.room low first

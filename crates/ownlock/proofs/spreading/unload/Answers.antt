@@ -1,10 +1,11 @@
 use Rattle.std.proofs.Common.{◌≡◌, ◌<◌, ◌+◌, ℕ, arith, false, sym, ap, ◌∙◌, subst, length, slice_index_or}
 use Rattle.std.specs.Mem.Slots.{slots_items, slots_filled, slots_len}
 use Rattle.std.specs.Mem.Slots.Ownership.{Filled}
+use Rattle.std.proofs.lemmas.List.{length_push}
 use Rattle.ownlock.specs.Words.{slot_of}
 use Rattle.ownlock.specs.Seats.{At}
 use Rattle.ownlock.specs.Spreading.{StandsIn}
-use Rattle.ownlock.proofs.Spread.{stands_more, long_more}
+use Rattle.ownlock.proofs.Spread.{stands_more}
 use Rattle.ownlock.proofs.Unload.{four_taken}
 use Rattle.ownlock.proofs.spreading.unload.Goals as goal
 
@@ -30,7 +31,7 @@ loop-place-preserved g c =
       same ∙ i.1,
       subst (λ n. Filled (slots_filled c.skip-in-loop-place-2.new.closed.slots) (slot_of (place + 1)) n) (sym same) taken.0,
       taken.1,
-      ap length items ∙ (long_more c.loop-place.room.items c.take.result ∙ ap (λ n. n + 1) i.4),
+      ap length items ∙ (length_push c.loop-place.room.items c.take.result ∙ ap (λ n. n + 1) i.4),
       subst (λ l. StandsIn l (slots_items c.args.closed.slots)) (sym items) (stands_more c.loop-place.room.items (slots_items c.args.closed.slots) c.take.result place slot i.4 is i.5 here),
       c.push_reserved.ensures.capacity ∙ i.6,
     )

@@ -1,11 +1,12 @@
 use Rattle.std.proofs.Common.{◌≡◌, ◌*◌, ◌∙◌, List, length, Ok, string_bytes, sym, ap, ap₂, subst}
+use Rattle.std.proofs.lemmas.Result.{IfOk-weaker}
 use Rattle.text.specs.Lines.{lines_of}
 use Rattle.engine.specs.Report.{answer_of}
 use Rattle.realtime.specs.declared.histories.Timed.{Timed}
 use Rattle.realtime.specs.Ranks.{ranks_of}
 use Rattle.realtime.specs.Judging.{AreGood, calls_of, timed}
 use Rattle.realtime.specs.TimedAnswer.{calls_answer}
-use Rattle.realtime.proofs.Answered.{timed_by, if_ok}
+use Rattle.realtime.proofs.Answered.{timed_by}
 use Rattle.realtime.proofs.Reading.{good_calls}
 use Rattle.realtime.proofs.command.history_reply.Goals as goal
 
@@ -27,5 +28,5 @@ returns-in-Ok c =
     let all : calls_of ranks (lines_of c.as_str-2.result.now) ≡ Ok c.in-Ok.calls.items = rw c.in-Ok.is at c.in_ok-calls.ensures.read in
     let whole : calls_of (ranks_of (lines_of transcript)) (lines_of history) ≡ Ok c.deref-in-Ok.result.now =
     sym (ap₂ (λ ranks text. calls_of ranks (lines_of text)) ranked c.as_str-2.ensures.value) ∙ all ∙ ap Ok (sym c.deref-in-Ok.ensures.value) in
-    if_ok c.calls_reply.result (λ r. answer_of r ≡ calls_answer answer c.deref-in-Ok.result.now) (λ r. answer_of r ≡ timed answer transcript history)
+    IfOk-weaker c.calls_reply.result (λ r. answer_of r ≡ calls_answer answer c.deref-in-Ok.result.now) (λ r. answer_of r ≡ timed answer transcript history)
     (λ r same. same ∙ timed_by answer transcript history _ c.requires whole) c.calls_reply.ensures

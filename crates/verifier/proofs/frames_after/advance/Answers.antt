@@ -2,6 +2,7 @@ use Rattle.std.proofs.Common.{◌≡◌, ℕ, ℤ, false, None, subst, of_z, to_
 use Rattle.std.specs.Prelude.{◌||◌, not}
 use Rattle.std.specs.Int.{w16}
 use Rattle.std.proofs.lemmas.Int.{to_z-of_z}
+use Rattle.std.proofs.lemmas.Bool.{not-false}
 use Rattle.insn.specs.declared.instruction.Form.{Form}
 use Rattle.insn.specs.declared.instruction.Form.TheVariants.{Store}
 use Rattle.insn.specs.declared.instruction.Size.{Size}
@@ -14,11 +15,11 @@ use Rattle.regkind.specs.Frames.{Frame, kind}
 use Rattle.verifier.specs.Signature.{Signature}
 use Rattle.verifier.specs.Regions.{is_within, StaysInStack}
 use Rattle.verifier.specs.Rules.{first_broken}
-use Rattle.verifier.proofs.Broken.{or_parts, not_false, unbroken_rules}
+use Rattle.verifier.proofs.Broken.{or_parts, unbroken_rules}
 use Rattle.verifier.proofs.frames_after.advance.Goals as goal
 
 stays : (l : Signature) (k : Kind) (d : ℤ) (n : ℕ) → not (is_within l k d n) || false ≡ false → StaysInStack k d n
-stays l (Stack o) d n e = not_false _ (or_parts _ _ e).0
+stays l (Stack o) d n e = not-false _ (or_parts _ _ e).0
 stays l k d n e = tt
 
 -- a store that breaks no rule and goes into the stack stays there
