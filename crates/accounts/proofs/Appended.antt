@@ -9,7 +9,7 @@ use Rattle.oplog.specs.declared.configuration.Sizes.{Sizes}
 use Rattle.oplog.specs.declared.records.Record.{Record}
 use Rattle.ownlock.specs.Seats.{At}
 use Rattle.accounts.proofs.Keeps.{Batches, IsNew, batch_changes}
-use Rattle.accounts.proofs.Lists.{at_behind, at_front, at_joined, at_one}
+use Rattle.accounts.proofs.Lists.{at_behind, at_front, at_joined}
 use Rattle.accounts.proofs.Moved.{claim_accounts, collect_accounts, post_accounts, reply_accounts, some_none}
 use Rattle.accounts.proofs.Parts.{Alike, alike_on, alike_request, batch_back, placed_back, taken_back, taken_on}
 use Rattle.oplog.specs.Sessions.{IsSessionOf, session}
@@ -26,6 +26,7 @@ use Rattle.accounts.specs.declared.sessions.Claim.{Claim}
 use Rattle.accounts.specs.declared.sessions.Pending.{Pending}
 use Rattle.accounts.specs.declared.sessions.Progress.{Progress}
 use Rattle.accounts.specs.declared.sessions.SessionNote.{SessionNote}
+use Rattle.ownlock.proofs.Export.{at_one}
 
 module _ {C M : Type 0} (E : Meaning C M) where
   module _ (l l' : Progress C) (ns : List SessionNote) (c : ℕ) (n : SessionNote) (w : Accounts E l ns) (here : At c n ns) (config : l'.config ≡ l.config) (catalogue : l'.catalogue ≡ l.catalogue) where

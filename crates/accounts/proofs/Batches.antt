@@ -16,10 +16,11 @@ use Rattle.accounts.specs.declared.sessions.SessionNote.{SessionNote}
 use Rattle.accounts.specs.Agreement.{StageAgrees, SlotAgrees}
 use Rattle.accounts.specs.Moves.{record_of}
 use Rattle.accounts.specs.Batches.{Ascend, ClaimsAscend, BatchIs}
-use Rattle.accounts.proofs.Lists.{at_none, at_one, one_node}
+use Rattle.accounts.proofs.Lists.{at_none, one_node}
 use Rattle.accounts.proofs.Moved.{some_none}
 use Rattle.accounts.proofs.Parts.{author_is}
 use Rattle.accounts.proofs.Puts.{at_there, at_map, at_mapped}
+use Rattle.ownlock.proofs.Export.{at_one}
 
 -- no record has a lower author
 abbrev AreFrom : ℕ → List Record → Type 0

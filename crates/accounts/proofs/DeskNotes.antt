@@ -19,10 +19,11 @@ use Rattle.accounts.specs.StoreRules.{IsNoting, MayAppend}
 use Rattle.accounts.specs.Picks.{put_progress, put_note}
 use Rattle.accounts.specs.DeskNotes.{Looked, desk_noting, desk_in, desk_held, noted_answer, request_in, requests_in, stage_at, PostNoted, ClaimNoted, CollectNoted, DeskPicked, DeskIs, BatchNoted}
 use Rattle.accounts.proofs.Desks.{posted_is, collected_is}
-use Rattle.accounts.proofs.Lists.{at_below, get_of}
+use Rattle.accounts.proofs.Lists.{get_of}
 use Rattle.accounts.proofs.Puts.{seen_desk_may_put}
 use Rattle.accounts.proofs.StoreRules.{batch_appends, desk_store}
 use Rattle.accounts.proofs.Picked.{picked}
+use Rattle.ownlock.proofs.Export.{at_below}
 
 -- the slot of a session, from the number of its node's first session
 own_slot : (first a s c : ℕ) → c ≡ first + s → c - (first + 0) ≡ s

@@ -8,7 +8,7 @@ use Rattle.oplog.specs.History.{Meaning}
 use Rattle.oplog.specs.declared.records.Record.{Record}
 use Rattle.ownlock.specs.Seats.{At}
 use Rattle.accounts.proofs.Appended.{collected}
-use Rattle.accounts.proofs.Lists.{at_below, at_none, at_one}
+use Rattle.accounts.proofs.Lists.{at_none}
 use Rattle.accounts.proofs.Moved.{one_place, some_none}
 use Rattle.accounts.specs.Agreement.{Answers}
 use Rattle.accounts.specs.Told.{AnsweredStand, DeskTells, Ends, Tells, numbered, records_of}
@@ -17,6 +17,7 @@ use Rattle.combiner.specs.declared.slots.Reply.TheVariants.{Ended, Placed}
 use Rattle.accounts.specs.declared.sessions.AnsweredUpdate.{AnsweredUpdate}
 use Rattle.accounts.specs.declared.sessions.Pending.{Pending}
 use Rattle.accounts.specs.declared.sessions.SessionNote.{SessionNote}
+use Rattle.ownlock.proofs.Export.{at_below, at_one}
 
 -- one step of the filter
 abbrev keep_if : Bool → Record → List Record → List Record

@@ -5,7 +5,7 @@ pub use Rattle.accounts.proofs.Desks.{WasEmpty, answered_at, answered_long, coll
 pub use Rattle.accounts.proofs.Ended.{answered, ends, stand}
 pub use Rattle.accounts.proofs.Finish.{grown_long, opens}
 pub use Rattle.accounts.proofs.Kept.{no_next}
-pub use Rattle.accounts.proofs.Lists.{at_behind, at_below, at_front, at_joined, at_none, at_of, at_one, get_of}
+pub use Rattle.accounts.proofs.Lists.{at_behind, at_front, at_joined, at_none, at_of, get_of}
 pub use Rattle.accounts.proofs.Moved.{one_place, some_none}
 pub use Rattle.accounts.proofs.Parts.{author_is, placed_back}
 pub use Rattle.accounts.proofs.Picked.{log_picked, log_picks, puts_account, replica_picked, replica_picks, same_picked, same_picks}
@@ -15,3 +15,4 @@ pub use Rattle.accounts.proofs.Seen.{move_seen, sized_on}
 pub use Rattle.accounts.proofs.StoreLaws.{laws_seen}
 pub use Rattle.accounts.proofs.StoreRules.{desk_store}
 pub use Rattle.accounts.proofs.Tellings.{placed_tells, read_on, replayed_agrees, replays, reply_on, state_on, tail_is}
+pub use Rattle.ownlock.proofs.Export.{at_below, at_one}

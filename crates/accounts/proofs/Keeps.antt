@@ -4,7 +4,7 @@ use native.Mathlib.Decide.{ℕ_discrete}
 use Rattle.oplog.specs.History.{Meaning}
 use Rattle.oplog.specs.declared.records.Record.{Record}
 use Rattle.ownlock.specs.Seats.{At}
-use Rattle.accounts.proofs.Lists.{at_below, at_front, at_joined, at_one}
+use Rattle.accounts.proofs.Lists.{at_front, at_joined}
 use Rattle.accounts.proofs.Parts.{Alike, alike_accounts, alike_back, alike_on, note_back, note_else, note_here, reply_front, same_batches}
 use Rattle.oplog.specs.Sessions.{IsSessionOf}
 use Rattle.accounts.specs.Accounts.{Accounts, HasNoRecord, IsInBatch, IsNoted, IsPlacedIn, IsRequest, IsAllowed, IsRecorded}
@@ -13,6 +13,7 @@ use Rattle.accounts.specs.declared.sessions.Claim.{Claim}
 use Rattle.accounts.specs.declared.sessions.Pending.{Pending}
 use Rattle.accounts.specs.declared.sessions.Progress.{Progress}
 use Rattle.accounts.specs.declared.sessions.SessionNote.{SessionNote}
+use Rattle.ownlock.proofs.Export.{at_below, at_one}
 
 module _ {C M : Type 0} (E : Meaning C M) where
   -- a request that has no record yet has the highest number of its session

@@ -2,11 +2,11 @@
 use Rattle.std.proofs.Common.{◌≡◌, ℕ, List, length, ap, ◌∙◌, subst, ⊎_elim, arith, None}
 use Rattle.oplog.specs.History.{Meaning}
 use Rattle.ownlock.specs.Seats.{At}
-use Rattle.accounts.proofs.Lists.{at_below, at_one}
 use Rattle.accounts.proofs.Moved.{some_none}
 use Rattle.accounts.specs.Accounts.{Accounts, HasNoRecord}
 use Rattle.accounts.specs.declared.sessions.Progress.{Progress}
 use Rattle.accounts.specs.declared.sessions.SessionNote.{SessionNote}
+use Rattle.ownlock.proofs.Export.{at_below, at_one}
 
 module _ {C M : Type 0} (E : Meaning C M) where
   -- no record of a session that asks nothing has the next number

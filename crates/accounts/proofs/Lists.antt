@@ -1,5 +1,5 @@
 -- Lists by their places, and numbers by node and slot.
-use Rattle.std.proofs.Common.{◌≡◌, ℕ, zero, suc, ◌+◌, ◌*◌, ◌<◌, ◌≤◌, ◌⊎◌, List, [], ◌∷◌, ◌++◌, length, take, drop, sym, refl, ap, ◌∙◌, subst, inl, inr, ⊎_elim, arith, mul-le-mul_right, suc-mul, Some, slice_get}
+use Rattle.std.proofs.Common.{◌≡◌, ℕ, zero, suc, ◌+◌, ◌*◌, ◌<◌, ◌≤◌, ◌⊎◌, List, [], ◌∷◌, ◌++◌, length, take, drop, sym, refl, ap, subst, inl, inr, ⊎_elim, arith, mul-le-mul_right, suc-mul, Some, slice_get}
 use Rattle.std.proofs.lemmas.Bool.{cases_lt}
 use mathlib.Core.Option.{some-injective, some-ne-none}
 use Rattle.ownlock.specs.Seats.{At}
@@ -13,14 +13,6 @@ suc_plus : (n j : ℕ) → suc (n + j) ≡ suc n + j
 suc_plus n j = omega arith
 
 module _ {A : Type 0} where
-  pub at_below : (l : List A) (i : ℕ) (a : A) → At i a l → i < length l
-  at_below [] i a e = absurd (some-ne-none a (sym e))
-  at_below (x ∷ xs) zero a e = omega arith
-  at_below (x ∷ xs) (suc i) a e = let h = at_below xs i a e in omega arith
-
-  pub at_one : (l : List A) (i : ℕ) (x y : A) → At i x l → At i y l → x ≡ y
-  at_one l i x y e f = some-injective x y (sym e ∙ f)
-
   pub at_none : (i : ℕ) (a : A) → At i a [] → ⊥
   at_none i a e = some-ne-none a (sym e)
 

@@ -9,7 +9,7 @@ use Rattle.oplog.specs.Operations.{Operation}
 use Rattle.oplog.specs.declared.records.Record.{Record}
 use Rattle.ownlock.specs.Seats.{At}
 use Rattle.accounts.proofs.Keeps.{Batches, IsNew, batch_changes, request_changes}
-use Rattle.accounts.proofs.Lists.{at_behind, at_below, at_front, at_joined, at_none, at_one}
+use Rattle.accounts.proofs.Lists.{at_behind, at_front, at_joined, at_none}
 use Rattle.accounts.proofs.Parts.{Alike, alike_on, alike_request, batch_back, posted_back, posted_once, author_is}
 use Rattle.oplog.specs.Sessions.{IsSessionOf, session}
 use Rattle.accounts.specs.Accounts.{Accounts, HasNoRecord, IsInBatch, IsNoted, IsRequest, IsAllowed, IsRecorded}
@@ -25,6 +25,7 @@ use Rattle.accounts.specs.declared.sessions.Claim.{Claim}
 use Rattle.accounts.specs.declared.sessions.Pending.{Pending}
 use Rattle.accounts.specs.declared.sessions.Progress.{Progress}
 use Rattle.accounts.specs.declared.sessions.SessionNote.{SessionNote}
+use Rattle.ownlock.proofs.Export.{at_below, at_one}
 
 abbrev updated : ℕ → Pending → ℕ → AnsweredUpdate
 updated i o reply = record { index = i; op = o.op; reply = reply }

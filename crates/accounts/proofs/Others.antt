@@ -10,7 +10,7 @@ use Rattle.oplog.specs.declared.records.Record.{Record}
 use Rattle.ownlock.specs.Rules.{Laws, IsPart}
 use Rattle.ownlock.specs.Seats.{At}
 use Rattle.accounts.proofs.Appended.{moves_accounts, was}
-use Rattle.accounts.proofs.Lists.{at_below, at_front, at_joined, at_one, one_node}
+use Rattle.accounts.proofs.Lists.{at_front, at_joined, one_node}
 use Rattle.accounts.proofs.Parts.{Alike, alike_on, alike_self, batch_back, batch_else, batch_here, state_front, note_else, placed_on, reply_front, taken_back}
 use Rattle.oplog.specs.Sessions.{IsSessionOf, session}
 use Rattle.accounts.specs.Accounts.{Accounts, Extends, HasNoRecord, IsInBatch}
@@ -26,6 +26,7 @@ use Rattle.accounts.specs.Values.{ReplicaValue, StoreValue, TheDesk, TheLog, The
 use Rattle.accounts.specs.declared.sessions.Claim.{Claim}
 use Rattle.accounts.specs.declared.sessions.Progress.{Progress}
 use Rattle.accounts.specs.declared.sessions.SessionNote.{SessionNote}
+use Rattle.ownlock.proofs.Export.{at_below, at_one}
 
 module _ {C M : Type 0} (E : Meaning C M) where
   -- a progress that has grown

@@ -9,7 +9,7 @@ use Rattle.oplog.specs.Operations.{Operation}
 use Rattle.oplog.specs.declared.configuration.Sizes.{Sizes}
 use Rattle.oplog.specs.declared.records.Record.{Record}
 use Rattle.ownlock.specs.Seats.{At}
-use Rattle.accounts.proofs.Lists.{at_below, at_none, at_one, take_front}
+use Rattle.accounts.proofs.Lists.{at_none, take_front}
 use Rattle.oplog.specs.Sessions.{session}
 use Rattle.accounts.specs.Accounts.{IsInBatch, IsNoted, IsRequest}
 use Rattle.accounts.specs.Moves.{placed_from, record_of, unplaced}
@@ -20,6 +20,7 @@ use Rattle.accounts.specs.declared.sessions.Claim.{Claim}
 use Rattle.accounts.specs.declared.sessions.SessionNote.{SessionNote}
 use Rattle.combiner.specs.Slots.{requested, requests_from}
 use Rattle.combiner.specs.Desks.{DeskView, first_author}
+use Rattle.ownlock.proofs.Export.{at_below, at_one}
 
 module _ {C M : Type 0} (E : Meaning C M) where
   -- more records change nothing of the state after the first k

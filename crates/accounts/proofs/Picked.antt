@@ -17,9 +17,10 @@ use Rattle.accounts.specs.Moves.{with_records}
 use Rattle.accounts.specs.StoreRules.{Noting, IsStoreRules, IsNoting, IsLogAfter}
 use Rattle.accounts.specs.Putting.{the_rules}
 use Rattle.accounts.specs.Picks.{appended_by, put_progress, put_note, SamePicked, LogPicked, ReplicaPicked, PutsAccount, SameIs, LogIs, ReplicaIs}
-use Rattle.accounts.proofs.Lists.{at_below, drop_front}
+use Rattle.accounts.proofs.Lists.{drop_front}
 use Rattle.accounts.proofs.Seen.{seen_laws}
 use Rattle.accounts.proofs.Putting.{same_move, log_may_put, replica_may_put}
+use Rattle.ownlock.proofs.Export.{at_below}
 
 drop_twice : {A : Type 0} (b : ℕ) (h : List A) → drop (length h - b) (drop b h) ≡ []
 drop_twice b h = drop_of_length-le (drop b h) (let long = length-drop b h in omega (arith, long))

@@ -10,7 +10,7 @@ use Rattle.oplog.specs.Operations.{Operation}
 use Rattle.oplog.specs.declared.configuration.Sizes.{Sizes}
 use Rattle.oplog.specs.declared.records.Record.{Record}
 use Rattle.ownlock.specs.Seats.{At}
-use Rattle.accounts.proofs.Lists.{at_below, at_none, at_one, one_node}
+use Rattle.accounts.proofs.Lists.{at_none, one_node}
 use Rattle.accounts.proofs.Moved.{some_none}
 use Rattle.accounts.proofs.Others.{Undisturbed, same_progress, slot_stays}
 use Rattle.accounts.proofs.Parts.{Alike, alike_on, alike_self, batch_back, batch_else, batch_here, note_else, note_here, posted_back, reply_front, same_batches, author_is}
@@ -34,6 +34,7 @@ use mathlib.Core.Option as kernel
 use Rattle.combiner.specs.Slots.{answered_stage, claimed_slot, claimed_stage, counted, with_answer}
 use Rattle.accounts.proofs.Desks.{answer_is, answered_at, answered_long, collected_is, none_claimed, posted_is, posted_on}
 use Rattle.accounts.specs.Putting.{SeenDeskMayPut}
+use Rattle.ownlock.proofs.Export.{at_below, at_one}
 
 abbrev IsStage : Stage → Stage → Type 0
 IsStage Empty Empty = Unit {0}

@@ -11,9 +11,10 @@ use Rattle.accounts.specs.Agreement.{LogAgrees}
 use Rattle.accounts.specs.Moves.{with_records}
 use Rattle.accounts.specs.StoreRules.{IsLogAfter}
 use Rattle.accounts.specs.Tellings.{TailIs, Replays, ReplayedAgrees, PlacedTells, ReadsTell, EndedTells}
-use Rattle.accounts.proofs.Lists.{at_below, at_front, drop_front}
+use Rattle.accounts.proofs.Lists.{at_front, drop_front}
 use Rattle.accounts.proofs.Parts.{state_front, reply_front, read_front}
 use Rattle.accounts.proofs.Kept.{no_next}
+use Rattle.ownlock.proofs.Export.{at_below}
 
 module _ {A : Type 0} where
   abbrev nothing : List A

@@ -10,7 +10,7 @@ use Rattle.insn.specs.declared.instruction.Source.TheVariants as sources
 use Rattle.insn.specs.declared.instruction.Form.{Form}
 use Rattle.insn.specs.declared.instruction.Form.TheVariants.{Alu, Neg, MovSx, Swap, Load, Store, Imm64, MapRef, Ja, Branch, Call, Exit}
 use Rattle.insn.specs.Encoding.{HasEncoding, MayExtend}
-use Rattle.insn.specs.Layout.{size, layout, slot_contents, slot_count}
+use Rattle.insn.specs.Layout.{size, slot_count}
 use Rattle.text.specs.Lines.{lines_of, next_line}
 use Rattle.asm.specs.declared.tokens.Stop.{Stop}
 use Rattle.asm.specs.declared.tokens.Stop.TheVariants.{LineFeed, Semicolon, Visible, TokenEnd, Colon}
@@ -25,6 +25,7 @@ use Rattle.asm.proofs.Table.{word_is_read}
 use Rattle.asm.proofs.Parts.{is_plain, IsToken, passes, ends, list_all-append, before-cut, rest-cut, no_feed, no_semicolon, no_end, no_colon, is_visible, no_operand, one_operand, two_operands, three_operands}
 use Rattle.asm.proofs.PlainWords.{word-token}
 use Rattle.asm.proofs.ReadBack.{register-register, source-source, written-form, number-decimal, number-signed_decimal, target-with_sign, address-address, imm-fits, off-fits, near-fits, far-fits, small_16, small_32, decimal-token, register-token, signed-token, with_sign-token, source-token, address-token}
+use Rattle.insn.proofs.Export.{size_more}
 
 has_word : (i : Form) → HasEncoding i → HasWord (mnemonic i)
 has_word (Alu w op dst src) h = tt
@@ -184,14 +185,11 @@ instruction_back marks n slot i h few =
 
 -- ---- programs
 
-size-cons : (i : Form) (p : List Form) → size (i ∷ p) ≡ slot_count i + size p
-size-cons i p = length-append (slot_contents i) (layout p)
-
 program_back : (marks : Marks) (n slot : ℕ) (p : List Form) → AllByRecursion HasEncoding p → slot + size p ≤ MAX_SLOTS → assembled_from marks n slot (map bare_line p) ≡ Ok p
 unfolding assembled_from
 program_back marks n slot [] h few = refl
 program_back marks n slot (i ∷ p) h few =
-    rw (instruction_back marks n slot i h.0 (omega (arith, few, size-cons i p)), program_back marks (next_line n) (slot + slot_count i) p h.1 (omega (arith, few, size-cons i p))) refl
+    rw (instruction_back marks n slot i h.0 (omega (arith, few, size_more i p)), program_back marks (next_line n) (slot + slot_count i) p h.1 (omega (arith, few, size_more i p))) refl
 
 cut_line : (xs ys : List ℕ) → passes LineFeed xs → lines_of (xs ++ 10 ∷ ys) ≡ xs ∷ lines_of ys
 cut_line [] ys h = refl

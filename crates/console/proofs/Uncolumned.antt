@@ -13,10 +13,10 @@ use Rattle.insn.specs.declared.instruction.Form.{Form}
 use Rattle.insn.specs.Encoding.{HasEncoding, program_bytes}
 use Rattle.insn.specs.Refusal as decoding
 use Rattle.insn.specs.Refusal.{AreBytes}
-use Rattle.insn.specs.Layout.{slot_contents, slot_count, layout, size}
+use Rattle.insn.specs.Layout.{slot_count, size}
 use Rattle.insn.specs.Decoded.{decoded}
 use Rattle.insn.specs.declared.decoding.DecodeRefusal.{DecodeRefusal}
-use Rattle.insn.proofs.Export.{read_is_spelled, are_bytes}
+use Rattle.insn.proofs.Export.{read_is_spelled, are_bytes, size_more}
 use Rattle.text.specs.Fields.{is_space, split_at_space}
 use Rattle.text.specs.Lines.{lines_of}
 use Rattle.text.specs.Digits.{spaced_bytes}
@@ -119,9 +119,6 @@ module _ (slot : ℕ) (i : Form) (lt : slot < 10000) (h : HasEncoding i) where
 
 -- ---- all lines
 
-size_cons : (i : Form) (p : List Form) → size (i ∷ p) ≡ slot_count i + size p
-size_cons i p = length-append (slot_contents i) (layout p)
-
 abbrev one : List ℕ → List ℕ
 one line = without_columns line ++ codes "\n"
 
@@ -131,7 +128,7 @@ each_line slot [] h few = refl
 each_line slot (i ∷ p) h few =
     let lt : slot < 10000 = omega (arith, few) in
     let rest = slots_text (slot + slot_count i) p in
-    let more = each_line (slot + slot_count i) p h.1 (omega (arith, few, size_cons i p)) in
+    let more = each_line (slot + slot_count i) p h.1 (omega (arith, few, size_more i p)) in
     ap (λ text. flat_map one (lines_of text)) (line_is slot i lt h.0 rest)
     ∙ ap (flat_map one) (cut_feedless (columned slot i lt h.0) rest (columned_passes slot i lt h.0))
     ∙ ap (λ line. (line ++ codes "\n") ++ flat_map one (lines_of rest)) (bare_is slot i lt h.0)

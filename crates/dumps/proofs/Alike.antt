@@ -163,7 +163,7 @@ unline : (m : ℕ) (es : List Pair) → map (λ (e : EntryLine). (e.key, e.value
 unline m [] = refl
 unline m (e ∷ es) = ap (λ u. e ∷ u) (unline m es)
 
-lines_at : (m : ℕ) (es : List Pair) → AllByRecursion (λ (e : EntryLine). e.map ≡ m) (map (line m) es)
+pub lines_at : (m : ℕ) (es : List Pair) → AllByRecursion (λ (e : EntryLine). e.map ≡ m) (map (line m) es)
 lines_at m [] = tt
 lines_at m (e ∷ es) = (refl, lines_at m es)
 

@@ -21,6 +21,7 @@ use Rattle.dumps.specs.Dumping.{map_entries}
 use Rattle.dumps.proofs.Listed.{by_bytes, Pair, kept, first, less, turned}
 use Rattle.dumps.proofs.SpelledLines.{EntryFits}
 use Rattle.dumps.proofs.Placing.{all_joined, all_mapped, IsBefore, line, keeps, entries_from, maps_past}
+use Rattle.dumps.proofs.Alike.{lines_at}
 
 -- ---- where it stands
 
@@ -109,10 +110,6 @@ rises_joined n (x ∷ xs) ys a b at past =
     let here : x.map ≡ n = at.0 in
     let beyond = all_mapped (λ (e : EntryLine). n + 1 ≤ e.map) (λ (f : EntryLine). IsBefore x f.map f.key) (λ f h. inl (omega (arith, h, here))) ys past in
     (all_joined (λ (f : EntryLine). IsBefore x f.map f.key) xs ys a.0 beyond, rises_joined n xs ys a.1 b at.1 past)
-
-lines_at : (m : ℕ) (es : List Pair) → AllByRecursion (λ (e : EntryLine). e.map ≡ m) (map (line m) es)
-lines_at m [] = tt
-lines_at m (e ∷ es) = (refl, lines_at m es)
 
 pub all_rise : (n : ℕ) (maps : Maps) → Rises (entries_from n maps)
 all_rise n [] = tt

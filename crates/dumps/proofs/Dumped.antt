@@ -3,7 +3,7 @@ use Rattle.std.proofs.Common.{append_assoc, append-nil, ◌≡◌, ℕ, Bool, tr
 use Rattle.std.specs.Prelude.{slice_get}
 use Rattle.std.specs.List.{flat_map}
 use Rattle.std.proofs.lemmas.Bool.{and_parts, eqb-true}
-use Rattle.std.proofs.lemmas.List.{nil_from_length}
+use Rattle.std.proofs.lemmas.List.{nil_from_length, map-append}
 use Rattle.hex.specs.Hex.{IsBytes}
 use Rattle.insn.specs.declared.decoding.DecodeRefusal.{DecodeRefusal}
 use Rattle.insn.specs.declared.instruction.Form.{Form}
@@ -29,7 +29,7 @@ use Rattle.dumps.specs.Dumping.{entries_of, program_line, lines_of, text_of, dum
 use Rattle.dumps.proofs.Entries.{Passes, passes}
 use Rattle.dumps.proofs.SpelledLines.{IsBound, said}
 use Rattle.dumps.proofs.TextLines.{joined, text_is_lines}
-use Rattle.dumps.proofs.Placing.{IsBefore, AllBefore, before, before_both, all_joined, all_mapped, map_joined, keeps, placed_last, all_empty}
+use Rattle.dumps.proofs.Placing.{IsBefore, AllBefore, before, before_both, all_joined, all_mapped, keeps, placed_last, all_empty}
 
 -- what stands behind the last entry stands behind all of them
 abbrev pub IsRising : Loading → Type 0
@@ -76,7 +76,7 @@ entry_grows so after e rising h =
     let none = (in_order so e p.order).0 in
     let listed = entry_listed so e taken.0 rising taken.1 p in
     let lines : lines_of (with_entry so e).state ≡ lines_of so.state ++ Entry e ∷ [] =
-    rw (none, listed) (append-nil (map Entry (entries_of so.state.maps ++ e ∷ [])) ∙ map_joined Entry (entries_of so.state.maps) (e ∷ []) ∙ ap (λ u. u ++ Entry e ∷ []) (sym (append-nil (map Entry (entries_of so.state.maps))))) in
+    rw (none, listed) (append-nil (map Entry (entries_of so.state.maps ++ e ∷ [])) ∙ map-append Entry (entries_of so.state.maps) (e ∷ []) ∙ ap (λ u. u ++ Entry e ∷ []) (sym (append-nil (map Entry (entries_of so.state.maps))))) in
     subst (λ a. Grows so a (Entry e)) taken.3 (record { lines = lines; rising = entry_rising so e taken.0 rising taken.1 p })
 
 -- ---- a program
@@ -106,7 +106,7 @@ program_grows z so after p bytes rising h =
     let same : program_line c ≡ p = λ i. record { mode = p.mode; arg_len = p.arg_len; bytes = sym spelled i } in
     let line : Program (program_line taken.0) ≡ Program p = ap (λ (d : Checked). Program (program_line d)) (sym read.2) ∙ ap Program same in
     let lines : lines_of (with_program so taken.0).state ≡ lines_of so.state ++ Program p ∷ [] =
-    ap (λ u. map Entry (entries_of so.state.maps) ++ u) (map_joined (λ (d : Checked). Program (program_line d)) so.state.programs (taken.0 ∷ []) ∙ ap (λ u. map (λ (d : Checked). Program (program_line d)) so.state.programs ++ u ∷ []) line)
+    ap (λ u. map Entry (entries_of so.state.maps) ++ u) (map-append (λ (d : Checked). Program (program_line d)) so.state.programs (taken.0 ∷ []) ∙ ap (λ u. map (λ (d : Checked). Program (program_line d)) so.state.programs ++ u ∷ []) line)
     ∙ sym (append_assoc (map Entry (entries_of so.state.maps)) (map (λ (d : Checked). Program (program_line d)) so.state.programs) (Program p ∷ [])) in
     subst (λ a. Grows so a (Program p)) taken.2 (record { lines = lines; rising = rising })
 

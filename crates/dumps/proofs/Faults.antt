@@ -1,10 +1,10 @@
 -- What the tests of an entry find, one by one.
 use Rattle.std.proofs.Common.{◌≡◌, ◌≢◌, ◌↔◌, ℕ, Bool, true, false, List, length, Option, Some, None, refl, sym}
-use Rattle.std.specs.Prelude.{is_some, IsNone, nat_lt, slice_get}
+use Rattle.std.specs.Prelude.{is_some, IsNone, nat_lt}
 use Rattle.std.proofs.lemmas.Bool.{ne_eqb, eq-eqb}
 use Rattle.std.specs.FinMap as finite_map
 use Rattle.maps.specs.Shapes.{key_size, value_size, entry_count}
-use Rattle.maps.specs.Maps.{MapState, Maps, value_at}
+use Rattle.maps.specs.Maps.{MapState}
 use Rattle.dumps.specs.declared.refusals.DumpFault.TheVariants as faults
 use Rattle.dumps.specs.Grammar.{EntryLine}
 use Rattle.dumps.specs.Loading.{Loading, is_hash, is_key_for, is_in_order, is_left_out, has_room, entry_fault}
@@ -16,9 +16,6 @@ alike None None h = refl
 alike None (Some y) h = sym (h.0 refl)
 alike (Some x) None h = h.1 refl
 alike (Some x) (Some y) h = refl
-
-pub value_there : (maps : Maps) (m : ℕ) (s : MapState) (key : List ℕ) → slice_get maps m ≡ Some s → value_at maps m key ≡ finite_map.get s.entries key
-value_there maps m s key at = rw at refl
 
 -- ---- whether a map may have a key
 

@@ -1,5 +1,5 @@
 -- What is wrong with a line, as it is computed, is its fault of the lowest number.
-use Rattle.std.proofs.Common.{get_or, ◌≡◌, ◌≢◌, ℕ, zero, suc, ◌+◌, ◌<◌, ◌≤◌, Bool, true, false, not, ◌&&◌, ◌||◌, List, [], ◌∷◌, length, Option, Some, None, Result, Ok, Err, refl, sym, ap, subst, inl, inr, ⊎_elim, ◌∙◌, arith}
+use Rattle.std.proofs.Common.{get_or, ◌≡◌, ◌≢◌, ℕ, zero, ◌+◌, ◌<◌, ◌≤◌, Bool, true, false, not, ◌&&◌, ◌||◌, List, [], ◌∷◌, length, Option, Some, None, Result, Ok, Err, refl, sym, ap, subst, inl, inr, ⊎_elim, ◌∙◌, arith}
 use Rattle.std.specs.Prelude.{◌⊎◌, IfSome, IsNone, is_some, nat_lt, ◌==◌, if◌then◌else◌, slice_get}
 use Rattle.std.specs.List.{AllByRecursion, list_all}
 use Rattle.std.specs.FinMap as finite_map
@@ -22,10 +22,11 @@ use Rattle.dumps.specs.Grammar.{EntryLine, ProgramLine, Meaning, Entry, Program}
 use Rattle.dumps.specs.Dumping.{entries_of}
 use Rattle.dumps.specs.Loading.{Loading, is_hash, is_key_for, is_in_order, is_left_out, is_zero, has_room, entry_fault, is_behind, unless, with_entry, with_program, after_meaning, in_map, in_place}
 use Rattle.dumps.proofs.Entries.{room_for}
-use Rattle.dumps.proofs.Faults.{value_there}
 use Rattle.dumps.proofs.Alike.{array_has}
 use Rattle.dumps.proofs.Dumped.{IsRising, in_order}
 use Rattle.dumps.proofs.Placing.{AllBefore}
+use Rattle.maps.proofs.Export.{all_get}
+use Rattle.helpers.proofs.Export.{value_there}
 
 -- ---- numbers of faults
 
@@ -365,11 +366,6 @@ one_lowest s m a b h k =
     let same : v ≡ w = cc in
     ea ∙ ap faults.Program same ∙ sym eb)
 
-each_there : {A : Type 0} (P : A → Type 0) (xs : List A) (n : ℕ) (x : A) → AllByRecursion P xs → slice_get xs n ≡ Some x → P x
-each_there P [] n x all at = absurd cc
-each_there P (y ∷ xs) zero x all at = let same : y ≡ x = cc in subst P same all.0
-each_there P (y ∷ xs) (suc n) x all at = each_there P xs n x all.1 at
-
 -- what a line is answered
 pub answered : (z : StateSizes) (so : Loading) (m : Option Meaning) → z.shapes ≡ shapes_of so.state.maps → AreMaps so.state.maps → IsRising so
     → ((n : ℕ) (k : List ℕ) → AllBefore (entries_of so.state.maps) n k → is_behind so.last n k ≡ true)
@@ -379,6 +375,6 @@ answered z so (Some (Entry e)) same maps rising last bytes = by (slice_get so.st
   where
     by : (o : Option MapState) → slice_get so.state.maps e.map ≡ o → Answers so.state (Some (Entry e)) (in_map so e o)
     by None at = without_map so rising last e at
-    by (Some t) at = in_its_map so rising last e t at (each_there IsMapState so.state.maps e.map t maps at) (bytes e refl)
+    by (Some t) at = in_its_map so rising last e t at (all_get IsMapState so.state.maps e.map t maps at) (bytes e refl)
 answered z so (Some (Program p)) same maps rising last bytes =
     subst (λ x. Answers so.state (Some (Program p)) (in_place so (installed_program x p.mode p.arg_len p.bytes))) (sym same) (installed so p (installed_program (shapes_of so.state.maps) p.mode p.arg_len p.bytes) refl)

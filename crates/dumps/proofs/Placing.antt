@@ -9,6 +9,7 @@ use Rattle.std.specs.Ordering.{is_lt}
 use Rattle.std.specs.Cmp.Lexicographic.{nat_list_cmp_total}
 use Rattle.std.specs.FinMap as finite_map
 use Rattle.std.specs.FinMap.{entries_sorted, entries-insert, len-entries, len-empty}
+use Rattle.std.proofs.lemmas.List.{append-nil, map-append}
 use Rattle.maps.specs.declared.shapes.Shape.{Shape}
 use Rattle.maps.specs.declared.shapes.Shape.TheVariants.{Array, Hash}
 use Rattle.maps.specs.Maps.{Maps, MapState}
@@ -34,14 +35,6 @@ module _ {A : Type 0} (P : A → Type 0) where
   pub all_mapped : (Q : A → Type 0) → ((x : A) → P x → Q x) → (xs : List A) → AllByRecursion P xs → AllByRecursion Q xs
   all_mapped Q f [] p = tt
   all_mapped Q f (x ∷ xs) p = (f x p.0, all_mapped Q f xs p.1)
-
-pub map_joined : {A B : Type 0} (f : A → B) (xs ys : List A) → map f (xs ++ ys) ≡ map f xs ++ map f ys
-map_joined f [] ys = refl
-map_joined f (x ∷ xs) ys = ap (λ u. f x ∷ u) (map_joined f xs ys)
-
-pub joined_nil : {A : Type 0} (xs : List A) → xs ++ [] ≡ xs
-joined_nil [] = refl
-joined_nil (x ∷ xs) = ap (λ u. x ∷ u) (joined_nil xs)
 
 -- ---- the order of entries
 
@@ -120,7 +113,7 @@ put_listed m s k v keep all =
     let below = below_from (keeps s.shape) m k (finite_map.entries s.entries) all in
     ap (λ es. map (line m) (kept (keeps s.shape) es)) (entries-insert nat_list_cmp_total s.entries k v)
     ∙ ap (map (line m)) (put_kept (keeps s.shape) k v keep (finite_map.entries s.entries) sorted below)
-    ∙ map_joined (line m) (kept (keeps s.shape) (finite_map.entries s.entries)) ((k, v) ∷ [])
+    ∙ map-append (line m) (kept (keeps s.shape) (finite_map.entries s.entries)) ((k, v) ∷ [])
 
 -- ---- the entries of all maps
 
@@ -157,7 +150,7 @@ placed_last (x ∷ maps) n zero m s k v at there keep all =
     let keep_here : keeps x.shape v ≡ true = rw same keep in
     let all_here : AllBefore (map_entries n x) n k = subst (λ u. AllBefore (map_entries n x) u k) here parts.0 in
     let listed = put_listed n x k v keep_here all_here in
-    rw (none, here) (joined_nil (map_entries n (with_value x k v)) ∙ listed ∙ ap (λ u. u ++ line n (k, v) ∷ []) (sym (joined_nil (map_entries n x))))
+    rw (none, here) (append-nil (map_entries n (with_value x k v)) ∙ listed ∙ ap (λ u. u ++ line n (k, v) ∷ []) (sym (append-nil (map_entries n x))))
 placed_last (x ∷ maps) n (suc i) m s k v at there keep all =
     let parts = all_parts (λ (e : EntryLine). IsBefore e m k) (map_entries n x) (entries_from (n + 1) maps) all in
     let ih = placed_last maps (n + 1) i m s k v (omega (arith, at)) there keep parts.1 in

@@ -5,7 +5,7 @@ use Rattle.std.specs.List.{AllByRecursion, list_all}
 use Rattle.std.proofs.lemmas.Bool.{eq-eqb, lt-ltb, and_parts, leb-true, not-true}
 use Rattle.std.proofs.lemmas.Bool.Decides.{nat_tests}
 use Rattle.std.proofs.lemmas.Fmt.{digits_decimal}
-use Rattle.std.proofs.lemmas.List.{length-append}
+use Rattle.std.proofs.lemmas.List.{length-append, map-append}
 use Rattle.hex.specs.Hex.{IsBytes, encode_lower}
 use Rattle.std.specs.FinMap as finite_map
 use Rattle.std.proofs.lemmas.List.Elements.{recursion_from_All}
@@ -43,7 +43,7 @@ use Rattle.dumps.proofs.Loop.{one_on}
 use Rattle.dumps.proofs.LowerHex.{lower_all}
 use Rattle.dumps.proofs.SpelledLines.{ProgramFits, Fits, argument_small, spelled_says}
 use Rattle.dumps.proofs.TextLines.{joined}
-use Rattle.dumps.proofs.Placing.{IsBefore, behind, key_of, all_joined, all_mapped, map_joined, all_empty}
+use Rattle.dumps.proofs.Placing.{IsBefore, behind, key_of, all_joined, all_mapped, all_empty}
 use Rattle.dumps.proofs.Dumped.{IsRising, entry_listed, entry_rising, opening_rising, texts}
 use Rattle.dumps.proofs.Alike.{hash_keeps, array_has, same_maps}
 use Rattle.dumps.proofs.ProgramBytes.{program_are_bytes}
@@ -360,7 +360,7 @@ dump_is_read z s is =
     let read = entries_read z s.maps 1 (opening z) (entries_of s.maps) (spelled (map as_line s.programs)) ok is.maps (at_first z s.maps ok) in
     let few : length s.programs ≤ s.places = (let a = is.programs.few in let b = is.places in omega (arith, a, b)) in
     let lines : spelled (lines_of s) ≡ spelled (map Entry (entries_of s.maps)) ++ spelled (map as_line s.programs) =
-    ap (map Some) (map_joined text_of (map Entry (entries_of s.maps)) (map as_line s.programs)) ∙ map_joined Some (map text_of (map Entry (entries_of s.maps))) (map text_of (map as_line s.programs)) in
+    ap (map Some) (map-append text_of (map Entry (entries_of s.maps)) (map as_line s.programs)) ∙ map-append Some (map text_of (map Entry (entries_of s.maps))) (map text_of (map as_line s.programs)) in
     ap (λ t. after_lines z 1 (opening z) (ended_lines t)) (texts (lines_of s))
     ∙ ap (after_lines z 1 (opening z)) (ended_texts z.long (lines_of s) fits ∙ lines)
     ∙ read.read

@@ -117,7 +117,7 @@ no_letter n lt = by_test (bytes_eq (decimal n) (codes "p")) (word_is (decimal n)
         let digits : all_ascii_digits (codes "p") ≡ true = subst (λ t. all_ascii_digits t ≡ true) (is refl) (digits_decimal own n lt) in
         absurd cc
 
-digits_few : (n : ℕ) → n < 2 ^ 64 → length (decimal n) ≤ 20
+pub digits_few : (n : ℕ) → n < 2 ^ 64 → length (decimal n) ≤ 20
 digits_few n lt = length-decimal-le 20 n (lit< tt) (omega (arith, lt)) lt
 
 entry_short : (e : EntryLine) → EntryFits e → length (entry_text e) ≤ DUMP_LINE_BYTES
@@ -148,7 +148,7 @@ within_to most n le small = rw ((numerals_are_decimals (decimal n) n).1 (refl, s
 pub argument_small : (long : ℕ) (p : ProgramLine) → ProgramFits long p → p.arg_len < 2 ^ 64
 argument_small long p f = omega (arith, f.argument, f.limit)
 
-word_few : (m : Mode) → length (mode_word m) ≤ 6
+pub word_few : (m : Mode) → length (mode_word m) ≤ 6
 word_few Update = omega arith
 word_few Read = omega arith
 

@@ -8,7 +8,7 @@ use Rattle.std.specs.Cmp.Lexicographic.{slice_cmp, nat_list_cmp_total}
 use Rattle.std.specs.FinMap as finite_map
 use Rattle.std.specs.FinMap.{get-insert, same_map, slice_cmp-IsAntisymmetric, nat_cmp-IsAntisymmetric}
 use Rattle.std.proofs.lemmas.Bool.{ltb-true, lt-ltb, cases_eq, and_parts, and_from}
-use Rattle.std.proofs.lemmas.List.{length-set}
+use Rattle.std.proofs.lemmas.List.{length-set, map-append}
 use Rattle.std.proofs.lemmas.Option.{slice_get_within, get_or_from_slice_get}
 use Rattle.hex.specs.Hex.{IsBytes}
 use Rattle.insn.specs.declared.decoding.DecodeRefusal.{DecodeRefusal}
@@ -20,8 +20,8 @@ use Rattle.maps.specs.declared.shapes.Shape.TheVariants.{Array, Hash}
 use Rattle.maps.specs.Shapes.{key_size, value_size, entry_count, IsShapeSupported, AreShapesSupported}
 use Rattle.maps.specs.Maps.{MapState, Maps, Entries, shapes_of}
 use Rattle.maps.specs.MapSets.{index_keys, opening_map, opening_maps, put_value}
-use Rattle.maps.proofs.Export.{get_placed, get_nowhere, found_at, index_at, index_stands, index_distinct, none_free, opening_shapes, put_value_at}
-use Rattle.helpers.proofs.Export.{get_set_same, get_set_other, map_set}
+use Rattle.maps.proofs.Export.{get_placed, get_nowhere, found_at, index_at, index_stands, index_distinct, none_free, opening_shapes, put_value_at, get_set_other}
+use Rattle.helpers.proofs.Export.{get_set_same, map_set}
 use Rattle.verifier.specs.Accepted.{Checked, checked}
 use Rattle.verifier.specs.Signature.{signature}
 use Rattle.verifier.specs.Verdict.{verdict}
@@ -39,7 +39,6 @@ use Rattle.dumps.specs.WiderLaws.{Extends, HasAllOf, for_maps, HasMore, IsWidene
 use Rattle.dumps.proofs.Entries.{Passes, passes, put_in}
 use Rattle.dumps.proofs.Faults.{none}
 use Rattle.dumps.proofs.Longer.{line_more}
-use Rattle.dumps.proofs.Placing.{map_joined}
 use Rattle.dumps.proofs.SpelledLines.{IsBound, said}
 use Rattle.dumps.proofs.Dumped.{in_map_ok, meant}
 
@@ -330,7 +329,7 @@ module _ (old new : StateSizes) (limits : AreShapesSupported new.shapes) (has : 
           shapes_are = w.shapes_are;
           maps = w.maps;
           others = w.others;
-          programs = ap (λ ps. ps ++ c ∷ []) w.programs ∙ sym (map_joined widened so.state.programs (checked f old.shapes p.arg_len p.mode ∷ []));
+          programs = ap (λ ps. ps ++ c ∷ []) w.programs ∙ sym (map-append widened so.state.programs (checked f old.shapes p.arg_len p.mode ∷ []));
           last = w.last;
           places_are = w.places_are;
           long_is = w.long_is;

@@ -1,7 +1,7 @@
 -- The text of a state is the lines of its maps and of its programs.
 use Rattle.std.proofs.Common.{append_assoc, append-nil, ◌≡◌, ℕ, zero, suc, ◌+◌, ◌<◌, ◌≤◌, Bool, true, false, not, cond, List, [], ◌∷◌, ◌++◌, map, length, drop, codes, Some, refl, sym, ap, ◌∙◌, subst, arith}
 use Rattle.std.specs.Prelude.{slice_get, filter}
-use Rattle.std.proofs.lemmas.List.{length-map}
+use Rattle.std.proofs.lemmas.List.{length-map, map-append}
 use Rattle.std.specs.List.{flat_map}
 use Rattle.std.specs.FinMap as finite_map
 use Rattle.std.proofs.lemmas.List.Concat.{flat_map-append}
@@ -14,7 +14,7 @@ use Rattle.dumps.specs.Grammar.{Meaning, Entry, Program}
 use Rattle.dumps.specs.Loading.{is_left_out}
 use Rattle.dumps.specs.Dumping.{text_of, map_entries, program_line, dump}
 use Rattle.dumps.specs.Written.{Pair, entries_at, entry_at, entry_line, kept_text, map_text, maps_text, place_text, program_line_text}
-use Rattle.dumps.proofs.Placing.{map_joined, entries_from}
+use Rattle.dumps.proofs.Placing.{entries_from}
 
 -- ---- the text
 
@@ -33,7 +33,7 @@ one_map m shape (e ∷ es) = by (is_left_out shape e.1) (one_map m shape es)
 all_maps : (n : ℕ) (maps : Maps) → flat_map line_text (map Entry (entries_from n maps)) ≡ maps_text n maps
 all_maps n [] = refl
 all_maps n (s ∷ maps) =
-    ap (flat_map line_text) (map_joined Entry (map_entries n s) (entries_from (n + 1) maps))
+    ap (flat_map line_text) (map-append Entry (map_entries n s) (entries_from (n + 1) maps))
     ∙ flat_map-append line_text (map Entry (map_entries n s)) (map Entry (entries_from (n + 1) maps))
     ∙ ap (λ u. u ++ flat_map line_text (map Entry (entries_from (n + 1) maps))) (one_map n s.shape (finite_map.entries s.entries))
     ∙ ap (λ u. map_text n s ++ u) (all_maps (n + 1) maps)

@@ -19,7 +19,7 @@ use Rattle.encoding.proofs.PartValues.{is_value, named, part_spelled}
 
 -- ---- the values of parts
 
-mapped : {A B : Type 0} (f : A → B) (o : Option A) (b : B) → option_map f o ≡ Some b → (a : A) × (o ≡ Some a) × (f a ≡ b)
+pub mapped : {A B : Type 0} (f : A → B) (o : Option A) (b : B) → option_map f o ≡ Some b → (a : A) × (o ≡ Some a) × (f a ≡ b)
 mapped f None b h = absurd cc
 mapped f (Some a) b h = (a, refl, cc)
 

@@ -7,4 +7,5 @@ pub use Rattle.engine.proofs.Limits.{are_limits}
 pub use Rattle.engine.proofs.Openings.{fits_on, on_loaded, opens_on}
 pub use Rattle.engine.proofs.Quiet.{quiet_on}
 pub use Rattle.engine.proofs.Reports.{performed, performs, reports}
+pub use Rattle.engine.proofs.SentPieces.{appended, first_broken_off}
 pub use Rattle.engine.proofs.Written.{Fits, written}

@@ -9,7 +9,7 @@ use Rattle.engine.specs.Transfer.{AppendsBeginning}
 abbrev pub Sent : Option (List ℕ) → Option (List ℕ) → List ℕ → List ℕ → Type 0
 Sent old now all left = (done : List ℕ) × (all ≡ done ++ left) × Appends old now done
 
-appended : (old now new : Option (List ℕ)) (a b : List ℕ) → Appends old now a → Appends now new b → Appends old new (a ++ b)
+pub appended : (old now new : Option (List ℕ)) (a b : List ℕ) → Appends old now a → Appends now new b → Appends old new (a ++ b)
 appended None now new a b p q = tt
 appended (Some x) None new a b p q = absurd p
 appended (Some x) (Some y) None a b p q = absurd q

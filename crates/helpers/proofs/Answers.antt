@@ -9,8 +9,8 @@ use Rattle.maps.specs.declared.shapes.Shape.TheVariants.{Array, Hash}
 use Rattle.maps.specs.Maps.{Maps, MapState, Entries, value_at}
 use Rattle.maps.specs.Values.{Num}
 use Rattle.helpers.specs.Helpers.{enoent, e2big, eexist, einval, noexist, exist, negative_errno, update_error, delete_error, changed_unless, with_entries, update_answer, delete_answer, UpdateCall, DeleteCall, HelperAnswer, HelperAnswers}
-use Rattle.maps.proofs.Export.{key_ties, key_differs}
-use Rattle.helpers.proofs.Places.{get_set_same, get_set_other, option_map_some}
+use Rattle.maps.proofs.Export.{key_ties, key_differs, get_set_other}
+use Rattle.helpers.proofs.Places.{get_set_same, option_map_some}
 
 -- ---- errors are numbers below 4096
 

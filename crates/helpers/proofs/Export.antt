@@ -2,4 +2,4 @@
 pub use Rattle.helpers.proofs.Answers.{inserted, value_after, value_elsewhere, value_there}
 pub use Rattle.helpers.proofs.Kept.{entries_kept, insert_keeps, keep_shapes}
 pub use Rattle.helpers.proofs.Numbered.{only_number}
-pub use Rattle.helpers.proofs.Places.{get_set_other, get_set_same, map_set, option_map_some}
+pub use Rattle.helpers.proofs.Places.{get_set_same, map_set, option_map_some}

@@ -1,12 +1,12 @@
 -- A slot that breaks no rule is an instruction's, row by row of the table of opcodes.
-use Rattle.std.proofs.Common.{◌≡◌, ℕ, ◌+◌, ◌*◌, ◌/◌, ◌%◌, ◌^◌, ◌<◌, ◌≤◌, Bool, true, false, List, [], ◌∷◌, Some, refl, sym, ap, ◌∙◌, inl, inr, arith, subst}
+use Rattle.std.proofs.Common.{◌≡◌, ℕ, ◌+◌, ◌*◌, ◌/◌, ◌%◌, ◌^◌, ◌≤◌, Bool, true, false, List, [], ◌∷◌, Some, refl, sym, ap, ◌∙◌, inl, inr, arith, subst}
 use Rattle.std.specs.Prelude.{ℤ, pos, ◌==◌, ◌||◌, ◌&&◌, ◌⊎◌, not, map, find, option_map, FitsSigned}
 use Rattle.std.specs.Int.{w32, cast_unsigned, cast_signed}
 use Rattle.std.specs.Ordering.{int_eq}
 use Rattle.std.specs.Cmp.{signed_Decides}
 use Rattle.std.specs.List.{list_any, AllByRecursion}
 use Rattle.std.proofs.lemmas.Bool.Decides.{nat_tests}
-use Rattle.std.proofs.lemmas.Int.{to_z-of_z, ints}
+use Rattle.std.proofs.lemmas.Int.{to_z-of_z}
 use Rattle.std.proofs.lemmas.Bool.{not-false}
 use Rattle.insn.specs.declared.instruction.Source.TheVariants.{Reg, Imm}
 use Rattle.insn.specs.declared.instruction.Operation.{Operation}
@@ -27,7 +27,7 @@ use Rattle.insn.specs.Encoding.{slot, slots, HasEncoding, alu_class, jump_class,
 use Rattle.opcodes.specs.Table.{Row, table, uses_of, is_among}
 use Rattle.insn.specs.Refusal.{is_wide, is_bad_half}
 use Rattle.insn.specs.Decoded.{wide_form}
-use Rattle.insn.proofs.Slots.{FieldsFit}
+use Rattle.insn.proofs.Slots.{FieldsFit, word_small}
 use Rattle.insn.proofs.Rows.{or_left, or_right, FitsUse, FollowsUses, Clean}
 
 -- one slot that an instruction spells
@@ -422,9 +422,6 @@ wide_slots f g src low high o s z l half h =
     let first = same_slot f 0x18 f.dst src (pos 0) low (sym o) refl s (sym z) l in
     let second = same_slot g 0 0 0 (pos 0) high half.opcode half.dst half.src half.offset h in
     λ i. first i ∷ second i ∷ []
-
-word_small : (z : ℤ) → FitsSigned w32 z → cast_unsigned w32 z < 2 ^ 32
-word_small z h = omega (arith, ints)
 
 low_of : (low high : ℤ) → FitsSigned w32 low → FitsSigned w32 high → low_imm (cast_unsigned w32 high * 2 ^ 32 + cast_unsigned w32 low) ≡ low
 low_of low high h k =

@@ -65,7 +65,7 @@ pub all_push : (p : List Form) (i : Form) (r : Answer) → with_all p (with_firs
 all_push [] i r = refl
 all_push (j ∷ p) i r = ap (with_first j) (all_push p i r)
 
-size_more : (i : Form) (p : List Form) → size (i ∷ p) ≡ slot_count i + size p
+pub size_more : (i : Form) (p : List Form) → size (i ∷ p) ≡ slot_count i + size p
 size_more i p = length-append (slot_contents i) (layout p)
 
 pub steps : (p : List Form) (rest : List Fields) (at : ℕ) → AllByRecursion HasEncoding p → program_from at false (program_slots p ++ rest) ≡ with_all p (program_from (at + size p) false rest)

@@ -84,7 +84,7 @@ half_small : (z : ℤ) → FitsSigned w16 z → cast_unsigned w16 z < 2 ^ 16
 half_small (pos n) h = let m = h.sfits in omega arith
 half_small (negsuc n) h = omega arith
 
-word_small : (z : ℤ) → FitsSigned w32 z → cast_unsigned w32 z < 2 ^ 32
+pub word_small : (z : ℤ) → FitsSigned w32 z → cast_unsigned w32 z < 2 ^ 32
 word_small (pos n) h = let m = h.sfits in omega arith
 word_small (negsuc n) h = omega arith
 

@@ -1,7 +1,7 @@
 -- A program that is installed behind the others.
 use Rattle.std.proofs.Common.{◌≡◌, ℕ, zero, suc, ◌+◌, ◌*◌, ◌<◌, ◌≤◌, List, [], ◌∷◌, ◌++◌, length, take, get_or, true, Option, Some, None, Result, Ok, Err, refl, sym, ap, ap₂, ◌∙◌, arith, subst}
 use Rattle.std.proofs.Math.Seq.{take-suc}
-use Rattle.std.proofs.lemmas.Bool.{le-leb, leb-true}
+use Rattle.std.proofs.lemmas.Bool.{le-leb, leb-true, and_parts}
 use Rattle.std.specs.Prelude.{◌↔◌, ◌&&◌, nat_le, replicate, slice_set}
 use Rattle.std.specs.List.{All, AllByRecursion}
 use Rattle.std.proofs.lemmas.List.{length-append, length-map, length-set, length-take-le, map-append, take_more_set}
@@ -21,7 +21,7 @@ use Rattle.verifier.specs.Signature.{signature}
 use Rattle.verifier.specs.Typing.{IsTypable}
 use Rattle.verifier.specs.Verdict.{verdict}
 use Rattle.verifier.specs.Accepted.{AcceptedView, Checked, checked, checked_in, IsAccepted}
-use Rattle.verifier.proofs.Export.{accepts, both_true}
+use Rattle.verifier.proofs.Export.{accepts}
 use Rattle.loader.specs.declared.installed.TheConstants.{MOST_LONG, MOST_SPARE}
 use Rattle.loader.specs.Installed.{AreRooms, InstalledView, IsInstalled, IsShort, accepted_program, all_checked, are_short, first_rooms, installed_program, is_short, most_argument, most_bytes, unless_unsafe, with_installed}
 
@@ -163,7 +163,7 @@ pub short_iff : (long : ℕ) (rooms : List AcceptedView) → (are_short long roo
 short_iff long rooms = (holds rooms, passes rooms)
   where
     one : (c : Checked) → is_short long c ≡ true → IsShort long c
-    one c e = let both = both_true (nat_le (8 * size c.program) (most_bytes long)) (nat_le c.arg_len (most_argument long)) e in
+    one c e = let both = and_parts (nat_le (8 * size c.program) (most_bytes long)) (nat_le c.arg_len (most_argument long)) e in
         record { slots = leb-true (8 * size c.program) (most_bytes long) both.0; argument = leb-true c.arg_len (most_argument long) both.1 }
 
     tested : (c : Checked) → IsShort long c → is_short long c ≡ true
@@ -172,7 +172,7 @@ short_iff long rooms = (holds rooms, passes rooms)
     holds : (xs : List AcceptedView) → are_short long xs ≡ true → All (IsShort long) (all_checked xs)
     holds [] e = All-nil (IsShort long)
     holds (x ∷ xs) e =
-        let both = both_true (is_short long (checked_in x)) (are_short long xs) e in
+        let both = and_parts (is_short long (checked_in x)) (are_short long xs) e in
         All-cons (IsShort long) (checked_in x) (all_checked xs) (one (checked_in x) both.0) (holds xs both.1)
 
     passes : (xs : List AcceptedView) → All (IsShort long) (all_checked xs) → are_short long xs ≡ true

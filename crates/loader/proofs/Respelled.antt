@@ -31,7 +31,7 @@ no_space_from p other (b ∷ t) h =
     let both = and_parts (p b) (list_all p t) h in
     rw (other b both.0, no_space_from p other t both.1) refl
 
-digit_no_space : (b : ℕ) → (leb 48 b && leb b 57) ≡ true → is_space b ≡ false
+pub digit_no_space : (b : ℕ) → (leb 48 b && leb b 57) ≡ true → is_space b ≡ false
 digit_no_space b h = grind (arith, nat_tests)
 
 name_no_space : (b : ℕ) → is_name_byte b ≡ true → is_space b ≡ false

@@ -12,7 +12,7 @@ use Rattle.helpers.specs.declared.numbers.Helper.TheVariants.{Lookup, Update, De
 use Rattle.helpers.specs.Numbers.{helper_of}
 use Rattle.helpers.specs.Helpers.{HelperCall, LookupCall, UpdateCall, DeleteCall, HelperAnswer, answer_of, found, with_entries, changed_unless, update_error, delete_error, update_answer, delete_answer}
 use Rattle.helpers.specs.Laws.{number_of}
-use Rattle.helpers.proofs.Export.{get_set_same, get_set_other, option_map_some}
+use Rattle.helpers.proofs.Export.{get_set_same, option_map_some}
 use Rattle.machine.specs.Conversions.{bytes_of}
 use Rattle.machine.specs.State.{State, numeric, set_register, with_register}
 use Rattle.machine.specs.Memory.{byte_in, read_byte, read_bytes, loaded, is_in_stack, cell_of, set_byte, set_value_byte, with_byte, write_byte, write_bytes, is_cell, with_pointer, write_pointer, pointer_at, fetched}
@@ -21,6 +21,7 @@ use Rattle.machine.specs.Step.{put_at, stored, assigned}
 use Rattle.machine.specs.Isolation.{AgreeIn}
 use Rattle.machine.proofs.Bytes.{and_then_some}
 use Rattle.machine.proofs.Spilled.{fetched_is}
+use Rattle.maps.proofs.Export.{get_set_other}
 
 -- a value that is of a map is of one of such a number
 abbrev pub IsOf : (ℕ → Type 0) → MachineValue → Type 0

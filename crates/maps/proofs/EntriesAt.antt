@@ -98,7 +98,7 @@ keys_once (Some x ∷ ks) zero (suc q) k d a b = let is : x ≡ k = cc in absurd
 keys_once (Some x ∷ ks) (suc p) zero k d a b = let is : x ≡ k = cc in absurd (d.0 p (subst (λ r. slice_get ks p ≡ Some (Some r)) (sym is) a))
 keys_once (Some x ∷ ks) (suc p) (suc q) k d a b = ap suc (keys_once ks p q k d.1 a b)
 
-joined : {A : Type 0} (P : A → Type 0) (xs ys : List A) → AllByRecursion P xs → AllByRecursion P ys → AllByRecursion P (xs ++ ys)
+pub joined : {A : Type 0} (P : A → Type 0) (xs ys : List A) → AllByRecursion P xs → AllByRecursion P ys → AllByRecursion P (xs ++ ys)
 joined P [] ys a b = b
 joined P (x ∷ xs) ys a b = (a.0, joined P xs ys a.1 b)
 

@@ -46,7 +46,7 @@ from_remove c key q v e = by (eq_by_cmp (slice_cmp nat_cmp) q key) (sym (get-rem
     by true h = absurd cc
     by false h = h
 
-some_of : (o : Option (List ℕ)) → is_some o ≡ true → (v : List ℕ) × (o ≡ Some v)
+pub some_of : (o : Option (List ℕ)) → is_some o ≡ true → (v : List ℕ) × (o ≡ Some v)
 some_of None h = absurd cc
 some_of (Some v) h = (v, refl)
 

@@ -8,7 +8,7 @@ use Rattle.std.specs.FinMap.{get-insert, get-remove, same_map, slice_cmp-IsAntis
 use Rattle.std.proofs.lemmas.Bool.{cases_eq}
 use Rattle.maps.specs.MapSets.{placed}
 use Rattle.maps.proofs.Keys.{key_ties, key_same}
-use Rattle.maps.proofs.Placed.{Distinct, get_placed, get_nowhere, found_at}
+use Rattle.maps.proofs.Placed.{Distinct, get_placed, get_nowhere, found_at, same_key}
 
 -- each key stands at one place
 abbrev pub Once : List (Option (List ℕ)) → Type 0
@@ -42,9 +42,6 @@ by_key q k x y z same other = by (eq_by_cmp (slice_cmp nat_cmp) q k) refl
     by true e = same (key_same q k e) ∙ sym (ap (λ b. cond b y z) e)
     by false e = other (λ is. let t = subst (λ r. eq_by_cmp (slice_cmp nat_cmp) q r ≡ true) is (key_ties q) in let no : false ≡ true = sym e ∙ t in cc) ∙ sym (ap (λ b. cond b y z) e)
 
-same_keys : (q k : List ℕ) → Some (Some q) ≡ Some (Some k) → q ≡ k
-same_keys q k e = cc
-
 -- key k is at place p now, with the value there; what stood there was k or nothing
 pub put_placed : (ks ls : List (Option (List ℕ))) (v w : ℕ → List ℕ) (p : ℕ) (k : List ℕ) → Distinct ks → Distinct ls → slice_get ls p ≡ Some (Some k) → ((q : List ℕ) → q ≢ k → slice_get ks p ≢ Some (Some q))
     → ((i : ℕ) → i ≢ p → slice_get ls i ≡ slice_get ks i) → ((i : ℕ) → i ≢ p → w i ≡ v i) → placed ls w 0 ≡ finite_map.insert (placed ks v 0) k (w p)
@@ -55,7 +52,7 @@ put_placed ks ls v w p k d e here was others values =
     (λ ne. moved ks ls v w q d e
     (λ i at. let other : i ≢ p = λ same. was q ne (ap (slice_get ks) (sym same) ∙ at) in (i, others i other ∙ at, values i other))
     (λ none r at. elim (cases_eq r p) [
-      | inl same ↦ ne (same_keys q k (sym at ∙ (ap (slice_get ls) same ∙ here)))
+      | inl same ↦ ne (same_key q k (sym at ∙ (ap (slice_get ls) same ∙ here)))
       | inr other ↦ none r (sym (others r other) ∙ at)
     ]))
     ∙ sym (get-insert nat_list_cmp_total (placed ks v 0) k (w p) q))
@@ -79,7 +76,7 @@ drop_placed ks ls v w a f k o e was free moves others value values =
     (λ is. ap (finite_map.get (placed ls w 0)) is ∙ get_nowhere ls w 0 k gone)
     (λ ne. moved ks ls v w q d e
     (λ i at.
-    let na : i ≢ a = λ same. ne (same_keys q k (sym at ∙ (ap (slice_get ks) same ∙ was))) in
+    let na : i ≢ a = λ same. ne (same_key q k (sym at ∙ (ap (slice_get ks) same ∙ was))) in
     elim (cases_eq i f) [
       | inl same ↦
           let af : a ≢ f = λ x. na (same ∙ sym x) in

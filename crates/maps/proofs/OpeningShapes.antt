@@ -1,5 +1,5 @@
 -- Maps as they are opened have their shapes.
-use Rattle.std.proofs.Common.{◌≡◌, ℕ, zero, suc, ◌+◌, ◌≤◌, true, List, [], ◌∷◌, length, Option, Some, None, refl, sym, ap, ◌∙◌, subst, arith}
+use Rattle.std.proofs.Common.{◌≡◌, ℕ, zero, suc, ◌+◌, ◌≤◌, List, [], ◌∷◌, length, Some, None, refl, sym, ap, ◌∙◌, subst, arith}
 use Rattle.std.specs.Prelude.{replicate, is_some, All}
 use Rattle.std.specs.FinMap as finite_map
 use Rattle.maps.specs.declared.shapes.Shape.{Shape}
@@ -8,10 +8,7 @@ use Rattle.maps.specs.Shapes.{IsShapeSupported, AreShapesSupported}
 use Rattle.maps.specs.Maps.{AreBytes, IsMapState, AreMaps, HasShapes, index_key, shapes_of}
 use Rattle.maps.specs.MapSets.{index_keys, opening_map, opening_maps, placed}
 use Rattle.maps.proofs.Placed.{get_placed, found_at, index_at, index_stands, index_distinct, none_free, len_hash}
-
-some_of : (o : Option (List ℕ)) → is_some o ≡ true → (x : List ℕ) × (o ≡ Some x)
-some_of None h = absurd cc
-some_of (Some x) h = (x, refl)
+use Rattle.maps.proofs.Kept.{some_of}
 
 zeros : (n : ℕ) → (length {A = ℕ} (replicate n 0) ≡ n) × AreBytes (replicate n 0)
 zeros zero = (refl, tt)

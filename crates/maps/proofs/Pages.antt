@@ -69,12 +69,12 @@ pages_join s from place entries more next a b =
 
 -- ---- all pages
 
-in_front : {A : Type 0} (xs ys : List A) (i : ℕ) (x : A) → slice_get xs i ≡ Some x → slice_get (xs ++ ys) i ≡ Some x
+pub in_front : {A : Type 0} (xs ys : List A) (i : ℕ) (x : A) → slice_get xs i ≡ Some x → slice_get (xs ++ ys) i ≡ Some x
 in_front [] ys i x e = absurd cc
 in_front (z ∷ xs) ys zero x e = e
 in_front (z ∷ xs) ys (suc i) x e = in_front xs ys i x e
 
-at_end : {A : Type 0} (xs : List A) (x : A) → slice_get (xs ++ x ∷ []) (length xs) ≡ Some x
+pub at_end : {A : Type 0} (xs : List A) (x : A) → slice_get (xs ++ x ∷ []) (length xs) ≡ Some x
 at_end [] x = refl
 at_end (z ∷ xs) x = at_end xs x
 

@@ -18,7 +18,7 @@ Distinct [] = Unit {0}
 Distinct (None ∷ ks) = Distinct ks
 Distinct (Some k ∷ ks) = ((p : ℕ) → slice_get ks p ≢ Some (Some k)) × Distinct ks
 
-same_key : (q k : List ℕ) → Some (Some q) ≡ Some (Some k) → q ≡ k
+pub same_key : (q k : List ℕ) → Some (Some q) ≡ Some (Some k) → q ≡ k
 same_key q k e = cc
 
 -- ---- the value at a key

@@ -71,19 +71,19 @@ room_for c m t key at room = λ none.
     let many = len_placed (keys_at t.shape t.index) (value_in (value_size t.shape) t.block.items) 0 (distinct t.shape t.index at.ok.entries.1) in
     (has.0, subst (λ n. n < entry_count t.shape) many has.1)
 
-get_set_same : {A : Type 0} (xs : List A) (i : ℕ) (y : A) → i < length xs → slice_get (slice_set xs i y) i ≡ Some y
+pub get_set_same : {A : Type 0} (xs : List A) (i : ℕ) (y : A) → i < length xs → slice_get (slice_set xs i y) i ≡ Some y
 get_set_same [] i y h = absurd (omega arith)
 get_set_same (x ∷ xs) zero y h = refl
 get_set_same (x ∷ xs) (suc i) y h = get_set_same xs i y (omega arith)
 
-get_set_other : {A : Type 0} (xs : List A) (i j : ℕ) (y : A) → j ≢ i → slice_get (slice_set xs i y) j ≡ slice_get xs j
+pub get_set_other : {A : Type 0} (xs : List A) (i j : ℕ) (y : A) → j ≢ i → slice_get (slice_set xs i y) j ≡ slice_get xs j
 get_set_other [] i j y ne = refl
 get_set_other (x ∷ xs) zero zero y ne = absurd (ne refl)
 get_set_other (x ∷ xs) zero (suc j) y ne = refl
 get_set_other (x ∷ xs) (suc i) zero y ne = refl
 get_set_other (x ∷ xs) (suc i) (suc j) y ne = get_set_other xs i j y (λ e. ne (ap suc e))
 
-length_set : {A : Type 0} (xs : List A) (i : ℕ) (y : A) → length (slice_set xs i y) ≡ length xs
+pub length_set : {A : Type 0} (xs : List A) (i : ℕ) (y : A) → length (slice_set xs i y) ≡ length xs
 length_set [] i y = refl
 length_set (x ∷ xs) zero y = refl
 length_set (x ∷ xs) (suc i) y = ap suc (length_set xs i y)

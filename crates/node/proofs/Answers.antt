@@ -1,5 +1,5 @@
 -- The loop that sets the answers of a batch.
-use Rattle.std.proofs.Common.{◌≡◌, ◌≢◌, ℕ, zero, suc, ◌+◌, ◌<◌, ◌≤◌, List, [], ◌∷◌, length, Option, Some, refl, sym, ap, ◌∙◌, ⊎_elim, arith}
+use Rattle.std.proofs.Common.{◌≡◌, ℕ, zero, suc, ◌+◌, ◌<◌, ◌≤◌, List, [], ◌∷◌, length, Option, Some, refl, sym, ap, ◌∙◌, ⊎_elim, arith}
 use Rattle.std.specs.Prelude.{slice_get, slice_set, option_map}
 use Rattle.std.proofs.lemmas.Bool.{cases_lt, cases_eq}
 use Rattle.std.proofs.lemmas.Option.{none-some, same_Some}
@@ -11,19 +11,14 @@ use Rattle.combiner.specs.declared.slots.Reply.TheVariants.{Placed, Ended}
 use Rattle.combiner.specs.Desks.{BatchView}
 use Rattle.replica.specs.Views.{RepliesView}
 use Rattle.node.specs.Answering.{answers_from, answered_batch, HaveRun}
-use Rattle.node.proofs.Keeping.{get_some, same_lists}
+use Rattle.node.proofs.Keeping.{same_lists}
+use Rattle.maps.proofs.Export.{get_set_other}
+use Rattle.machine.proofs.Export.{get_inside}
 
 set_same : {A : Type 0} (xs : List A) (i : ℕ) (u v : A) → slice_get xs i ≡ Some u → slice_get (slice_set xs i v) i ≡ Some v
 set_same [] i u v h = absurd (none-some u h)
 set_same (x ∷ xs) zero u v h = refl
 set_same (x ∷ xs) (suc i) u v h = set_same xs i u v h
-
-set_off : {A : Type 0} (xs : List A) (i j : ℕ) (v : A) → j ≢ i → slice_get (slice_set xs i v) j ≡ slice_get xs j
-set_off [] i j v ne = refl
-set_off (x ∷ xs) zero zero v ne = absurd (ne refl)
-set_off (x ∷ xs) zero (suc j) v ne = refl
-set_off (x ∷ xs) (suc i) zero v ne = refl
-set_off (x ∷ xs) (suc i) (suc j) v ne = set_off xs i j v (λ e. ne (ap suc e))
 
 -- the k-th answer of a batch
 pub answers_placed : (rs : History) (outcomes : List (Option Outcome)) (index k : ℕ) (r : Record) (o : Option Outcome) → slice_get rs k ≡ Some r → slice_get outcomes k ≡ Some o
@@ -56,7 +51,7 @@ answer_set : (kept : RepliesView) (b : BatchView) (k : ℕ) (reply : Reply) → 
     → ((o : Outcome) → k < length kept.outcomes → slice_get kept.outcomes k ≡ Some (Some o) → reply ≡ Placed (kept.first + k) o.reply) → (length kept.outcomes ≤ k → reply ≡ Ended)
     → slice_get (answers_from kept.first kept.outcomes b.records) k ≡ Some (Some reply)
 answer_set kept b k reply lt run placed ended =
-    let r = get_some b.records k lt in
+    let r = get_inside b.records k lt in
     ⊎_elim
     (λ has. let o = run k has lt in answers_placed b.records kept.outcomes kept.first k r.0 (Some o.0) r.1 o.1 ∙ ap (λ y. Some (Some y)) (sym (placed o.0 has o.1)))
     (λ late. answers_ended b.records kept.outcomes kept.first k r.0 r.1 late ∙ ap (λ y. Some (Some y)) (sym (ended late)))
@@ -69,10 +64,10 @@ pub answers_turn : (kept : RepliesView) (b : BatchView) (k : ℕ) (old : List (O
     → (j : ℕ) → j < k + 1 → slice_get (slice_set old k (Some reply)) j ≡ slice_get (answers_from kept.first kept.outcomes b.records) j
 answers_turn kept b k old reply lt long run placed ended before j le =
     ⊎_elim
-    (λ same. let u = get_some old k (omega arith) in
+    (λ same. let u = get_inside old k (omega arith) in
     ap (λ i. slice_get (slice_set old k (Some reply)) i) same ∙ set_same old k u.0 (Some reply) u.1 ∙ sym (answer_set kept b k reply lt run placed ended)
     ∙ ap (λ i. slice_get (answers_from kept.first kept.outcomes b.records) i) (sym same))
-    (λ ne. set_off old k j (Some reply) ne ∙ before j (omega arith))
+    (λ ne. get_set_other old k j (Some reply) ne ∙ before j (omega arith))
     (cases_eq j k)
 
 -- all turns

@@ -12,11 +12,7 @@ use Rattle.replica.specs.Views.{RepliesView}
 use Rattle.replica.specs.Replaying.{KeepsOutcomes}
 use Rattle.replica.proofs.Export.{count_with, at_with, off_with}
 use Rattle.node.specs.Following.{with_effect, outcomes_after}
-
-pub get_some : {A : Type 0} (xs : List A) (i : ℕ) → i < length xs → (v : A) × (slice_get xs i ≡ Some v)
-get_some [] i h = absurd (omega arith)
-get_some (x ∷ xs) zero h = (x, refl)
-get_some (x ∷ xs) (suc i) h = get_some xs i (omega arith)
+use Rattle.machine.proofs.Export.{get_inside}
 
 -- two lists that are equal at each index
 pub same_lists : {A : Type 0} (xs ys : List A) → length xs ≡ length ys → ((k : ℕ) → k < length xs → slice_get xs k ≡ slice_get ys k) → xs ≡ ys
@@ -95,7 +91,7 @@ keeps_after c state index rs old new x =
   where
     there : (k i : ℕ) → i < length rs → k < length old.outcomes → old.first + k ≡ index + i → slice_get new.outcomes k ≡ slice_get (outcomes_after c state index rs old).outcomes k
     there k i inside lt at =
-        let r = get_some rs i inside in
+        let r = get_inside rs i inside in
         let w = x.replayed k i r.0 lt r.1 at in
         w.1 ∙ ap (λ o. Some (Some o)) (w.2).outcome ∙ sym (after_at c state index k i rs old r.0 (w.2).done r.1 at lt (w.2).takes)
 

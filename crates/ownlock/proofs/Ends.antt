@@ -14,7 +14,8 @@ use Rattle.ownlock.specs.Spreading.{HasGaps, StandsIn}
 use Rattle.ownlock.specs.Seats.{At, Opened, HoldsNone}
 use Rattle.ownlock.specs.Knowledge.{AllAgree, Closes, IsOneRun}
 use Rattle.ownlock.specs.Invariant.{LockInvariant, HeldBySome}
-use Rattle.ownlock.proofs.Keeps.{at_below, at_one}
+use Rattle.ownlock.proofs.Keeps.{at_one}
+use Rattle.ownlock.proofs.Fronts.{at_below}
 
 all_at : {A : Type 0} (P : A → Type 0) (xs : List A) → ((i : ℕ) (x : A) → At i x xs → P x) → AllByRecursion P xs
 all_at P [] h = tt

@@ -18,9 +18,9 @@ use Rattle.ownlock.specs.Knowledge.{HeldAgree, Possible, MayPut}
 use Rattle.ownlock.specs.Invariant.{emptied, SessionInvariant, LockInvariant, StepsAs, fronted, freed, settled}
 use Rattle.ownlock.proofs.Spread.{one_slot}
 use Rattle.ownlock.proofs.Run.{continues_self, continues_more, own_here, own_else}
-use Rattle.ownlock.proofs.Keeps.{LockState, LockSeat, SlotHomes, at_below, one_session, one_place, Goes, goes, mine_of, not_of_others, word_there, word_else, tail_else, place_there, slot_there}
+use Rattle.ownlock.proofs.Keeps.{LockState, LockSeat, SlotHomes, one_session, one_place, Goes, goes, mine_of, not_of_others, word_there, word_else, tail_else, place_there, slot_there}
 use Rattle.ownlock.proofs.Without.{was_held, without_same, still_held, not_held, apart_without, part_of}
-use Rattle.ownlock.proofs.Fronts.{bring, brings}
+use Rattle.ownlock.proofs.Fronts.{bring, brings, at_below}
 
 module _ {P N V : Type 0} (R : Rules P N V) (laws : Laws R) (opened : Opened P N) where
   abbrev K : Type 0

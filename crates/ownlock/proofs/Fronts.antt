@@ -13,7 +13,7 @@ use Rattle.ownlock.specs.Invariant.{emptied}
 use Rattle.ownlock.proofs.Spread.{one_slot}
 use Rattle.ownlock.proofs.Without.{Apart, apart_behind}
 
-at_below : {A : Type 0} (l : List A) (i : ℕ) (a : A) → At i a l → i < length l
+pub at_below : {A : Type 0} (l : List A) (i : ℕ) (a : A) → At i a l → i < length l
 at_below [] i a e = absurd (some-ne-none a (sym e))
 at_below (x ∷ xs) zero a e = omega arith
 at_below (x ∷ xs) (suc i) a e = let h = at_below xs i a e in omega arith

@@ -19,10 +19,11 @@ use Rattle.ownlock.specs.Runs.{Puts, Takes}
 use Rattle.ownlock.specs.Seats.{At, Opened, Run, Continues, own_steps, HoldsNone, place_of, without, holding, putting, taking, taken_by, handed}
 use Rattle.ownlock.specs.Knowledge.{HeldAgree, Later, Possible, MayPut, MayHandOn}
 use Rattle.ownlock.specs.Invariant.{SessionInvariant, HeldBySome, KnownBySome, LockInvariant, handed_on, emptied, out_of}
-use Rattle.ownlock.proofs.Keeps.{LockState, LockSeat, at_below, at_one, one_place, place_there}
+use Rattle.ownlock.proofs.Keeps.{LockState, LockSeat, at_one, one_place, place_there}
 use Rattle.ownlock.proofs.Run.{continues_self, continues_more, own_here, own_else}
 use Rattle.ownlock.proofs.Seats.{at_snoc_last, at_behind, none_out, none_joined}
 use Rattle.ownlock.proofs.Without.{was_held, without_same, not_held, apart_without, part_of}
+use Rattle.ownlock.proofs.Fronts.{at_below}
 
 module _ {P N V : Type 0} (R : Rules P N V) (laws : Laws R) (opened : Opened P N) where
   abbrev K : Type 0

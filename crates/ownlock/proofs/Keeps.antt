@@ -16,13 +16,9 @@ use Rattle.ownlock.specs.Seats.{At, Opened, Run, Continues, own_steps}
 use Rattle.ownlock.specs.Invariant.{SessionInvariant, HeldBySome, KnownBySome, LockInvariant, StepsAs}
 use Rattle.ownlock.proofs.Spread.{one_slot}
 use Rattle.ownlock.proofs.Run.{continues_on}
+use Rattle.ownlock.proofs.Fronts.{at_below}
 
 module _ {A : Type 0} where
-  pub at_below : (l : List A) (i : ℕ) (a : A) → At i a l → i < length l
-  at_below [] i a e = absurd (some-ne-none a (sym e))
-  at_below (x ∷ xs) zero a e = omega arith
-  at_below (x ∷ xs) (suc i) a e = let h = at_below xs i a e in omega arith
-
   pub at_only : (x y : A) (i : ℕ) → At i y (x ∷ []) → (i ≡ 0) × (x ≡ y)
   at_only x y zero e = (refl, some-injective x y e)
   at_only x y (suc i) e = absurd (some-ne-none y (sym e))

@@ -17,7 +17,8 @@ use Rattle.ownlock.specs.Knowledge.{AllAgree}
 use Rattle.ownlock.specs.Runs.{Begins}
 use Rattle.ownlock.specs.Invariant.{SessionInvariant, HeldBySome, KnownBySome, LockInvariant, first_of, others_of, out_of, emptied, StepsAs}
 use Rattle.ownlock.proofs.Spread.{long_spread, at_spread, none_between}
-use Rattle.ownlock.proofs.Keeps.{LockState, at_below, at_only, at_one}
+use Rattle.ownlock.proofs.Keeps.{LockState, at_only, at_one}
+use Rattle.ownlock.proofs.Fronts.{at_below}
 
 module _ {A : Type 0} where
   pub at_snoc_last : (l : List A) (a b : A) (j : ℕ) → At j b (l ++ a ∷ []) → At j b l ⊎ ((j ≡ length l) × (a ≡ b))

@@ -13,7 +13,8 @@ use Rattle.ownlock.specs.Seats.{At, Opened, Run, Adds, having_raised, having_rea
 use Rattle.ownlock.specs.Knowledge.{Later, Possible}
 use Rattle.ownlock.specs.Invariant.{SessionInvariant, LockInvariant, done_read, done_raised}
 use Rattle.ownlock.proofs.Run.{continues_self, continues_more, own_here, own_else}
-use Rattle.ownlock.proofs.Keeps.{LockState, LockSeat, at_below, Goes, goes, mine_of, word_there, word_else}
+use Rattle.ownlock.proofs.Keeps.{LockState, LockSeat, Goes, goes, mine_of, word_there, word_else}
+use Rattle.ownlock.proofs.Fronts.{at_below}
 
 module _ {P N V : Type 0} (R : Rules P N V) (laws : Laws R) (opened : Opened P N) where
   abbrev K : Type 0

@@ -1,6 +1,6 @@
 -- What the lines of a good transcript tell, one after the other.
-use Rattle.std.proofs.Common.{◌≡◌, ◌⊎◌, inl, inr, ℕ, Bool, true, false, eqb, ltb, List, [], ◌∷◌, map, length, Option, Some, None, refl, sym, ap, subst, ◌∙◌}
-use Rattle.std.specs.Prelude.{option_map, option_and_then, if◌then◌else◌}
+use Rattle.std.proofs.Common.{◌≡◌, ◌⊎◌, inl, inr, ℕ, eqb, ltb, List, [], ◌∷◌, map, length, Option, Some, None, refl, sym, ap, subst, ◌∙◌}
+use Rattle.std.specs.Prelude.{option_map, option_and_then}
 use Rattle.std.specs.List.{cons_option}
 use Rattle.std.specs.Option.{option_map_or}
 use Rattle.std.proofs.lemmas.Bool.{and_parts, eqb-true}
@@ -19,7 +19,7 @@ use Rattle.scripts.specs.Transcript.{TranscriptMeaning, Comment, Answered, Insta
 use Rattle.engine.specs.declared.replies.Verdict.TheVariants as verdicts
 use Rattle.running.specs.RunAnswer.{with_operation}
 use Rattle.replaying.specs.ReplayAnswer.{Replayed, LineOutcome, Bad, Differs, Agrees, operation_of, install_of, update_agrees, read_agrees, with_update, next_count, compared, told, line_outcome, by_outcome, transcript_answer}
-use Rattle.replaying.proofs.Export.{agreeing_lines_are_runs}
+use Rattle.replaying.proofs.Export.{agreeing_lines_are_runs, has_operation, is_told, if_agrees}
 use Rattle.realtime.specs.declared.ranks.Standing.{Standing}
 use Rattle.realtime.specs.declared.ranks.Standing.TheVariants as stands
 use Rattle.realtime.specs.Judging.{standings_of}
@@ -60,18 +60,6 @@ AllReply c h (a ∷ rest) last = (next : History) × Replies c h a.mode a.op a.a
 
 -- ---- one line
 
-operation_asked : (f : Operation → LineOutcome) (o : Option Operation) (next : Replayed) → option_map_or f o Bad ≡ Agrees next → (op : Operation) × (o ≡ Some op) × (f op ≡ Agrees next)
-operation_asked f None next e = absurd cc
-operation_asked f (Some op) next e = (op, refl, e)
-
-reply_told : (reply : ℕ) (o : Option ℕ) → option_map_or (λ r. eqb r reply) o false ≡ true → o ≡ Some reply
-reply_told reply None e = absurd cc
-reply_told reply (Some r) e = ap Some (eqb-true r reply e)
-
-where_agrees : (b : Bool) (to next : Replayed) → (if b then Agrees to else Differs) ≡ Agrees next → (b ≡ true) × (to ≡ next)
-where_agrees true to next e = (refl, cc)
-where_agrees false to next e = absurd cc
-
 inner : (to next : Replayed) → Agrees to ≡ Agrees next → to ≡ next
 inner to next e = cc
 
@@ -83,14 +71,14 @@ module _ (c : CatalogueView) (at : Replayed) where
   compared_replies : (mode : Mode) (place reply : ℕ) (op : Operation) (next : Replayed) → compared c at mode place reply op ≡ Agrees next
       → Replies c at.history mode op (answer_told mode place reply) next.history
   compared_replies Update place reply op next e =
-      let agrees = where_agrees (update_agrees c at.history op place reply) (with_update at op) next e in
+      let agrees = if_agrees (update_agrees c at.history op place reply) (with_update at op) next e in
       let parts = and_parts (eqb place (length at.history)) _ agrees.0 in
       let room = and_parts (ltb (length at.history) MAX_LIMIT) _ parts.1 in
-      (refl, eqb-true _ _ parts.0, reply_told reply (reply_at store_meaning c at.history (length at.history) op) room.1, ap (λ (r : Replayed). r.history) (sym agrees.1))
+      (refl, eqb-true _ _ parts.0, is_told reply (reply_at store_meaning c at.history (length at.history) op) room.1, ap (λ (r : Replayed). r.history) (sym agrees.1))
   compared_replies Read place reply op next e =
-      let agrees = where_agrees (read_agrees c at.history op place reply) (record at { reads = next_count at.reads }) next e in
+      let agrees = if_agrees (read_agrees c at.history op place reply) (record at { reads = next_count at.reads }) next e in
       let parts = and_parts (eqb place (length at.history)) _ agrees.0 in
-      (refl, eqb-true _ _ parts.0, reply_told reply (read_reply_at store_meaning c at.history (length at.history) op) parts.1, ap (λ (r : Replayed). r.history) (sym agrees.1))
+      (refl, eqb-true _ _ parts.0, is_told reply (read_reply_at store_meaning c at.history (length at.history) op) parts.1, ap (λ (r : Replayed). r.history) (sym agrees.1))
 
   -- what a line tells that agrees, if it is a call, and where that stands
   abbrev Tells : Option TranscriptCall → Option Standing → Replayed → Type 0
@@ -101,7 +89,7 @@ module _ (c : CatalogueView) (at : Replayed) where
   ended_tells : (o : Option Operation) (next : Replayed) → option_map_or (λ op. Agrees (record at { ended = next_count at.ended })) o Bad ≡ Agrees next
       → Tells (option_map (call_told Update (Updated replies.Ended)) o) (Some stands.Ended) next
   ended_tells o next e =
-      let op = operation_asked (λ (op : Operation). Agrees (record at { ended = next_count at.ended })) o next e in
+      let op = has_operation (λ (op : Operation). Agrees (record at { ended = next_count at.ended })) o next e in
       inr (
         call_told Update (Updated replies.Ended) op.0,
         ap (option_map (call_told Update (Updated replies.Ended))) op.1,
@@ -112,7 +100,7 @@ module _ (c : CatalogueView) (at : Replayed) where
   answered_tells : (mode : Mode) (call : KeyedCall) (place reply : ℕ) (next : Replayed) → option_map_or (compared c at mode place reply) (operation_of c mode call) Bad ≡ Agrees next
       → Tells (option_map (call_told mode (answer_told mode place reply)) (operation_of c mode call)) (Some (stands.At mode place)) next
   answered_tells mode call place reply next e =
-      let op = operation_asked (compared c at mode place reply) (operation_of c mode call) next e in
+      let op = has_operation (compared c at mode place reply) (operation_of c mode call) next e in
       inr (
         call_told mode (answer_told mode place reply) op.0,
         ap (option_map (call_told mode (answer_told mode place reply))) op.1,
@@ -125,7 +113,7 @@ module _ (c : CatalogueView) (at : Replayed) where
   meaning_tells (Answered Update call a) next e = answered_tells Update call a.index a.reply next e
   meaning_tells (Answered Read call a) next e = answered_tells Read call a.index a.reply next e
   meaning_tells (Installed new a) next e =
-      let op = operation_asked (compared c at Update a.index a.reply) (install_of c new) next e in
+      let op = has_operation (compared c at Update a.index a.reply) (install_of c new) next e in
       inr (
         call_told Update (answer_told Update a.index a.reply) op.0,
         ap (option_map (call_told Update (answer_told Update a.index a.reply))) op.1,

@@ -6,12 +6,12 @@ use Rattle.std.proofs.lemmas.Option.{none-some, same_Some, slice_get-get_or, get
 use Rattle.std.proofs.lemmas.List.Folds.{Any-from_list_any}
 use Rattle.combiner.specs.declared.slots.Reply.TheVariants as replies
 use Rattle.schedule.specs.Trace.{Updated, Event, Call, Back, Trace}
-use Rattle.schedule.proofs.Export.{get_some}
 use Rattle.realtime.specs.declared.histories.Timed.{Timed}
 use Rattle.realtime.specs.Laws.{ShareNone, AreCalls}
 use Rattle.realtime.specs.Linearizable.{TranscriptCall, IsTraceOf}
 use Rattle.realtime.proofs.OneList.{Made, made, Has, made_at, at_made}
 use Rattle.realtime.proofs.Reading.{uses}
+use Rattle.machine.proofs.Export.{get_inside}
 
 -- ---- a list of what stands at each number
 
@@ -120,7 +120,7 @@ module _ (ranks : List ℕ) (told : List TranscriptCall) (calls : List Timed) (a
       let some = Any-from_list_any (uses x) calls (are.each x (omega (arith, lt, long))) in
       let call : Timed = some.1 in
       let at : slice_get calls some.0 ≡ Some call = slice_get-get_or calls some.0 call some.2 ∙ ap Some some.3 in
-      let a = get_some told some.0 (let within = some.2 in omega (arith, within, even)) in
+      let a = get_inside told some.0 (let within = some.2 in omega (arith, within, even)) in
       let z : Made = record { told = a.0; call = call } in
       (z, (some.0, made_at told calls some.0 a.0 call a.1 at), ⊎_elim (λ e. inl (sym (eqb-true call.begun x e))) (λ e. inr (sym (eqb-true call.ended x e))) (or_cases _ _ some.4))
 

@@ -15,10 +15,11 @@ use Rattle.combiner.specs.declared.slots.Reply.TheVariants as replies
 use Rattle.replica.specs.StoreMeaning.{store_meaning}
 use Rattle.schedule.specs.Trace.{Answer, Updated, ReadBack, Positions}
 use Rattle.schedule.specs.Explains.{count_of}
-use Rattle.schedule.proofs.Export.{get_more, get_new, get_snoc, take_all_front}
+use Rattle.schedule.proofs.Export.{get_snoc, take_all_front}
 use Rattle.realtime.specs.declared.histories.Timed.{Timed}
 use Rattle.realtime.specs.Linearizable.{TranscriptCall, if_placed, operations_of}
 use Rattle.realtime.proofs.Agreeing.{Replies, AllReply}
+use Rattle.maps.proofs.Export.{in_front, at_end}
 
 -- ---- histories of the same operations
 
@@ -124,13 +125,13 @@ no_places c = record {
 owner_more : (h more : History) (zs : List Made) (z : Made) (i p : ℕ) → Owner h zs i p → Owner (h ++ more) (zs ++ z ∷ []) i p
 owner_more h more zs z i p o = record {
   of = o.of;
-  has = ((o.has).0, get_more zs (z ∷ []) (o.has).0 o.of (o.has).1);
+  has = ((o.has).0, in_front zs (z ∷ []) (o.has).0 o.of (o.has).1);
   begun = o.begun;
   reply = o.reply;
   answer = o.answer;
   mode = o.mode;
   entry = o.entry;
-  there = get_more h more i o.entry o.there;
+  there = in_front h more i o.entry o.there;
   author = o.author;
   op = o.op;
 }
@@ -139,7 +140,7 @@ right_more : (c : CatalogueView) (h more : History) (ps ends : Positions) (begun
     → Right c h ps begun mode op a → Right c (h ++ more) (ps ++ ends) begun mode op a
 right_more c h more ps ends begun mode op (Updated (replies.Placed i reply)) long r =
     let l = slice_get_within ps i begun r.1 in
-    (r.0, get_more ps ends i begun r.1, reply_more_at c h more i op (omega (arith, l, long)) ∙ r.2)
+    (r.0, in_front ps ends i begun r.1, reply_more_at c h more i op (omega (arith, l, long)) ∙ r.2)
   where
     reply_more_at : (c : CatalogueView) (h more : History) (k : ℕ) (op : Operation) → k ≤ length h → reply_at store_meaning c (h ++ more) k op ≡ reply_at store_meaning c h k op
     reply_more_at c h more k op le = ap (λ state. option_map (λ (e : Effect StoreState). e.reply) (store_meaning.update c op state)) (ap (after store_meaning c (store_meaning.opening c)) (take-append-le k h more le))
@@ -195,13 +196,13 @@ module _ (c : CatalogueView) (g h : History) (ps : Positions) (zs : List Made) (
           (λ old. owner_more h (entry ∷ []) zs one j p (x.owner j p old))
           (λ new. let at : j ≡ i = new.0 ∙ x.long ∙ sym here in record {
             of = one;
-            has = (length zs, get_new zs one);
+            has = (length zs, at_end zs one);
             begun = new.1;
             reply = reply;
             answer = ap (λ k. Updated (replies.Placed k reply)) (sym at);
             mode = refl;
             entry = entry;
-            there = ap (slice_get (h ++ entry ∷ [])) (at ∙ here) ∙ get_new h entry;
+            there = ap (slice_get (h ++ entry ∷ [])) (at ∙ here) ∙ at_end h entry;
             author = refl;
             op = refl;
           })
@@ -215,7 +216,7 @@ module _ (c : CatalogueView) (g h : History) (ps : Positions) (zs : List Made) (
           (λ old. right_more c h (entry ∷ []) ps (call.begun ∷ []) z.call.begun z.told.mode z.told.op z.told.answer x.long (x.right z (has.0, old)))
           (λ new. subst (λ (y : Made). Right c (h ++ entry ∷ []) (ps ++ call.begun ∷ []) y.call.begun y.told.mode y.told.op y.told.answer) new.1 (
             refl,
-            ap (slice_get (ps ++ call.begun ∷ [])) (here ∙ sym x.long) ∙ get_new ps call.begun,
+            ap (slice_get (ps ++ call.begun ∷ [])) (here ∙ sym x.long) ∙ at_end ps call.begun,
             ap (λ k. reply_at store_meaning c (h ++ entry ∷ []) k op) here ∙ reply_stays ∙ replies_so,
           ))
           (get_snoc zs one has.0 z has.1);

@@ -1,5 +1,5 @@
 -- Each line that a replay finds to agree is what its operation does there.
-use Rattle.std.proofs.Common.{◌≡◌, ◌⊎◌, inl, inr, ℕ, ◌<◌, Bool, true, false, eqb, ltb, List, [], ◌∷◌, length, Option, Some, None, refl, sym, ap, subst, ◌∙◌}
+use Rattle.std.proofs.Common.{◌≡◌, inl, inr, ℕ, Bool, true, false, eqb, ltb, List, [], ◌∷◌, length, Option, Some, None, refl, sym, ap, subst, ◌∙◌}
 use Rattle.std.specs.Prelude.{option_map, if◌then◌else◌}
 use Rattle.std.specs.Option.{option_map_or}
 use Rattle.std.proofs.lemmas.Bool.{and_parts, eqb-true, ltb-true}
@@ -19,14 +19,14 @@ use Rattle.oplog.specs.History.{Effect, ReadEffect, History, reply_at, read_repl
 use Rattle.replica.specs.StoreMeaning.{AreUpdates, is_operation, store_meaning}
 use Rattle.replica.specs.Refusals.{early_refusal, install_refusal}
 use Rattle.replica.specs.declared.refusals.StoreRefused.{StoreRefused}
-use Rattle.replica.proofs.Export.{is_asked, may_install, are_tested}
+use Rattle.replica.proofs.Export.{is_asked, may_install, are_tested, have_effects}
 use Rattle.scripts.specs.Script.{KeyedCall}
 use Rattle.scripts.specs.Transcript.{TranscriptMeaning, Comment, Answered, Installed, Ended, EndedInstall, transcript_line_meaning}
 use Rattle.running.specs.RunAnswer.{state_of, with_operation}
 use Rattle.replaying.specs.ReplayAnswer.{Replayed, LineOutcome, Bad, Differs, Agrees, number_told, unless_barred, operation_of, install_of, update_agrees, read_agrees, with_update, next_count, compared, told, line_outcome, by_outcome, transcript_answer}
 use Rattle.scripts.specs.LineSpelling.{SpellsTold}
 use Rattle.replaying.specs.ReplayLines.{Does, AgreesUpdate, AgreesRead, IsCallOf, AgreesTold, LineAgrees, Replays, AgreeingLinesAreRuns, ReplaysAreRuns}
-use Rattle.running.proofs.Export.{field_are_bytes, grown, has_effects, left_behind}
+use Rattle.running.proofs.Export.{field_are_bytes, grown, left_behind}
 use Rattle.scripts.proofs.Export.{spelled}
 
 -- ---- the bytes of a call
@@ -68,15 +68,15 @@ installable c new op bytes e =
     let free = unbarred (Install new) op (install_refusal c.shapes c.long new) e in
     (free.1, may_install c new free.0 bytes)
 
-has_operation : (f : Operation → LineOutcome) (o : Option Operation) (next : Replayed) → option_map_or f o Bad ≡ Agrees next → (op : Operation) × (o ≡ Some op) × (f op ≡ Agrees next)
+pub has_operation : (f : Operation → LineOutcome) (o : Option Operation) (next : Replayed) → option_map_or f o Bad ≡ Agrees next → (op : Operation) × (o ≡ Some op) × (f op ≡ Agrees next)
 has_operation f None next e = absurd cc
 has_operation f (Some op) next e = (op, refl, e)
 
-is_told : (reply : ℕ) (o : Option ℕ) → option_map_or (λ r. eqb r reply) o false ≡ true → o ≡ Some reply
+pub is_told : (reply : ℕ) (o : Option ℕ) → option_map_or (λ r. eqb r reply) o false ≡ true → o ≡ Some reply
 is_told reply None e = absurd cc
 is_told reply (Some r) e = ap Some (eqb-true r reply e)
 
-if_agrees : (b : Bool) (to next : Replayed) → (if b then Agrees to else Differs) ≡ Agrees next → (b ≡ true) × (to ≡ next)
+pub if_agrees : (b : Bool) (to next : Replayed) → (if b then Agrees to else Differs) ≡ Agrees next → (b ≡ true) × (to ≡ next)
 if_agrees true to next e = (refl, cc)
 if_agrees false to next e = absurd cc
 
@@ -88,11 +88,11 @@ module _ (c : CatalogueView) (is_whole : IsCatalogue c) (at : Replayed) (updates
 
   does : (op : Operation) (reply : ℕ) → is_operation Update c op ≡ true → reply_at store_meaning c h (length h) op ≡ Some reply → Does c h op reply (state_of c (with_operation h op))
   does (Run call) reply is e =
-      let u = (has_effects c is_whole h updates).updates (length h) call is in
+      let u = (have_effects c is_whole h updates).updates (length h) call is in
       let same : Some u.0.reply ≡ Some reply = sym (ap (option_map (λ (d : Effect StoreState). d.reply)) u.2) ∙ e in
       (u.0, u.1, sym (same_Some u.0.reply reply same), ap (λ (s : StoreState). s.maps) (left_behind c is_whole h updates (Run call) _ u.2))
   does (Install new) reply is e =
-      let u = (has_effects c is_whole h updates).installs (length h) new is in
+      let u = (have_effects c is_whole h updates).installs (length h) new is in
       let same = sym (ap (option_map (λ (d : Effect StoreState). d.reply)) u.2) ∙ e in
       (u.0, u.1, sym (same_Some _ reply same), left_behind c is_whole h updates (Install new) _ u.2)
 
@@ -118,7 +118,7 @@ module _ (c : CatalogueView) (is_whole : IsCatalogue c) (at : Replayed) (updates
       let to : Replayed = record at { reads = next_count at.reads } in
       let agrees = if_agrees (read_agrees c h (Run call) point reply) to next e in
       let place = and_parts (eqb point (length h)) _ agrees.0 in
-      let u = (has_effects c is_whole h updates).reads (length h) call is in
+      let u = (have_effects c is_whole h updates).reads (length h) call is in
       let told = is_told reply (read_reply_at store_meaning c h (length h) (Run call)) place.1 in
       let same : Some u.0.reply ≡ Some reply = sym (ap (option_map (λ (d : ReadEffect). d.reply)) u.2) ∙ told in
       let here : AgreesRead c at call point reply to = record {

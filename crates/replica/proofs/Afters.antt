@@ -7,7 +7,7 @@ use Rattle.oplog.specs.History.{Meaning, History, left_by, after}
 use Rattle.replica.specs.StoreMeaning.{store_meaning}
 
 -- after one record more
-after_suc : {C S : Type 0} (E : Meaning C S) (c : C) (state : S) (records : History) (k : ℕ) (r : Record) → slice_get records k ≡ Some r
+pub after_suc : {C S : Type 0} (E : Meaning C S) (c : C) (state : S) (records : History) (k : ℕ) (r : Record) → slice_get records k ≡ Some r
     → after E c state (take (suc k) records) ≡ left_by (E.update c r.op (after E c state (take k records))) (after E c state (take k records))
 after_suc E c state [] k r e = absurd cc
 after_suc E c state (x ∷ xs) zero r e =

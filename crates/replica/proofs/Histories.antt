@@ -31,7 +31,7 @@ from-take (y ∷ ys) (suc n) zero x e = e
 from-take (y ∷ ys) (suc n) (suc i) x e = from-take ys n i x e
 
 -- what holds of all holds of each
-of_each : {X : Type 0} (P : X → Type 0) (xs : List X) (k : ℕ) (x : X) → All P xs → slice_get xs k ≡ Some x → P x
+pub of_each : {X : Type 0} (P : X → Type 0) (xs : List X) (k : ℕ) (x : X) → All P xs → slice_get xs k ≡ Some x → P x
 of_each P xs k x all at = subst P (get_or_from_slice_get xs k x x at) (all k x (slice_get_within xs k x at))
 
 -- ---- programs are for the catalogue's maps, and accepted

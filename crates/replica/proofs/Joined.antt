@@ -1,5 +1,5 @@
 -- Records behind others.
-use Rattle.std.proofs.Common.{◌≡◌, ℕ, zero, suc, ◌+◌, ◌-◌, ◌<◌, ◌≤◌, List, [], ◌∷◌, ◌++◌, length, take, Some, slice_get, refl, sym, ap, ◌∙◌, arith, subst, ◌⊎◌, inl, inr}
+use Rattle.std.proofs.Common.{◌≡◌, ℕ, ◌+◌, ◌-◌, ◌<◌, ◌≤◌, [], ◌∷◌, ◌++◌, length, take, Some, slice_get, refl, sym, ap, ◌∙◌, arith, subst, ◌⊎◌, inl, inr}
 use Rattle.std.proofs.lemmas.Bool.{cases_lt}
 use Rattle.std.proofs.lemmas.List.{length-append, take-append-le}
 use Rattle.std.proofs.Math.Seq.{take-append-add}
@@ -11,15 +11,7 @@ use Rattle.replica.specs.StoreMeaning.{AreUpdates, store_meaning}
 use Rattle.replica.specs.Views.{RepliesView}
 use Rattle.replica.specs.Replaying.{IsAnswered, KeepsOutcomes}
 use Rattle.replica.proofs.Kept.{keeps_none}
-
-get_first : {A : Type 0} (xs ys : List A) (k : ℕ) → k < length xs → slice_get (xs ++ ys) k ≡ slice_get xs k
-get_first [] ys k lt = absurd (omega arith)
-get_first (x ∷ xs) ys zero lt = refl
-get_first (x ∷ xs) ys (suc k) lt = get_first xs ys k (omega arith)
-
-get_later : {A : Type 0} (xs ys : List A) (k : ℕ) → slice_get (xs ++ ys) (length xs + k) ≡ slice_get ys k
-get_later [] ys k = ap (slice_get ys) (let same : 0 + k ≡ k = omega arith in same)
-get_later (x ∷ xs) ys k = ap (slice_get (x ∷ (xs ++ ys))) (let same : suc (length xs) + k ≡ suc (length xs + k) = omega arith in same) ∙ get_later xs ys k
+use Rattle.verifier.proofs.Export.{get_left, behind as get_later}
 
 pub after_joined : (c : CatalogueView) (s : StoreState) (xs ys : History) → after store_meaning c s (xs ++ ys) ≡ after store_meaning c (after store_meaning c s xs) ys
 after_joined c s [] ys = refl
@@ -37,7 +29,7 @@ module _ (c : CatalogueView) (s : StoreState) (begin : ℕ) (xs ys : History) (o
   earlier : (k i : ℕ) (r : Record) → k < length old.outcomes → slice_get (xs ++ ys) i ≡ Some r → old.first + k ≡ begin + i → i < length xs → Answer k i r
   unfolding Answer
   earlier k i r lt is at low =
-      let was = h.replayed k i r lt (sym (get_first xs ys i low) ∙ is) at in
+      let was = h.replayed k i r lt (sym (get_left xs ys i low) ∙ is) at in
       let first = h.first in
       let stays = g.others k (inl (omega (arith, first))) in
       (was.0, stays ∙ was.1, subst (λ rs. IsAnswered c r.op (after store_meaning c s rs) was.0) (sym (take-append-le i xs ys (omega arith))) was.2)

@@ -235,7 +235,7 @@ split limit c is n h g (l ∷ ls) ms updates e = by (λ f updates e. split limit
           few = omega arith;
         }
 
-no_updates : (c : CatalogueView) → AreUpdates c []
+pub no_updates : (c : CatalogueView) → AreUpdates c []
 no_updates c k r e = absurd cc
 
 roomed : (s : StoreState) (z : StateSizes) → s.places ≡ z.places → s.long ≡ z.long → with_room s z ≡ s

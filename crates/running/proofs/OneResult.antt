@@ -36,7 +36,8 @@ use Rattle.running.specs.RunAnswer.{bad_line, behind, line_turn, lines_answer, s
 use Rattle.running.specs.RunLaw.{AreCallsDone, AreOne, BeginsOn, CallsAreUnique, IsGoodRun, IsGoodText, IsHandedBack, IsRefusedCalls, IsRefusedRun, IsRefusedText, IsUnrun, IsWhole, RunIsUnique, dump_after, handed_back, with_signs}
 use Rattle.running.proofs.OneTurn.{reaches, unequal}
 use Rattle.running.proofs.RunsOfLines.{loaded_is_catalogue, opened_is_catalogue}
-use Rattle.running.proofs.RunWrites.{good_answer, no_updates, signed_kept}
+use Rattle.running.proofs.RunWrites.{good_answer, signed_kept}
+use Rattle.running.proofs.CutRuns.{no_updates}
 
 -- ---- what a run begins on
 

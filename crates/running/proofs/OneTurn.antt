@@ -26,13 +26,13 @@ use Rattle.replica.specs.HistoryLaws.{HasNone, IsEffectOf}
 use Rattle.replica.specs.Refusals.{early_refusal, install_refusal, mode_refusal, offered_refusal, place_refusal, program_refusal, reading_refusal}
 use Rattle.replica.specs.declared.refusals.StoreRefused.{StoreRefused}
 use Rattle.replica.specs.declared.refusals.StoreRefused.TheVariants.{UnknownProgram, ArgumentLength, WrongMode, Ended, TooLarge, NotDecoded, NotAccepted}
-use Rattle.replica.proofs.Export.{are_tested, offered_below}
+use Rattle.replica.proofs.Export.{are_tested, offered_below, have_effects}
 use Rattle.scripts.specs.Script.{ProgramCall, Meaning, Comment, Call, InvokeAt, ReadAt, Install, line_meaning}
 use Rattle.running.specs.KeptRun.{lines_left}
 use Rattle.running.specs.RunAnswer.{Turn, asked, bad_line, behind, called, install_text, installed, line_turn, lines_answer, numbered as numbered_turn, performed, read_text, refused, state_of, submitted, taken, update_text, with_operation}
 use Rattle.running.specs.RunLaw.{AreRun, Asks, AsksByName, IsTurn}
 use Rattle.running.specs.RunLines.{HasOtherLength, IsWhy, IsWhyInstall, IsWhyNamed, IsWhySaid}
-use Rattle.running.proofs.RunsOfLines.{has_effects, left_behind, line_turns_are_runs}
+use Rattle.running.proofs.RunsOfLines.{left_behind, line_turns_are_runs}
 use Rattle.running.proofs.Turns.{install_told, performed_by, update_told}
 
 -- ---- tests of numbers
@@ -185,7 +185,7 @@ module _ (limit : ℕ) (c : CatalogueView) (is_whole : IsCatalogue c) (h : Histo
   why_install new ArgumentLength e = install_refuses new ArgumentLength e
   why_install new WrongMode e = install_refuses new WrongMode e
   why_install new Ended (is, most) =
-      let found = (has_effects c is_whole h updates).installs (length h) new ((are_tested Update c (AnInstall new)).1 is) in
+      let found = (have_effects c is_whole h updates).installs (length h) new ((are_tested Update c (AnInstall new)).1 is) in
       install_goes new found.0 is found.1 ∙ full install_told (AnInstall new) most
   why_install new TooLarge e = install_refuses new TooLarge e
   why_install new (NotDecoded why) e = install_refuses new (NotDecoded why) e

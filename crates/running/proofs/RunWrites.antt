@@ -23,7 +23,7 @@ use Rattle.oplog.specs.declared.configuration.TheConstants.{MAX_LIMIT}
 use Rattle.oplog.specs.declared.records.Op.TheVariants.{Run, Install as AnInstall}
 use Rattle.oplog.specs.History.{History}
 use Rattle.replica.specs.StoreMeaning.{AreUpdates}
-use Rattle.replica.proofs.Export.{are_tested}
+use Rattle.replica.proofs.Export.{are_tested, have_effects}
 use Rattle.scripts.specs.Script.{ProgramCall, Meaning, Comment, Call, InvokeAt, ReadAt, Install, line_meaning}
 use Rattle.engine.specs.declared.parted.Destination.{Destination}
 use Rattle.engine.specs.declared.parted.Destination.TheVariants as destinations
@@ -48,7 +48,8 @@ use Rattle.running.specs.RunAnswer.{Turn, behind, bad_line, line_turn, lines_ans
 use Rattle.running.specs.RunLaw.{AreCallsDone, CallsWrite, IsDone, IsRefusedCalls, AreRun, AsksByName, BeginsOn, IsGoodRun, IsGoodText, IsHandedBack, IsRefusedRun, IsRefusedText, IsTurn, IsUnrun, RunWrites, handed_back, with_signs}
 use Rattle.running.specs.RunLines.{CallRuns, CallTurn, IsInstallTurn, IsReadTurn, IsRefusedTurn, IsUpdateTurn, IsWhySaid, LineTurn, MeaningTurn}
 use Rattle.running.specs.Signed.{reply_in, signed_line, signed_text}
-use Rattle.running.proofs.RunsOfLines.{has_effects, left_behind, line_turns_are_runs, loaded_is_catalogue, opened_is_catalogue}
+use Rattle.running.proofs.RunsOfLines.{left_behind, line_turns_are_runs, loaded_is_catalogue, opened_is_catalogue}
+use Rattle.running.proofs.CutRuns.{no_updates}
 
 -- ---- one line
 
@@ -75,7 +76,7 @@ module _ (c : CatalogueView) (is_whole : IsCatalogue c) (h : History) (updates :
 
   updates_maps : (call : TheCall) → AsksByName c line Update call ⊎ (line_meaning line ≡ Some (InvokeAt call)) → IsUpdateTurn MAX_LIMIT c h call turn → Is
   updates_maps call says u =
-      let e = (has_effects c is_whole h updates).updates (length h) call ((are_tested Update c (Run call)).1 u.asked) in
+      let e = (have_effects c is_whole h updates).updates (length h) call ((are_tested Update c (Run call)).1 u.asked) in
       let at : state_of c turn.history ≡ record (state_of c h) { maps = e.0.maps } = ap (state_of c) u.next ∙ left_behind c is_whole h updates (Run call) _ e.2 in
       let maps : e.0.maps ≡ u.done.maps = sym (ap (λ (s : StoreState). s.maps) at) ∙ u.left in
       moved (update_text (length h) u.done.reply u.done.steps) (length h + 1) (record (state_of c h) { maps = u.done.maps }) u.text (grown (Run call) u.next)
@@ -174,9 +175,6 @@ module _ (c : CatalogueView) (is_whole : IsCatalogue c) where
   lines_end (l ∷ ls) n h updates = by_turn n h updates l ls (λ g u. lines_end ls (next_line n) g u) (line_turn MAX_LIMIT c h l) refl
 
 -- ---- what is answered, and the state that is left
-
-pub no_updates : (c : CatalogueView) → AreUpdates c []
-no_updates c k r at = absurd cc
 
 module _ (g : Given) (script : List ℕ) where
   abbrev RunsGood : KeptRun → Type 0

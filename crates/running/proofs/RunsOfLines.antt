@@ -18,7 +18,7 @@ use Rattle.text.specs.Lines.{lines_of, next_line}
 use Rattle.text.specs.Fields.{split_at_space}
 use Rattle.text.specs.Words.{is_name, number_of}
 use Rattle.text.specs.Digits.{good, field_bytes}
-use Rattle.text.proofs.Export.{IsSilent, by_kind_from, steps}
+use Rattle.text.proofs.Export.{IsSilent, by_kind_from, steps, good_from}
 use Rattle.loader.specs.Installed.{installed_program, most_argument, most_bytes}
 use Rattle.loader.specs.declared.installed.InstallRefusal.{InstallRefusal}
 use Rattle.loader.specs.declared.installed.InstallRefusal.TheVariants.{Decode, Verify}
@@ -49,12 +49,9 @@ use Rattle.running.specs.RunAnswer.{Turn, refused, with_operation, read_text, su
 use Rattle.running.specs.RunLines.{CallRuns, IsUpdateTurn, IsReadTurn, IsInstallTurn, IsRefusedTurn, IsWhy, IsWhyNamed, IsWhyInstall, MeaningTurn, LineTurn, ScriptRuns, LineTurnsAreRuns, RunLinesAreRuns, LoadedIsCatalogue, OpenedIsCatalogue}
 use Rattle.engine.proofs.Export.{on_loaded}
 use Rattle.running.proofs.Turns.{after_append, install_told, performed_by, update_told, whole}
+use Rattle.encoding.proofs.Export.{mapped}
 
 -- ---- the bytes of a call
-
-good_from : {E : Type 0} (r : Result (List ℕ) E) (bytes : List ℕ) → good r ≡ Some bytes → r ≡ Ok bytes
-good_from (Ok b) bytes e = cc
-good_from (Err why) bytes e = absurd cc
 
 decoded_bytes : (field bytes : List ℕ) → good (decode_of field) ≡ Some bytes → AreBytes bytes
 decoded_bytes field bytes e = are_bytes bytes (decode_of-ok field bytes (good_from (decode_of field) bytes e)).3
@@ -100,10 +97,6 @@ HasBytes (Call call) = AreBytes call.argument
 HasBytes (InvokeAt call) = AreBytes call.argument
 HasBytes (ReadAt call) = AreBytes call.argument
 HasBytes (Install new) = AreBytes new.bytes
-
-mapped : {A B : Type 0} (f : A → B) (o : Option A) (m : B) → option_map f o ≡ Some m → (x : A) × (o ≡ Some x) × (f x ≡ m)
-mapped f None m e = absurd cc
-mapped f (Some x) m e = (x, refl, same_Some (f x) m e)
 
 word_bytes : (word rest : List ℕ) (m : Meaning) → word_meaning word rest ≡ Some m → HasBytes m
 word_bytes word rest m e = by_word (bytes_eq word (codes "invoke")) (bytes_eq word (codes "read")) (bytes_eq word (codes "install")) e

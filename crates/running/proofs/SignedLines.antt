@@ -1,23 +1,15 @@
 -- The reply that a line of `run` tells.
-use Rattle.std.proofs.Common.{◌≡◌, ℕ, ◌^◌, ◌<◌, true, false, leb, ltb, ◌&&◌, List, [], ◌∷◌, ◌++◌, length, codes, decimal, Option, Some, None, refl, sym, ap, ◌∙◌, append_assoc, arith}
+use Rattle.std.proofs.Common.{◌≡◌, ℕ, ◌^◌, ◌<◌, true, false, ltb, List, [], ◌∷◌, ◌++◌, length, codes, decimal, Option, Some, None, refl, sym, ap, ◌∙◌, append_assoc, arith}
 use Rattle.std.specs.List.{position_or_len}
 use Rattle.std.specs.Option.{option_and_then}
 use Rattle.std.proofs.lemmas.Bool.{le-ltb, and_parts}
-use Rattle.std.proofs.lemmas.Bool.Decides.{nat_tests}
-use Rattle.std.proofs.lemmas.Fmt.{digits_decimal}
 use Rattle.std.proofs.lemmas.List.{append-nil, append_cancel_right}
 use Rattle.text.specs.Fields.{is_space, has_no_space, split_at_space}
 use Rattle.text.specs.Words.{number_of}
-use Rattle.text.proofs.Export.{split_to, own, numerals_are_decimals}
-use Rattle.loader.proofs.Export.{no_space_from}
+use Rattle.text.proofs.Export.{split_to, numerals_are_decimals}
+use Rattle.loader.proofs.Export.{no_space_in_number}
 use Rattle.running.specs.Signed.{first_word, reply_in}
 use Rattle.running.specs.SignedLaws.{Tells, RepliesAreTold}
-
-digit_no_space : (b : ℕ) → (leb 48 b && leb b 57) ≡ true → is_space b ≡ false
-digit_no_space b h = grind (arith, nat_tests)
-
-plain_number : (n : ℕ) → n < 2 ^ 64 → has_no_space (decimal n) ≡ true
-plain_number n lt = no_space_from (λ b. leb 48 b && leb b 57) digit_no_space (decimal n) (digits_decimal own n lt)
 
 -- ---- the first word
 
@@ -57,7 +49,7 @@ module _ (index reply : ℕ) (few : index < 2 ^ 64) (small : reply < 2 ^ 64) (re
   unfolding reply_in
   found call plain first =
       let number : number_of (first_word behind_reply) ≡ Some reply = ap number_of first ∙ (numerals_are_decimals (decimal reply) reply).1 (refl, small) in
-      step _ _ _ _ (split_to call behind_call plain) (step _ _ _ _ (split_to (decimal index) behind_index (plain_number index few)) (step _ _ _ _ (split_to (codes "reply") behind_reply refl) number))
+      step _ _ _ _ (split_to call behind_call plain) (step _ _ _ _ (split_to (decimal index) behind_index (no_space_in_number index few)) (step _ _ _ _ (split_to (codes "reply") behind_reply refl) number))
 
   -- the line feed stands behind all of it
   ended : behind_call ++ codes "\n" ≡ decimal index ++ (codes " reply " ++ (decimal reply ++ (rest ++ codes "\n")))
@@ -71,7 +63,7 @@ module _ (index reply : ℕ) (few : index < 2 ^ 64) (small : reply < 2 ^ 64) (re
 
 pub replies_are_told : RepliesAreTold
 replies_are_told = record {
-  update = λ index reply steps few small. told index reply few small (codes " steps " ++ decimal steps) (codes "update") refl (before_more (decimal reply) (codes "steps " ++ decimal steps) (plain_number reply small));
-  read = λ index reply steps few small. told index reply few small (codes " steps " ++ decimal steps) (codes "read") refl (before_more (decimal reply) (codes "steps " ++ decimal steps) (plain_number reply small));
-  install = λ index reply few small. told index reply few small [] (codes "install") refl (alone (decimal reply) (plain_number reply small));
+  update = λ index reply steps few small. told index reply few small (codes " steps " ++ decimal steps) (codes "update") refl (before_more (decimal reply) (codes "steps " ++ decimal steps) (no_space_in_number reply small));
+  read = λ index reply steps few small. told index reply few small (codes " steps " ++ decimal steps) (codes "read") refl (before_more (decimal reply) (codes "steps " ++ decimal steps) (no_space_in_number reply small));
+  install = λ index reply few small. told index reply few small [] (codes "install") refl (alone (decimal reply) (no_space_in_number reply small));
 }

@@ -26,10 +26,11 @@ use Rattle.schedule.specs.Worlds.{NodeView, WorldView, own_of}
 use Rattle.schedule.specs.Steps.{Part, Took, with_call_or_back, put_part, part_of, node_of, took, world_of, world_after, trace_after, with_event, session_of_slot, read_at, with_read, read_answer}
 use Rattle.schedule.specs.Stands.{BatchStands, WrittenStands, Stands}
 use Rattle.schedule.specs.Taking.{WorldState, store_of, step_answer, answers_to, TakesPart, Takes, IsOfStore, IsStanding}
-use Rattle.schedule.proofs.Lists.{get_some, set_back}
+use Rattle.schedule.proofs.Lists.{set_back}
 use Rattle.schedule.proofs.Options.{map_gives}
 use Rattle.schedule.proofs.Appends.{take_snoc}
 use Rattle.schedule.proofs.Runs.{step_keeps}
+use Rattle.machine.proofs.Export.{get_inside}
 
 -- ---- a batch that is run
 
@@ -38,12 +39,12 @@ module _ {m : Opening} {g : Log} {node : NodeView} (x : IsOfStore m g node) (b :
   wr = subst (λ y. BatchStands m x.history node.replica node.hand y) is x.stands.batch
 
   pub have_run : HaveRun b.replies b.batch
-  have_run k lt inside = let r = get_some b.batch.records k inside in let a = wr.ahead in let known = wr.known k r.0 lt r.1 (omega arith) in (outcome_of known.0, known.2)
+  have_run k lt inside = let r = get_inside b.batch.records k inside in let a = wr.ahead in let known = wr.known k r.0 lt r.1 (omega arith) in (outcome_of known.0, known.2)
 
 -- each request of it is answered
 pub all_answered : (b : Written) → HaveRun b.replies b.batch → IsAnswered (answered_batch b.replies b.batch)
 all_answered b run k lt =
-    let r = get_some b.batch.records k lt in
+    let r = get_inside b.batch.records k lt in
     ⊎_elim
     (λ has. let o = run k has lt in (Placed (b.replies.first + k) (o.0).reply, answers_placed b.batch.records b.replies.outcomes b.replies.first k r.0 (Some o.0) r.1 o.1))
     (λ late. (Ended, answers_ended b.batch.records b.replies.outcomes b.replies.first k r.0 r.1 late))

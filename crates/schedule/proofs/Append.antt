@@ -18,11 +18,12 @@ use Rattle.schedule.specs.declared.parts.Opening.{Opening}
 use Rattle.schedule.specs.Worlds.{NodeView, WorldView, own_of}
 use Rattle.schedule.specs.Steps.{Part, inner, seen_of, put_seen}
 use Rattle.schedule.specs.Stands.{StageStands, NodeStands, LogStands, ReplicaStands, BatchStands, Stands, batch_in}
-use Rattle.schedule.proofs.Lists.{get_more, get_drop, get_taken, set_length}
+use Rattle.schedule.proofs.Lists.{get_drop, get_taken}
 use Rattle.schedule.proofs.Options.{cond_gives, claimed_is}
 use Rattle.schedule.proofs.Explained.{after_more, effect_more}
 use Rattle.schedule.proofs.Calls.{nodes_put, Kept}
 use Rattle.schedule.proofs.Appends.{Grown, grown_to, grown_length, placed, none_kept}
+use Rattle.maps.proofs.Export.{length_set, in_front}
 
 get_right : {A : Type 0} (xs ys : List A) (j : ℕ) (v : A) → slice_get ys j ≡ Some v → slice_get (xs ++ ys) (length xs + j) ≡ Some v
 get_right [] ys j v g = let i : j ≡ 0 + j = omega arith in subst (λ k. slice_get ys k ≡ Some v) i g
@@ -43,7 +44,7 @@ replica_grow m h rs replica hand x = record {
   tail = (let l = x.tail in let e = length-append h rs in omega arith);
   state = x.state ∙ sym (after_more m h rs replica.tail x.tail);
   begins = x.begins;
-  next = λ j f g. get_more h rs (replica.tail + j) f (x.next j f g);
+  next = λ j f g. in_front h rs (replica.tail + j) f (x.next j f g);
   window = x.window;
   long = x.long;
 }
@@ -52,7 +53,7 @@ batch_grow : (m : Opening) (h rs : History) (replica : ReplicaView) (hand : Hand
 batch_grow m h rs replica hand Absent l x = x
 batch_grow m h rs replica hand (Held b) l x = x
 batch_grow m h rs replica hand (InLog b) l x = record {
-  placed = λ k r lt g. get_more h rs (b.replies.first + k) r (x.placed k r lt g);
+  placed = λ k r lt g. in_front h rs (b.replies.first + k) r (x.placed k r lt g);
   ahead = x.ahead;
   known = λ k r lt g below. let e = x.known k r lt g below in (e.0, effect_more m h rs (b.replies.first + k) r.op (omega arith) ∙ e.1, e.2);
   ended = x.ended;
@@ -81,7 +82,7 @@ module _ (m : Opening) (w : WorldView) (h : History) (positions : Positions) (t 
   log_then : LogStands m (grown b.records w.log) all_of
   log_then = record {
     ends = (let e = x.log.ends in let a = length-append w.log.records (take (room_for b.records w.log) b.records) in let c = length-append h (take (room_for b.records w.log) b.records) in omega arith);
-    kept = λ j f g. ⊎_elim (λ old. get_more h (take (room_for b.records w.log) b.records) (w.log.base + j) f (x.log.kept j f old))
+    kept = λ j f g. ⊎_elim (λ old. in_front h (take (room_for b.records w.log) b.records) (w.log.base + j) f (x.log.kept j f old))
         (λ (i, at, new). let e = x.log.ends in let same : length h + i ≡ w.log.base + j = omega arith in
         subst (λ k. slice_get all_of k ≡ Some f) same (get_right h (take (room_for b.records w.log) b.records) i f new))
         (get_append w.log.records (take (room_for b.records w.log) b.records) j f g);
@@ -154,7 +155,7 @@ module _ (m : Opening) (w : WorldView) (h : History) (positions : Positions) (t 
       catalogue = x.catalogue;
       explains = end.explains;
       log = log_then;
-      count = set_length w.nodes n appended ∙ x.count;
+      count = length_set w.nodes n appended ∙ x.count;
       callers = x.callers;
       stamps = x.stamps;
       nodes = nodes_put (λ k y. NodeStands m w.log.done all_of (end.positions_then) t k y) w.nodes n appended other_then node_then;

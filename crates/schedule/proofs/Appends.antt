@@ -3,6 +3,7 @@ use Rattle.std.proofs.Common.{◌≡◌, ◌≢◌, ℕ, zero, suc, ◌+◌, ◌
 use Rattle.std.specs.Prelude.{slice_get, nat_eq, nat_lt, replicate, if◌then◌else◌, option_map}
 use Rattle.std.proofs.lemmas.Option.{none-some, same_Some, slice_get-map, slice_get_within}
 use Rattle.std.proofs.lemmas.Bool.{cases_lt, cases_eq, lt-ltb, le-ltb, ne_eqb, eq-eqb}
+use Rattle.std.proofs.lemmas.List.{append-nil}
 use Rattle.verifier.specs.declared.refusal.Mode.TheVariants.{Update}
 use Rattle.machine.specs.declared.running.Outcome.{Outcome}
 use Rattle.oplog.specs.declared.records.Record.{Record}
@@ -20,11 +21,12 @@ use Rattle.schedule.specs.declared.parts.Opening.{Opening}
 use Rattle.schedule.specs.Explains.{Explains, count_of}
 use Rattle.schedule.specs.Worlds.{NodeView, WorldView}
 use Rattle.schedule.specs.Stands.{OpenAt, StageStands, Stands, batch_in, index_in}
-use Rattle.schedule.proofs.Lists.{get_new, get_some}
 use Rattle.schedule.proofs.Slots.{claimed_get, claimed_once}
 use Rattle.schedule.proofs.Explained.{explains_entry}
 use Rattle.schedule.proofs.Seats.{other_slot, other_node, stage_entry, stage_batch, count_self}
 use Rattle.schedule.proofs.Calls.{session_is}
+use Rattle.maps.proofs.Export.{at_end}
+use Rattle.machine.proofs.Export.{get_inside}
 
 -- ---- lists
 
@@ -39,10 +41,6 @@ take_snoc n [] v g = absurd (none-some v g)
 take_snoc zero (x ∷ []) v g = ap (λ y. y ∷ []) (same_Some x v g)
 take_snoc zero (x ∷ (y ∷ xs)) v g = ap (λ z. z ∷ []) (same_Some x v g)
 take_snoc (suc n) (x ∷ xs) v g = ap (λ ys. x ∷ ys) (take_snoc n xs v g)
-
-append_nil : {A : Type 0} (xs : List A) → xs ++ [] ≡ xs
-append_nil [] = refl
-append_nil (x ∷ xs) = ap (λ ys. x ∷ ys) (append_nil xs)
 
 take_zero : {A : Type 0} (xs : List A) → take 0 xs ≡ []
 take_zero [] = refl
@@ -128,11 +126,11 @@ module _ (m : Opening) (w : WorldView) (h : History) (positions : Positions) (t 
 
   grown_none : Grown m w h positions t n b 0
   grown_none =
-      let e : h ++ take 0 b.records ≡ h = ap (λ rs. h ++ rs) (take_zero b.records) ∙ append_nil h in
+      let e : h ++ take 0 b.records ≡ h = ap (λ rs. h ++ rs) (take_zero b.records) ∙ append-nil h in
       record {
         positions_then = positions;
         more = [];
-        begins = sym (append_nil positions);
+        begins = sym (append-nil positions);
         explains = subst (λ g. Explains m g positions t) (sym e) x.explains;
         seats = subst (λ g. AllSeats m w.log.done g positions t (batches n (length h) b 0) w.nodes) (sym e)
             (λ k other g s y read there begun. ⊎_elim
@@ -177,7 +175,7 @@ module _ (m : Opening) (w : WorldView) (h : History) (positions : Positions) (t 
       let c = claimed_get node.desk.slots (first_author node.desk) j r.author (author_at j r at_j) in
       let by : r.author ≡ session m.config n c.0 = c.2 ∙ session_is m n node c.0 o.desk in
       let inside = slot_in n node c.0 c.1 at_n c.3 in
-      let begun : (read : Option BegunRead) × (slice_get node.reads c.0 ≡ Some read) = get_some node.reads c.0 (let d = o.desk.reads in omega arith) in
+      let begun : (read : Option BegunRead) × (slice_get node.reads c.0 ≡ Some read) = get_inside node.reads c.0 (let d = o.desk.reads in omega arith) in
       let st = claimed_waits m w.log.done (h ++ take j b.records) y.positions_then t (session m.config n c.0) (placed (length h) b j) (c.1).count begun.0
       (subst (λ v. StageStands m w.log.done (h ++ take j b.records) y.positions_then t (session m.config n c.0) (placed (length h) b j) (c.1).count v begun.0) c.4 (own_seat j y c.0 c.1 begun.0 c.3 begun.1)) in
       let q = st.1 in
@@ -215,7 +213,7 @@ module _ (m : Opening) (w : WorldView) (h : History) (positions : Positions) (t 
       let opened : OpenAt m ((h ++ take j b.records) ++ r ∷ []) (y.positions_then ++ c ∷ []) t r.author (mine.slot).count Update r.op (Some (length h + j)) c = record {
         is_open = free.is_open;
         may = free.may;
-        has = subst (λ i. slice_get (y.positions_then ++ c ∷ []) i ≡ Some c) index (get_new y.positions_then c);
+        has = subst (λ i. slice_get (y.positions_then ++ c ∷ []) i ≡ Some c) index (at_end y.positions_then c);
         counts = count_self (h ++ take j b.records) r ∙ (let f = free.counts in omega arith);
       } in
       let opened2 = subst (λ v. OpenAt m ((h ++ take j b.records) ++ r ∷ []) (y.positions_then ++ c ∷ []) t r.author (mine.slot).count Update r.op v c) (sym (has_index (length h) b j)) opened in
@@ -274,4 +272,4 @@ module _ (m : Opening) (w : WorldView) (h : History) (positions : Positions) (t 
 
   pub grown_to : (j : ℕ) → j ≤ length b.records → length h + j ≤ m.config.limit → Grown m w h positions t n b j
   grown_to zero l r = grown_none
-  grown_to (suc j) l r = let q = get_some b.records j (omega arith) in grown_next j q.0 q.1 (omega arith) (grown_to j (omega arith) (omega arith))
+  grown_to (suc j) l r = let q = get_inside b.records j (omega arith) in grown_next j q.0 q.1 (omega arith) (grown_to j (omega arith) (omega arith))

@@ -3,6 +3,7 @@ use Rattle.std.proofs.Common.{◌≡◌, ◌≢◌, ℕ, suc, ◌+◌, ◌*◌, 
 use Rattle.std.specs.Prelude.{slice_get, slice_set, ◌&&◌, nat_le, option_map}
 use Rattle.std.proofs.lemmas.Option.{same_Some, slice_get_within}
 use Rattle.std.proofs.lemmas.Bool.{cases_eq, and_parts, leb-true}
+use Rattle.std.proofs.lemmas.List.{append-nil}
 use Rattle.verifier.specs.declared.refusal.Mode.{Mode}
 use Rattle.verifier.specs.declared.refusal.Mode.TheVariants.{Update, Read}
 use Rattle.oplog.specs.Calls.{Call as ProgramCall}
@@ -26,12 +27,14 @@ use Rattle.schedule.specs.Explains.{count_of}
 use Rattle.schedule.specs.Worlds.{NodeView, WorldView}
 use Rattle.schedule.specs.Steps.{Part, with_call_or_back, put_part, with_event, session_of_slot, is_idle, is_free, no_read, post, collect, read_begin, read_answer, with_read}
 use Rattle.schedule.specs.Stands.{OpenAt, ReplyStands, StageStands, DeskStands, NodeStands, LogStands, Stands}
-use Rattle.schedule.proofs.Lists.{get_snoc, get_some, get_set, set_same, set_length}
-use Rattle.schedule.proofs.Options.{cond_gives, map_gives, then_gives, free_is, no_read_is, read_is, posted_is, collected_is}
+use Rattle.schedule.proofs.Lists.{get_snoc, get_set, set_same}
+use Rattle.schedule.proofs.Options.{cond_gives, map_gives, free_is, no_read_is, read_is, posted_is, collected_is}
 use Rattle.schedule.proofs.Slots.{claimed_same}
 use Rattle.schedule.proofs.Traces.{open_new, open_once, idle_back, op_in, stamp_less}
 use Rattle.schedule.proofs.Explained.{Fine, Right, explains_event, in_trace}
 use Rattle.schedule.proofs.Seats.{other_slot, other_node, stage_event}
+use Rattle.maps.proofs.Export.{length_set}
+use Rattle.machine.proofs.Export.{get_inside, and_then_some}
 
 -- each node but one is as before
 pub nodes_put : (P : ℕ → NodeView → Type 0) (nodes : List NodeView) (n : ℕ) (node : NodeView) → ((k : ℕ) (old : NodeView) → k ≢ n → slice_get nodes k ≡ Some old → P k old) → P n node
@@ -43,12 +46,8 @@ nodes_put P nodes n node others this k new g =
 abbrev pub Kept : Opening → WorldView → History → Positions → Trace → ℕ → Part → Type 0
 Kept m w h positions t n p = (more : History) × (later : Positions) × Stands m (put_part w n p).world (h ++ more) (positions ++ later) (with_event t p.event)
 
-append_nil : {A : Type 0} (xs : List A) → xs ++ [] ≡ xs
-append_nil [] = refl
-append_nil (x ∷ xs) = ap (λ ys. x ∷ ys) (append_nil xs)
-
 pub same_history : (m : Opening) (w : WorldView) (h : History) (positions : Positions) (t : Trace) → Stands m w h positions t → (more : History) × (later : Positions) × Stands m w (h ++ more) (positions ++ later) t
-same_history m w h positions t x = ([], [], subst (λ g. Stands m w g (positions ++ []) t) (sym (append_nil h)) (subst (λ ps. Stands m w h ps t) (sym (append_nil positions)) x))
+same_history m w h positions t x = ([], [], subst (λ g. Stands m w g (positions ++ []) t) (sym (append-nil h)) (subst (λ ps. Stands m w h ps t) (sym (append-nil positions)) x))
 
 -- ---- the desk
 
@@ -60,7 +59,7 @@ session_is m n node s d = ap (λ k. k * length node.desk.slots + s) d.number ∙
 pub desk_put : (m : Opening) (n : ℕ) (node : NodeView) (s : ℕ) (x y : Slot) → slice_get node.desk.slots s ≡ Some x → is_claimed x.stage ≡ false → is_claimed y.stage ≡ false
     → DeskStands m n node → DeskStands m n (record node { desk = with_slot node.desk s y })
 desk_put m n node s x y at before now d =
-    let long : length (slice_set node.desk.slots s y) ≡ length node.desk.slots = set_length node.desk.slots s y in
+    let long : length (slice_set node.desk.slots s y) ≡ length node.desk.slots = length_set node.desk.slots s y in
     record {
       number = d.number;
       slots = long ∙ d.slots;
@@ -71,7 +70,7 @@ desk_put m n node s x y at before now d =
     }
 
 read_put : (m : Opening) (n : ℕ) (node : NodeView) (s : ℕ) (read : Option BegunRead) → DeskStands m n node → DeskStands m n (with_read node s read)
-read_put m n node s read d = record { number = d.number; slots = d.slots; reads = set_length node.reads s read ∙ d.reads; own = d.own; answers = d.answers }
+read_put m n node s read d = record { number = d.number; slots = d.slots; reads = length_set node.reads s read ∙ d.reads; own = d.own; answers = d.answers }
 
 -- ---- an event of one slot
 
@@ -103,7 +102,7 @@ seat_event m w h positions t n s node desk reads e at_n inside by fine early sta
   catalogue = x.catalogue;
   explains = explains_event e x.explains fine;
   log = x.log;
-  count = set_length w.nodes n (seats_of node desk reads) ∙ x.count;
+  count = length_set w.nodes n (seats_of node desk reads) ∙ x.count;
   callers = λ c y mode op g. ⊎_elim (λ old. x.callers c y mode op old)
       (λ new. (n, (s, inside, sym (ap caller new.1) ∙ by, (let l = slice_get_within w.nodes n node at_n in let count = x.count in omega arith))))
       (get_snoc t e c (Call y mode op) g);
@@ -177,7 +176,7 @@ keeps_post m w h positions t n s op node p at_n taken x =
     x)) in
     subst (λ z. Kept m w h positions t n z) d.2 (subst (λ z. Kept m w h positions t n (with_call_or_back (Call (session_of_slot node s) Update op) w.log (record node { desk = z }))) (posted_is s op node.desk d.0 free.0 free.1 d.1) made)
 
-right_open : (m : Opening) (h : History) (positions : Positions) (t : Trace) (x : ℕ) (mode : Mode) (op : Operation) (c : ℕ) (a : Answer) → IsOpen t x mode op c → Right m h positions t op c a → (k : Mode) (o : Operation) (d : ℕ) → IsOpen t x k o d → Right m h positions t o d a
+pub right_open : (m : Opening) (h : History) (positions : Positions) (t : Trace) (x : ℕ) (mode : Mode) (op : Operation) (c : ℕ) (a : Answer) → IsOpen t x mode op c → Right m h positions t op c a → (k : Mode) (o : Operation) (d : ℕ) → IsOpen t x k o d → Right m h positions t o d a
 right_open m h positions t x mode op c a open_c right k o d open_d =
     let w = open_once open_c open_d in
     let same : op ≡ o = ap (op_in op) w.1 in
@@ -213,7 +212,7 @@ keeps_collect m w h positions t n s node p at_n taken x =
     let reply : Reply = d.0.reply in
     let was = collected_is s node.desk d.0 d.1 in
     let y : Slot = slot Empty (counted reply (was.0).count) in
-    let begun : (read : Option BegunRead) × (slice_get node.reads s ≡ Some read) = get_some node.reads s (let a = slot_in m n s node was.0 o.desk was.1 in let b = o.desk.reads in omega arith) in
+    let begun : (read : Option BegunRead) × (slice_get node.reads s ≡ Some read) = get_inside node.reads s (let a = slot_in m n s node was.0 o.desk was.1 in let b = o.desk.reads in omega arith) in
     let old = answer_waits m w.log.done h positions t (session m.config n s) node.batch (was.0).count reply begun.0 (stage_at m w.log.done h positions t n s node was.0 (Answered reply) begun.0 o was.1 begun.1 was.2) in
     let r = rightly m w h positions t (session m.config n s) (was.0).count reply x.log old.1 in
     let made : Kept m w h positions t n (with_call_or_back (Back (session_of_slot node s) (Updated reply)) w.log (record node { desk = with_slot node.desk s y })) =
@@ -281,7 +280,7 @@ pub keeps_read_answer : (m : Opening) (w : WorldView) (h : History) (positions :
 keeps_read_answer m w h positions t n s node p at_n taken x =
     let o = x.nodes n node at_n in
     let e = session_is m n node s o.desk in
-    let r = then_gives _ _ p taken in
+    let r = and_then_some _ _ p taken in
     let read : BegunRead = r.0 in
     let begun : slice_get node.reads s ≡ Some (Some read) = read_is (slice_get node.reads s) read r.1 in
     let c = cond_gives (nat_le read.seen node.replica.tail && nat_le node.replica.tail w.log.done) _ p r.2 in
@@ -290,7 +289,7 @@ keeps_read_answer m w h positions t n s node p at_n taken x =
     let done = leb-true node.replica.tail w.log.done tests.1 in
     let d = map_gives (λ (f : ReadEffect). with_call_or_back (Back (session_of_slot node s) (ReadBack (record { point = node.replica.tail; reply = f.reply }))) w.log (with_read node s None)) (store_meaning.read m.catalogue (Run read.call) node.replica.state) p c.1 in
     let a : Answer = ReadBack (record { point = node.replica.tail; reply = d.0.reply }) in
-    let there : (y : Slot) × (slice_get node.desk.slots s ≡ Some y) = get_some node.desk.slots s (let l = slice_get_within node.reads s (Some read) begun in let f = o.desk.reads in let g = o.desk.slots in omega arith) in
+    let there : (y : Slot) × (slice_get node.desk.slots s ≡ Some y) = get_inside node.desk.slots s (let l = slice_get_within node.reads s (Some read) begun in let f = o.desk.reads in let g = o.desk.slots in omega arith) in
     let q = read_waits m w.log.done h positions t (session m.config n s) node.batch (there.0).count (there.0).stage read (o.seats s there.0 (Some read) there.1 begun) in
     let old = q.1 in
     let right : read_reply_at store_meaning m.catalogue h node.replica.tail (Run read.call) ≡ Some d.0.reply =

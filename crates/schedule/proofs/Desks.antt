@@ -28,10 +28,10 @@ use Rattle.schedule.specs.declared.parts.Opening.{Opening}
 use Rattle.schedule.specs.Worlds.{NodeView, WorldView, own_of}
 use Rattle.schedule.specs.Steps.{Part, claim, no_batch, inner, seen_of, put_seen}
 use Rattle.schedule.specs.Stands.{OpenAt, ReplyStands, StageStands, DeskStands, NodeStands, BatchStands, WrittenStands, Stands, batch_in, index_in}
-use Rattle.schedule.proofs.Lists.{set_length}
 use Rattle.schedule.proofs.Options.{cond_gives, none_is, no_batch_is, appended_is}
 use Rattle.schedule.proofs.Slots.{claims_own, requests_have, request_of, claimed_has, claimed_once, answered_get, answered_length, AllAnswered, none_claimed, answer_found}
 use Rattle.schedule.proofs.Calls.{nodes_put, Kept, same_history, session_is}
+use Rattle.maps.proofs.Export.{length_set}
 
 -- ---- claim
 
@@ -94,7 +94,7 @@ keeps_claim m w h positions t n node p at_n taken x =
       catalogue = x.catalogue;
       explains = x.explains;
       log = x.log;
-      count = set_length w.nodes n (record node { desk = claimed node.desk; batch = Held (batch_of node.desk) }) ∙ x.count;
+      count = length_set w.nodes n (record node { desk = claimed node.desk; batch = Held (batch_of node.desk) }) ∙ x.count;
       callers = x.callers;
       stamps = x.stamps;
       nodes = nodes_put (λ k y. NodeStands m w.log.done h positions t k y) w.nodes n (record node { desk = claimed node.desk; batch = Held (batch_of node.desk) }) (λ k old ne g. x.nodes k old g)
@@ -221,7 +221,7 @@ keeps_reply m w h positions t n node p at_n taken x =
       catalogue = x.catalogue;
       explains = x.explains;
       log = x.log;
-      count = set_length w.nodes n (record node { desk = replied (answered_batch b.replies b.batch) node.desk; batch = Absent }) ∙ x.count;
+      count = length_set w.nodes n (record node { desk = replied (answered_batch b.replies b.batch) node.desk; batch = Absent }) ∙ x.count;
       callers = x.callers;
       stamps = x.stamps;
       nodes = nodes_put (λ k y. NodeStands m w.log.done h positions t k y) w.nodes n (record node { desk = replied (answered_batch b.replies b.batch) node.desk; batch = Absent }) (λ k old ne g. x.nodes k old g)

@@ -13,8 +13,10 @@ use Rattle.replica.specs.StoreMeaning.{store_meaning, is_operation}
 use Rattle.schedule.specs.Trace.{Answer, Updated, ReadBack, Event, Call, Back, Trace, Positions, IsOpen, IsIdle, StampBefore, stamp, Suits}
 use Rattle.schedule.specs.declared.parts.Opening.{Opening}
 use Rattle.schedule.specs.Explains.{Explains, IsRight, count_of}
-use Rattle.schedule.proofs.Lists.{get_more, get_snoc, get_some}
+use Rattle.schedule.proofs.Lists.{get_snoc}
 use Rattle.schedule.proofs.Traces.{take_all_front, answers_in, answers_more, answers_less, stamp_less}
+use Rattle.maps.proofs.Export.{in_front}
+use Rattle.machine.proofs.Export.{get_inside}
 
 -- what an answer has to be
 abbrev pub Right : Opening → History → Positions → Trace → Operation → ℕ → Answer → Type 0
@@ -36,7 +38,7 @@ pub in_trace : {m : Opening} {h : History} {positions : Positions} {t : Trace} �
 in_trace {m} {h} {positions} {t} x i c g =
     let l = slice_get_within positions i c g in
     let p = x.each_placed in
-    let e = get_some h i (omega arith) in
+    let e = get_inside h i (omega arith) in
     let k = x.calls i c e.0 e.1 g in
     (slice_get_within h i e.0 e.1, slice_get_within t c (Call (e.0).author Update (e.0).op) k, (e.0, e.1, k))
 
@@ -47,7 +49,7 @@ pub explains_event : {m : Opening} {h : History} {positions : Positions} {t : Tr
 explains_event {m} {h} {positions} {t} e x fine = record {
   updates = x.updates;
   each_placed = x.each_placed;
-  calls = λ i c f g p. get_more t (e ∷ []) c (Call f.author Update f.op) (x.calls i c f g p);
+  calls = λ i c f g p. in_front t (e ∷ []) c (Call f.author Update f.op) (x.calls i c f g p);
   once = x.once;
   seqs = x.seqs;
   right = λ y mode op c b a ans. ⊎_elim (λ old. x.right y mode op c b a old) (λ new. is_right m h positions t op c a (right_at m h positions t y mode op c a e fine new.1 new.2)) (answers_less e ans);
@@ -109,6 +111,6 @@ explains_entry {m} {h} {positions} {t} e c x may call free seq room stamps = rec
 }
   where
     more : (op : Operation) (d : ℕ) (a : Answer) → IsRight m h positions d op a → IsRight m (h ++ e ∷ []) (positions ++ c ∷ []) d op a
-    more op d (Updated (Placed i r)) w = let l = (in_trace x i d w.0).0 in (get_more positions (c ∷ []) i d w.0, reply_more m h (e ∷ []) i op (omega arith) ∙ w.1)
+    more op d (Updated (Placed i r)) w = let l = (in_trace x i d w.0).0 in (in_front positions (c ∷ []) i d w.0, reply_more m h (e ∷ []) i op (omega arith) ∙ w.1)
     more op d (ReadBack a) w = let l = w.0 in (simp (length-append) (omega arith), read_more m h (e ∷ []) a.point op w.0 ∙ w.1)
     more op d (Updated Ended) w = let f = w.1 in absurd (omega arith)

@@ -16,10 +16,10 @@ use Rattle.schedule.specs.declared.parts.Opening.{Opening}
 use Rattle.schedule.specs.Worlds.{NodeView}
 use Rattle.schedule.specs.Stands.{StageStands, batch_in}
 use Rattle.schedule.specs.Taking.{IsOfStore}
-use Rattle.schedule.proofs.Lists.{get_some}
 use Rattle.schedule.proofs.Slots.{claimed_get, claimed_once}
 use Rattle.schedule.proofs.Calls.{session_is}
 use Rattle.schedule.proofs.Appends.{claimed_waits, met, same_at}
+use Rattle.machine.proofs.Export.{get_inside}
 
 module _ {m : Opening} {g : Log} {node : NodeView} (x : IsOfStore m g node) (b : BatchView) (is_b : node.batch ≡ Held b) where
   own : map (λ (r : Record). r.author) b.records ≡ claimed_from (first_author node.desk) node.desk.slots
@@ -31,7 +31,7 @@ module _ {m : Opening} {g : Log} {node : NodeView} (x : IsOfStore m g node) (b :
       let c = claimed_get node.desk.slots (first_author node.desk) k r.author author in
       let by : r.author ≡ session m.config x.number c.0 = c.2 ∙ session_is m x.number node c.0 x.stands.desk in
       let inside = slice_get_within node.desk.slots c.0 c.1 c.3 in
-      let begun : (read : Option BegunRead) × (slice_get node.reads c.0 ≡ Some read) = get_some node.reads c.0 (let slots = x.stands.desk.slots in let reads = x.stands.desk.reads in omega arith) in
+      let begun : (read : Option BegunRead) × (slice_get node.reads c.0 ≡ Some read) = get_inside node.reads c.0 (let slots = x.stands.desk.slots in let reads = x.stands.desk.reads in omega arith) in
       let stage = subst (λ v. StageStands m g.done x.history x.positions x.trace (session m.config x.number c.0) v (c.1).count (c.1).stage begun.0) is_b (x.stands.seats c.0 c.1 begun.0 c.3 begun.1) in
       let q = (claimed_waits m g.done x.history x.positions x.trace (session m.config x.number c.0) (Held b) (c.1).count begun.0
       (subst (λ v. StageStands m g.done x.history x.positions x.trace (session m.config x.number c.0) (Held b) (c.1).count v begun.0) c.4 stage)).1 in

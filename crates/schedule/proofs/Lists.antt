@@ -3,25 +3,11 @@ use Rattle.std.proofs.Common.{◌≡◌, ◌≢◌, ℕ, zero, suc, ◌+◌, ◌
 use Rattle.std.specs.Prelude.{slice_get, slice_set, ◌⊎◌}
 use Rattle.std.proofs.lemmas.Option.{none-some, same_Some}
 
-pub get_more : {A : Type 0} (xs ys : List A) (i : ℕ) (v : A) → slice_get xs i ≡ Some v → slice_get (xs ++ ys) i ≡ Some v
-get_more [] ys i v h = absurd (none-some v h)
-get_more (x ∷ xs) ys zero v h = h
-get_more (x ∷ xs) ys (suc i) v h = get_more xs ys i v h
-
-pub get_new : {A : Type 0} (xs : List A) (y : A) → slice_get (xs ++ y ∷ []) (length xs) ≡ Some y
-get_new [] y = refl
-get_new (x ∷ xs) y = get_new xs y
-
 pub get_snoc : {A : Type 0} (xs : List A) (y : A) (i : ℕ) (v : A) → slice_get (xs ++ y ∷ []) i ≡ Some v → (slice_get xs i ≡ Some v) ⊎ ((i ≡ length xs) × (y ≡ v))
 get_snoc [] y zero v h = inr (refl, same_Some y v h)
 get_snoc [] y (suc i) v h = absurd (none-some v h)
 get_snoc (x ∷ xs) y zero v h = inl h
 get_snoc (x ∷ xs) y (suc i) v h = ⊎_elim inl (λ p. inr (ap suc p.0, p.1)) (get_snoc xs y i v h)
-
-pub get_some : {A : Type 0} (xs : List A) (i : ℕ) → i < length xs → (v : A) × (slice_get xs i ≡ Some v)
-get_some [] i h = absurd (omega arith)
-get_some (x ∷ xs) zero h = (x, refl)
-get_some (x ∷ xs) (suc i) h = get_some xs i (omega arith)
 
 pub get_drop : {A : Type 0} (xs : List A) (i j : ℕ) → slice_get (drop i xs) j ≡ slice_get xs (i + j)
 get_drop [] zero j = refl
@@ -53,11 +39,6 @@ pub set_same : {A : Type 0} (xs : List A) (i : ℕ) (u v : A) → slice_get xs i
 set_same [] i u v h = absurd (none-some u h)
 set_same (x ∷ xs) zero u v h = refl
 set_same (x ∷ xs) (suc i) u v h = set_same xs i u v h
-
-pub set_length : {A : Type 0} (xs : List A) (i : ℕ) (v : A) → length (slice_set xs i v) ≡ length xs
-set_length [] i v = refl
-set_length (x ∷ xs) zero v = refl
-set_length (x ∷ xs) (suc i) v = ap suc (set_length xs i v)
 
 pub set_back : {A : Type 0} (xs : List A) (i : ℕ) (v : A) → slice_get xs i ≡ Some v → slice_set xs i v ≡ xs
 set_back [] i v g = refl

@@ -16,10 +16,11 @@ use Rattle.schedule.specs.declared.parts.Opening.{Opening}
 use Rattle.schedule.specs.Worlds.{NodeView, WorldView, own_of}
 use Rattle.schedule.specs.Steps.{Part, inner, seen_of, put_seen}
 use Rattle.schedule.specs.Stands.{NodeStands, BatchStands, Stands}
-use Rattle.schedule.proofs.Lists.{get_drop, set_length}
+use Rattle.schedule.proofs.Lists.{get_drop}
 use Rattle.schedule.proofs.Options.{cond_gives, none_is}
 use Rattle.schedule.proofs.Seats.{stage_done}
 use Rattle.schedule.proofs.Calls.{nodes_put, Kept, same_history}
+use Rattle.maps.proofs.Export.{length_set}
 
 -- more is done
 node_done : (m : Opening) (done more : ℕ) (h : History) (positions : Positions) (t : Trace) (n : ℕ) (node : NodeView) → done ≤ more → NodeStands m done h positions t n node → NodeStands m more h positions t n node
@@ -52,7 +53,7 @@ keeps_finish m w h positions t n node p at_n taken x =
         within = x.log.within;
         window = x.log.window;
       };
-      count = set_length w.nodes n node ∙ x.count;
+      count = length_set w.nodes n node ∙ x.count;
       callers = x.callers;
       stamps = λ b y a g. let l = x.stamps b y a g in omega arith;
       nodes = nodes_put (λ k y. NodeStands m (max w.log.done node.replica.tail) h positions t k y) w.nodes n node
@@ -84,7 +85,7 @@ keeps_reclaim m w h positions t n node p at_n taken x =
         window = x.log.window;
         long = x.log.long;
       };
-      count = set_length w.nodes n node ∙ x.count;
+      count = length_set w.nodes n node ∙ x.count;
       callers = x.callers;
       stamps = x.stamps;
       nodes = nodes_put (λ k y. NodeStands m w.log.done h positions t k y) w.nodes n node (λ k old ne g. x.nodes k old g) o;
@@ -121,7 +122,7 @@ keeps_rebase m w h positions t n node p at_n taken x =
       catalogue = x.catalogue;
       explains = x.explains;
       log = x.log;
-      count = set_length w.nodes n ((put_seen node (next m.catalogue Rebases (seen_of w.log node))).node) ∙ x.count;
+      count = length_set w.nodes n ((put_seen node (next m.catalogue Rebases (seen_of w.log node))).node) ∙ x.count;
       callers = x.callers;
       stamps = x.stamps;
       nodes = nodes_put (λ k y. NodeStands m w.log.done h positions t k y) w.nodes n ((put_seen node (next m.catalogue Rebases (seen_of w.log node))).node) (λ k old ne g. x.nodes k old g)

@@ -21,6 +21,7 @@ use Rattle.node.specs.declared.parts.Written.{Written}
 use Rattle.node.specs.declared.parts.NodeBatch.{NodeBatch}
 use Rattle.node.specs.declared.parts.NodeBatch.TheVariants.{Absent, Held, InLog}
 use Rattle.schedule.specs.Steps.{is_free, no_read, no_batch}
+use Rattle.machine.proofs.Export.{and_then_some}
 
 -- ---- options
 
@@ -31,10 +32,6 @@ cond_gives false o v e = absurd (none-some v e)
 pub map_gives : {A B : Type 0} (f : A → B) (o : Option A) (v : B) → option_map f o ≡ Some v → (a : A) × (o ≡ Some a) × (f a ≡ v)
 map_gives f None v e = absurd (none-some v e)
 map_gives f (Some a) v e = (a, refl, same_Some (f a) v e)
-
-pub then_gives : {A B : Type 0} (f : A → Option B) (o : Option A) (v : B) → option_and_then f o ≡ Some v → (a : A) × (o ≡ Some a) × (f a ≡ Some v)
-then_gives f None v e = absurd (none-some v e)
-then_gives f (Some a) v e = (a, refl, e)
 
 -- ---- slots and reads
 
@@ -63,7 +60,7 @@ if_gives false u v e = absurd (none-some v e)
 
 pub posted_is : (s : ℕ) (op : Operation) (d e : DeskView) (x : Slot) → slice_get d.slots s ≡ Some x → posted s op d ≡ Some e → with_slot d s (slot (Posted op) x.count) ≡ e
 posted_is s op d e x at is =
-    let r = then_gives (λ y. if is_empty y.stage then Some (with_slot d s (slot (Posted op) y.count)) else None) (slice_get d.slots s) e is in
+    let r = and_then_some (λ y. if is_empty y.stage then Some (with_slot d s (slot (Posted op) y.count)) else None) (slice_get d.slots s) e is in
     let same : r.0 ≡ x = same_Some r.0 x (sym r.1 ∙ at) in
     ap (λ y. with_slot d s (slot (Posted op) y.count)) (sym same) ∙ if_gives (is_empty (r.0).stage) (with_slot d s (slot (Posted op) (r.0).count)) e r.2
 
@@ -76,7 +73,7 @@ waits Claimed reply e = absurd (none-some reply e)
 pub collected_is : (s : ℕ) (d : DeskView) (c : Collection) → collected s d ≡ Some c
     → (x : Slot) × (slice_get d.slots s ≡ Some x) × (x.stage ≡ Answered c.reply) × (with_slot d s (slot Empty (counted c.reply x.count)) ≡ c.desk)
 collected_is s d c e =
-    let r = then_gives (λ x. option_map (λ reply. (let k : Collection = record { reply = reply; desk = with_slot d s (slot Empty (counted reply x.count)) } in k)) (answer_in x.stage)) (slice_get d.slots s) c e in
+    let r = and_then_some (λ x. option_map (λ reply. (let k : Collection = record { reply = reply; desk = with_slot d s (slot Empty (counted reply x.count)) } in k)) (answer_in x.stage)) (slice_get d.slots s) c e in
     let q = map_gives (λ reply. (let k : Collection = record { reply = reply; desk = with_slot d s (slot Empty (counted reply (r.0).count)) } in k)) (answer_in (r.0).stage) c r.2 in
     let same : q.0 ≡ c.reply = ap (λ k. k.reply) q.2 in
     (r.0, r.1, waits (r.0).stage q.0 q.1 ∙ ap Answered same, ap (λ y. with_slot d s (slot Empty (counted y (r.0).count))) (sym same) ∙ ap (λ k. k.desk) q.2)

@@ -32,8 +32,8 @@ use Rattle.schedule.specs.Worlds.{NodeView, own_of}
 use Rattle.schedule.specs.Steps.{silent, claim, no_batch}
 use Rattle.schedule.specs.Stands.{StageStands, batch_in}
 use Rattle.schedule.specs.Taking.{IsOfStore, TakesPart}
-use Rattle.schedule.proofs.Lists.{get_some}
 use Rattle.schedule.proofs.Replays.{after_all, runs_next}
+use Rattle.machine.proofs.Export.{get_inside}
 
 -- ---- the state
 
@@ -78,7 +78,7 @@ countable {m} {g} {node} x s y at =
     let a = slice_get_within node.desk.slots s y at in
     let b = o.desk.slots in
     let c = o.desk.reads in
-    let read = get_some node.reads s (omega arith) in
+    let read = get_inside node.reads s (omega arith) in
     let l = stage_count m g.done x.history x.positions x.trace (session m.config x.number s) node.batch y.count y.stage read.0 (o.seats s y read.0 at read.1) in
     let few = count_few (session m.config x.number s) x.history in
     let short = history_short x in

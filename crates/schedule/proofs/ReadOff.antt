@@ -2,6 +2,7 @@
 use Rattle.std.proofs.Common.{◌≡◌, ℕ, List, [], ◌∷◌, ◌++◌, Option, Some, None, refl, sym, ap, ◌∙◌, subst, append_assoc}
 use Rattle.std.specs.Prelude.{slice_get, ◌&&◌, option_map}
 use Rattle.std.proofs.lemmas.Option.{same_Some}
+use Rattle.std.proofs.lemmas.List.{append-nil}
 use Rattle.verifier.specs.declared.refusal.Mode.TheVariants.{Update, Read}
 use Rattle.oplog.specs.declared.configuration.Sizes.{Sizes}
 use Rattle.oplog.specs.Operations.{Operation}
@@ -26,9 +27,10 @@ use Rattle.schedule.specs.Stands.{DeskStands, Stands}
 use Rattle.schedule.specs.Taking.{answer_of, step_answer, answers_to}
 use Rattle.schedule.specs.ReadOff.{event_of, before_events, read_off}
 use Rattle.schedule.specs.Headline.{TraceIsReadOff}
-use Rattle.schedule.proofs.Options.{cond_gives, map_gives, then_gives}
+use Rattle.schedule.proofs.Options.{cond_gives, map_gives}
 use Rattle.schedule.proofs.Calls.{session_is}
 use Rattle.schedule.proofs.Runs.{step_keeps}
+use Rattle.machine.proofs.Export.{and_then_some}
 
 -- an event is the one that the step and its answer tell
 abbrev IsTold : Sizes → Step → Option Event → Type 0
@@ -38,7 +40,7 @@ pub told : (c : Sizes) (step : Step) (e f : Option Event) → e ≡ f → IsTold
 told c step e f same is = subst (λ o. IsTold c step o) same is
 
 -- the event of a part
-event_is : (p q : Part) → Some p ≡ Some q → p.event ≡ q.event
+pub event_is : (p q : Part) → Some p ≡ Some q → p.event ≡ q.event
 event_is p q same = ap (λ (r : Part). r.event) (same_Some p q same)
 
 -- ---- one step
@@ -76,7 +78,7 @@ part_told m (ReadBegin n s program argument) g node p desk taken =
     let c = cond_gives (is_idle node s && is_operation Read m.catalogue op) _ p taken in
     told m.config (ReadBegin n s program argument) (Some (Call (session m.config n s) Read op)) p.event (ap (λ x. Some (Call x Read op)) (sym (session_is m n node s desk)) ∙ event_is _ p c.1) refl
 part_told m (ReadAnswer n s) g node p desk taken =
-    let r = then_gives _ (read_at node s) p taken in
+    let r = and_then_some _ (read_at node s) p taken in
     let read : BegunRead = r.0 in
     let c = cond_gives (may_answer read.seen g.done (own_of node)) _ p r.2 in
     let d = map_gives (λ (f : ReadEffect). with_call_or_back (Back (session_of_slot node s) (ReadBack (record { point = node.replica.tail; reply = f.reply }))) g (with_read node s None)) (store_meaning.read m.catalogue (Run read.call) node.replica.state) p c.1 in
@@ -111,22 +113,18 @@ step_told m w h positions t step x = go (took m w step) refl
     go : (o : Option Took) → took m w step ≡ o → event_of m.config step (step_answer o) ≡ event_in o
     go None e = not_told m.config step
     go (Some r) e =
-        let at = then_gives (λ node. option_map (put_part w (node_of step)) (part_of m step w.log node)) (slice_get w.nodes (node_of step)) r e in
+        let at = and_then_some (λ node. option_map (put_part w (node_of step)) (part_of m step w.log node)) (slice_get w.nodes (node_of step)) r e in
         let p = map_gives (put_part w (node_of step)) (part_of m step w.log at.0) r at.2 in
         subst (λ (z : Took). IsTold m.config step z.event) p.2 (part_told m step w.log at.0 p.0 (x.nodes (node_of step) at.0 at.1).desk p.1)
 
 -- ---- all steps
 
-append_nil : {A : Type 0} (xs : List A) → xs ++ [] ≡ xs
-append_nil [] = refl
-append_nil (x ∷ xs) = ap (λ ys. x ∷ ys) (append_nil xs)
-
 event_added : (t : Trace) (o : Option Event) → with_event t o ≡ t ++ before_events o []
-event_added t None = sym (append_nil t)
+event_added t None = sym (append-nil t)
 event_added t (Some e) = refl
 
 trace_step : (t : Trace) (o : Option Took) → trace_after t o ≡ t ++ before_events (event_in o) []
-trace_step t None = sym (append_nil t)
+trace_step t None = sym (append-nil t)
 trace_step t (Some r) = event_added t r.event
 
 before_append : (o : Option Event) (ts : Trace) → before_events o [] ++ ts ≡ before_events o ts
@@ -135,7 +133,7 @@ before_append (Some e) ts = refl
 
 -- from a store that stands, whatever its trace
 pub steps_told : (m : Opening) (steps : List Step) (w : WorldView) (h : History) (positions : Positions) (past t : Trace) → Stands m w h positions past → trace_of m w t steps ≡ t ++ read_off m.config steps (answers_to m w steps)
-steps_told m [] w h positions past t x = sym (append_nil t)
+steps_told m [] w h positions past t x = sym (append-nil t)
 steps_told m (step ∷ steps) w h positions past t x =
     let k = step_keeps m w h positions past step x in
     let rest : Trace = read_off m.config steps (answers_to m (world_after w (took m w step)) steps) in

@@ -1,17 +1,17 @@
 -- A replica applies what was copied for it.
-use Rattle.std.proofs.Common.{◌≡◌, ◌≢◌, ℕ, zero, suc, ◌+◌, ◌-◌, ◌<◌, ◌≤◌, true, [], ◌∷◌, length, take, Some, None, refl, sym, ap, ◌∙◌, inl, inr, ⊎_elim, arith, subst}
+use Rattle.std.proofs.Common.{◌≡◌, ◌≢◌, ℕ, suc, ◌+◌, ◌-◌, ◌<◌, ◌≤◌, true, [], ◌∷◌, length, Some, None, refl, sym, ap, ◌∙◌, inl, inr, ⊎_elim, arith, subst}
 use Rattle.std.specs.Prelude.{slice_get, slice_set, ◌⊎◌, ◌&&◌, not, nat_lt, if◌then◌else◌}
 use Rattle.std.proofs.lemmas.Option.{none-some, same_Some, slice_get_within}
 use Rattle.std.proofs.lemmas.Bool.{cases_eq, and_parts, or_cases, leb-true, ltb-true}
 use Rattle.loader.specs.StoreState.{StoreState}
 use Rattle.loader.specs.CatalogueView.{CatalogueView, IsCatalogue}
 use Rattle.oplog.specs.declared.records.Record.{Record}
-use Rattle.oplog.specs.History.{Effect, Meaning, History, after, state_after, left_by, effect_at}
+use Rattle.oplog.specs.History.{Effect, History, after, state_after, left_by, effect_at}
 use Rattle.oplog.specs.Logs.{Log, HandView, tail_of}
 use Rattle.oplog.specs.Sessions.{session}
 use Rattle.replica.specs.StoreMeaning.{store_meaning, outcome_of, AreUpdates}
 use Rattle.replica.specs.Views.{ReplicaView, with_outcome}
-use Rattle.replica.proofs.Export.{takes_effect, count_with, at_with, off_with}
+use Rattle.replica.proofs.Export.{takes_effect, count_with, at_with, off_with, after_suc}
 use Rattle.combiner.specs.Desks.{BatchView, IsBatchOf}
 use Rattle.node.specs.declared.parts.Written.{Written}
 use Rattle.node.specs.declared.parts.NodeBatch.{NodeBatch}
@@ -25,19 +25,13 @@ use Rattle.node.proofs.Export.{after_count, after_first}
 use Rattle.schedule.specs.Worlds.{NodeView, WorldView, own_of}
 use Rattle.schedule.specs.Steps.{Part, inner, seen_of, put_seen}
 use Rattle.schedule.specs.Stands.{DeskStands, NodeStands, LogStands, BatchStands, WrittenStands, Stands, batch_in, index_in}
-use Rattle.schedule.proofs.Lists.{get_drop, set_length}
+use Rattle.schedule.proofs.Lists.{get_drop}
 use Rattle.schedule.proofs.Options.{cond_gives, some_is}
 use Rattle.schedule.proofs.Seats.{stage_batch}
 use Rattle.schedule.proofs.Calls.{nodes_put, Kept, same_history}
+use Rattle.maps.proofs.Export.{length_set}
 
 -- ---- the state
-
-after_suc : {C M : Type 0} (E : Meaning C M) (c : C) (state : M) (h : History) (k : ℕ) (r : Record) → slice_get h k ≡ Some r
-    → after E c state (take (suc k) h) ≡ left_by (E.update c r.op (after E c state (take k h))) (after E c state (take k h))
-after_suc E c state [] k r g = absurd (none-some r g)
-after_suc E c state (x ∷ []) zero r g = ap (λ y. left_by (E.update c y.op state) state) (same_Some x r g)
-after_suc E c state (x ∷ (y ∷ h)) zero r g = ap (λ y. left_by (E.update c y.op state) state) (same_Some x r g)
-after_suc E c state (x ∷ h) (suc k) r g = after_suc E c (left_by (E.update c x.op state) state) h k r g
 
 -- the state after one operation more
 pub after_next : (c : CatalogueView) (h : History) (k : ℕ) (r : Record) → slice_get h k ≡ Some r
@@ -196,7 +190,7 @@ keeps_replay m w h positions t n node p at_n taken x =
       catalogue = x.catalogue;
       explains = x.explains;
       log = x.log;
-      count = set_length w.nodes n new ∙ x.count;
+      count = length_set w.nodes n new ∙ x.count;
       callers = x.callers;
       stamps = x.stamps;
       nodes = nodes_put (λ k y. NodeStands m w.log.done h positions t k y) w.nodes n new (λ k old ne g. x.nodes k old g)

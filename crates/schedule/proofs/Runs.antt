@@ -22,12 +22,13 @@ use Rattle.oplog.specs.Limits.{AreSizes}
 use Rattle.oplog.specs.Logs.{Log}
 use Rattle.schedule.specs.Taking.{store_of, IsStanding}
 use Rattle.schedule.specs.Headline.{EverySchedule, StepKeeps, StepsKeep, OpeningStands, StandingIsExplained}
-use Rattle.schedule.proofs.Options.{then_gives, map_gives}
+use Rattle.schedule.proofs.Options.{map_gives}
 use Rattle.schedule.proofs.Calls.{Kept, same_history, keeps_post, keeps_collect, keeps_read_begin, keeps_read_answer}
 use Rattle.schedule.proofs.Logs.{keeps_finish, keeps_reclaim, keeps_rebase}
 use Rattle.schedule.proofs.Replays.{keeps_replay}
 use Rattle.schedule.proofs.Desks.{keeps_claim, keeps_reply}
 use Rattle.schedule.proofs.Append.{keeps_append}
+use Rattle.machine.proofs.Export.{and_then_some}
 
 -- ---- a step
 
@@ -54,7 +55,7 @@ After m h positions t w o = (more : History) × (later : Positions) × Stands m 
 
 pub keeps : (m : Opening) (w : WorldView) (h : History) (positions : Positions) (t : Trace) (step : Step) (r : Took) → took m w step ≡ Some r → Stands m w h positions t → After m h positions t w (Some r)
 keeps m w h positions t step r e x =
-    let at = then_gives (λ node. option_map (put_part w (node_of step)) (part_of m step w.log node)) (slice_get w.nodes (node_of step)) r e in
+    let at = and_then_some (λ node. option_map (put_part w (node_of step)) (part_of m step w.log node)) (slice_get w.nodes (node_of step)) r e in
     let p = map_gives (put_part w (node_of step)) (part_of m step w.log at.0) r at.2 in
     subst (λ z. After m h positions t w (Some z)) p.2 (keeps_part m w h positions t step at.0 p.0 at.1 p.1 x)
 
@@ -67,12 +68,12 @@ step_keeps m w h positions t step x = go (took m w step) refl
 
 -- ---- the opening
 
-replicate_get : {A : Type 0} (n : ℕ) (v : A) (i : ℕ) (u : A) → slice_get (replicate n v) i ≡ Some u → v ≡ u
+pub replicate_get : {A : Type 0} (n : ℕ) (v : A) (i : ℕ) (u : A) → slice_get (replicate n v) i ≡ Some u → v ≡ u
 replicate_get zero v i u g = absurd (none-some u g)
 replicate_get (suc n) v zero u g = same_Some v u g
 replicate_get (suc n) v (suc i) u g = replicate_get n v i u g
 
-replicate_length : {A : Type 0} (n : ℕ) (v : A) → length (replicate n v) ≡ n
+pub replicate_length : {A : Type 0} (n : ℕ) (v : A) → length (replicate n v) ≡ n
 replicate_length zero v = refl
 replicate_length (suc n) v = ap suc (replicate_length n v)
 

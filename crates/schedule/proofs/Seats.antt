@@ -19,9 +19,10 @@ use Rattle.schedule.specs.Trace.{Event, Call, Trace, Positions, caller, IsOpen}
 use Rattle.schedule.specs.declared.parts.Opening.{Opening}
 use Rattle.schedule.specs.Explains.{count_of}
 use Rattle.schedule.specs.Stands.{HasIndex, OpenAt, StageStands, batch_in, index_in}
-use Rattle.schedule.proofs.Lists.{get_more, get_snoc}
+use Rattle.schedule.proofs.Lists.{get_snoc}
 use Rattle.schedule.proofs.Traces.{open_in, open_more, idle_more, stamp_less}
 use Rattle.schedule.proofs.Explained.{reply_more}
+use Rattle.maps.proofs.Export.{in_front}
 
 -- ---- sessions
 
@@ -86,7 +87,7 @@ count_self (f ∷ h) e = ap (λ k. (if f.author == e.author then 1 else 0) + k) 
 
 pub has_more : (positions : Positions) (c d : ℕ) (index : Option ℕ) → c ≢ d → HasIndex positions c index → HasIndex (positions ++ d ∷ []) c index
 has_more positions c d None ne h = λ i g. ⊎_elim (λ old. h i old) (λ new. ne (sym new.1)) (get_snoc positions d i c g)
-has_more positions c d (Some i) ne h = get_more positions (d ∷ []) i c h
+has_more positions c d (Some i) ne h = in_front positions (d ∷ []) i c h
 
 other_call : (t : Trace) (x : ℕ) (mode : Mode) (op : Operation) (e : Record) (c d : ℕ) → IsOpen t x mode op c → slice_get t d ≡ Some (Call e.author Update e.op) → e.author ≢ x → c ≢ d
 other_call t x mode op e c d o g ne same =

@@ -7,7 +7,8 @@ use Rattle.std.proofs.lemmas.List.{take-append-le}
 use Rattle.verifier.specs.declared.refusal.Mode.{Mode}
 use Rattle.oplog.specs.Operations.{Operation}
 use Rattle.schedule.specs.Trace.{Answer, Event, Call, Back, Trace, caller, IsOpen, IsIdle, Answers, StampBefore}
-use Rattle.schedule.proofs.Lists.{get_more, get_new, get_snoc, get_take}
+use Rattle.schedule.proofs.Lists.{get_snoc, get_take}
+use Rattle.maps.proofs.Export.{in_front, at_end}
 
 abbrev pub is_call : Event → ℕ
 is_call (Call x mode op) = 1
@@ -33,13 +34,13 @@ open_in {t} {x} {mode} {op} {c} o = slice_get_within t c (Call x mode op) o.call
 
 pub open_more : {t : Trace} {x : ℕ} {mode : Mode} {op : Operation} {c : ℕ} (e : Event) → caller e ≢ x → IsOpen t x mode op c → IsOpen (t ++ e ∷ []) x mode op c
 open_more {t} {x} {mode} {op} {c} e ne o = record {
-  call = get_more t (e ∷ []) c (Call x mode op) o.call;
+  call = in_front t (e ∷ []) c (Call x mode op) o.call;
   last = λ j f l g. ⊎_elim (λ old. o.last j f l old) (λ new. subst (λ y. caller y ≢ x) new.1 ne) (get_snoc t e j f g);
 }
 
 pub open_new : (t : Trace) (x : ℕ) (mode : Mode) (op : Operation) → IsOpen (t ++ Call x mode op ∷ []) x mode op (length t)
 open_new t x mode op = record {
-  call = get_new t (Call x mode op);
+  call = at_end t (Call x mode op);
   last = λ j f l g. absurd (⊎_elim (λ old. let b = slice_get_within t j f old in omega arith) (λ new. let b = new.0 in omega arith) (get_snoc t (Call x mode op) j f g));
 }
 
@@ -48,8 +49,8 @@ pub open_less : {t : Trace} {x : ℕ} {mode : Mode} {op : Operation} {c : ℕ} (
 open_less {t} {x} {mode} {op} {c} e o =
     ⊎_elim
     (λ old. inl (
-      record { call = old; last = λ j f l g. o.last j f l (get_more t (e ∷ []) j f g) },
-      o.last (length t) e (slice_get_within t c (Call x mode op) old) (get_new t e),
+      record { call = old; last = λ j f l g. o.last j f l (in_front t (e ∷ []) j f g) },
+      o.last (length t) e (slice_get_within t c (Call x mode op) old) (at_end t e),
     ))
     (λ new. inr new)
     (get_snoc t e c (Call x mode op) o.call)
@@ -74,7 +75,7 @@ answers_more {t} {x} {mode} {op} {c} {b} {a} e h =
     let l = (answers_in h).1 in
     record {
       open_call = subst (λ s. IsOpen s x mode op c) (sym (take-append-le b t (e ∷ []) (omega arith))) h.open_call;
-      back = get_more t (e ∷ []) b (Back x a) h.back;
+      back = in_front t (e ∷ []) b (Back x a) h.back;
     }
 
 pub answers_less : {t : Trace} {x : ℕ} {mode : Mode} {op : Operation} {c b : ℕ} {a : Answer} (e : Event) → Answers (t ++ e ∷ []) x mode op c b a → (Answers t x mode op c b a) ⊎ ((b ≡ length t) × (e ≡ Back x a) × IsOpen t x mode op c)

@@ -25,7 +25,7 @@ use Rattle.schedule.specs.Steps.{put_part, part_of, node_of, took, read_answer}
 use Rattle.schedule.specs.Stands.{StageStands}
 use Rattle.schedule.specs.Taking.{IsOfStore}
 use Rattle.schedule.specs.Blocking.{IsTakenUnless, read_block, blocked}
-use Rattle.schedule.proofs.Lists.{get_some}
+use Rattle.machine.proofs.Export.{get_inside}
 
 -- ---- reads
 
@@ -48,7 +48,7 @@ has_answer {m} {g} {node} x s read at =
     let b = o.desk.slots in
     let c = o.desk.reads in
     let within = slice_get_within node.reads s (Some read) at in
-    let y = get_some node.desk.slots s (omega arith) in
+    let y = get_inside node.desk.slots s (omega arith) in
     let may = begun_may m g.done x.history x.positions x.trace (session m.config x.number s) node.batch (y.0).count (y.0).stage read (o.seats s y.0 (Some read) y.1 at) in
     let r = (have_effects m.catalogue x.catalogue x.history x.updates).reads node.replica.tail read.call may in
     (as_read r.0, ap (λ v. store_meaning.read m.catalogue (Run read.call) v) o.replica.state ∙ r.2)

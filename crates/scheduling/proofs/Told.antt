@@ -28,7 +28,7 @@ use Rattle.schedule.specs.Worlds.{NodeView, WorldView, own_of, opened, opening_o
 use Rattle.schedule.specs.Steps.{Part, Took, claim, collect, post, read_answer, read_begin, with_call_or_back, put_part, session_of_slot, is_idle, with_read, read_at, no_batch, inner, seen_of, with_event, world_after}
 use Rattle.schedule.specs.Stands.{DeskStands, Stands}
 use Rattle.schedule.specs.Taking.{answer_of, step_answer}
-use Rattle.schedule.proofs.Export.{cond_gives, map_gives, then_gives, Kept, session_is, keeps_post, keeps_collect, keeps_read_begin, keeps_read_answer, keeps_finish, keeps_reclaim, keeps_rebase, keeps_replay, keeps_claim, keeps_reply, keeps_append, opening_stands, standing_is_explained}
+use Rattle.schedule.proofs.Export.{cond_gives, map_gives, Kept, session_is, keeps_post, keeps_collect, keeps_read_begin, keeps_read_answer, keeps_finish, keeps_reclaim, keeps_rebase, keeps_replay, keeps_claim, keeps_reply, keeps_append, opening_stands, standing_is_explained, event_is}
 use Rattle.engine.proofs.Export.{are_limits}
 use Rattle.engine.specs.Answer.{Answer}
 use Rattle.engine.specs.Sizes.{are_sizes, sizes_refused}
@@ -38,6 +38,7 @@ use Rattle.running.specs.RunAnswer.{behind, bad_line}
 use Rattle.running.proofs.Export.{loaded_is_catalogue}
 use Rattle.scheduling.specs.ScheduleAnswer.{StepTurn, line_took, step_turn, step_line_turn, steps_answer, scheduled, schedule_answer}
 use Rattle.scheduling.specs.Traced.{call_said, event_told, line_text, Tells, AreExplained}
+use Rattle.machine.proofs.Export.{and_then_some}
 
 -- ---- one line
 
@@ -107,9 +108,6 @@ IsTold m line e = event_told m line (answer_of e) ≡ e
 told : (m : Opening) (line : StepMeaning) (e f : Option Event) → e ≡ f → IsTold m line e → IsTold m line f
 told m line e f same is = subst (IsTold m line) same is
 
-event_is : (p q : Part) → Some p ≡ Some q → p.event ≡ q.event
-event_is p q same = let is : p ≡ q = cc in ap (λ (r : Part). r.event) is
-
 inner_told : (m : Opening) (kind : NodeStep) (line : StepMeaning) (g : Log) (node : NodeView) (p : Part) → inner m kind g node ≡ Some p → IsTold m line None → IsTold m line p.event
 inner_told m kind line g node p taken is = let c = cond_gives (may kind (seen_of g node)) _ p taken in told m line None p.event (event_is _ p c.1) is
 
@@ -133,7 +131,7 @@ part_told m (Collect to) g node p desk taken =
     told m (Collect to) (Some (Back (session m.config to.node to.slot) (Updated d.0.reply))) p.event
     (ap (λ x. Some (Back x (Updated d.0.reply))) (sym (session_is m to.node node to.slot desk)) ∙ ap (λ (q : Part). q.event) d.2) refl
 part_told m (ReadAnswer to) g node p desk taken =
-    let r = then_gives _ (read_at node to.slot) p taken in
+    let r = and_then_some _ (read_at node to.slot) p taken in
     let read : BegunRead = r.0 in
     let c = cond_gives (may_answer read.seen g.done (own_of node)) _ p r.2 in
     let d = map_gives (λ (f : ReadEffect). with_call_or_back (Back (session_of_slot node to.slot) (ReadBack (record { point = node.replica.tail; reply = f.reply }))) g (with_read node to.slot None)) (store_meaning.read m.catalogue (Run read.call) node.replica.state) p c.1 in
@@ -177,7 +175,7 @@ goes_on m w h positions t line x = by (line_took m w line) refl
 
     taken : (r : Took) → line_took m w line ≡ Some r → After (Some r)
     taken r e =
-        let at = then_gives (λ node. option_map (put_part w (node_of line)) (part_of m line w.log node)) (slice_get w.nodes (node_of line)) r (sym (took_is m w line) ∙ e) in
+        let at = and_then_some (λ node. option_map (put_part w (node_of line)) (part_of m line w.log node)) (slice_get w.nodes (node_of line)) r (sym (took_is m w line) ∙ e) in
         let p = map_gives (put_part w (node_of line)) (part_of m line w.log at.0) r at.2 in
         let kept = keeps_part m w h positions t line at.0 p.0 at.1 p.1 x in
         let is = part_told m line w.log at.0 p.0 (x.nodes (node_of line) at.0 at.1).desk p.1 in

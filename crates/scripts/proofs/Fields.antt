@@ -1,5 +1,5 @@
 -- The fields of a line, read and spelled.
-use Rattle.std.proofs.Common.{◌≡◌, ℕ, Bool, true, false, not, cond, leb, ltb, eqb, ◌&&◌, List, [], ◌∷◌, ◌++◌, length, codes, bytes_eq, decimal, Option, Some, None, Result, Ok, Err, refl, sym, ap, subst, ◌∙◌, arith}
+use Rattle.std.proofs.Common.{◌≡◌, ℕ, Bool, true, false, not, cond, leb, ltb, eqb, ◌&&◌, List, [], ◌∷◌, ◌++◌, length, codes, bytes_eq, decimal, Option, Some, None, refl, sym, ap, subst, ◌∙◌, arith}
 use Rattle.std.specs.Prelude.{option_map}
 use Rattle.std.specs.List.{list_all}
 use Rattle.std.proofs.lemmas.Bool.{and_parts, eqb-true, false≢true}
@@ -12,13 +12,14 @@ use Rattle.hex.proofs.HexLemmas.{decode_of-ok}
 use Rattle.text.specs.Fields.{is_space, has_no_space, split_at_space}
 use Rattle.text.specs.Words.{is_lower, is_name, number_of}
 use Rattle.text.specs.Digits.{good, field_bytes}
-use Rattle.text.proofs.Export.{own, numerals_are_decimals, steps, split_from, split_to}
+use Rattle.text.proofs.Export.{own, numerals_are_decimals, steps, split_from, split_to, good_from}
 use Rattle.loader.specs.Grammar.{mode_of}
 use Rattle.loader.specs.Spelling.{mode_word}
 use Rattle.loader.proofs.Export.{no_space_from, no_space_in_number, no_space_in_name, no_space_in_mode, mode_to, mode_from, word_is}
 use Rattle.oplog.specs.Calls.{NewProgram}
 use Rattle.scripts.specs.Script.{ProgramKey, Named, Numbered, KeyedCall, program_key, keyed_call, program_fields, new_program}
 use Rattle.scripts.specs.LineSpelling.{IsNumber, SpellsBytes, IsKey, key_text}
+use Rattle.encoding.proofs.Export.{mapped}
 
 -- ---- no field has a space
 
@@ -35,10 +36,6 @@ digits_of_number n lt = digits_decimal own n lt
 pub key_plain : (key : ProgramKey) → IsKey key → has_no_space (key_text key) ≡ true
 key_plain (Named name) is = no_space_in_name name is
 key_plain (Numbered k) is = no_space_in_number k is
-
-good_from : {E : Type 0} (r : Result (List ℕ) E) (bytes : List ℕ) → good r ≡ Some bytes → r ≡ Ok bytes
-good_from (Ok b) bytes e = cc
-good_from (Err why) bytes e = absurd cc
 
 pub bytes_plain : (digits bytes : List ℕ) → SpellsBytes bytes digits → has_no_space digits ≡ true
 unfolding field_bytes
@@ -72,10 +69,6 @@ number_from t n e = (numerals_are_decimals t n).0 e
 
 pub number_to : (n : ℕ) → IsNumber n → number_of (decimal n) ≡ Some n
 number_to n lt = (numerals_are_decimals (decimal n) n).1 (refl, lt)
-
-pub mapped : {A B : Type 0} (f : A → B) (o : Option A) (m : B) → option_map f o ≡ Some m → (x : A) × (o ≡ Some x) × (f x ≡ m)
-mapped f None m e = absurd cc
-mapped f (Some x) m e = (x, refl, same_Some (f x) m e)
 
 -- ---- a key
 

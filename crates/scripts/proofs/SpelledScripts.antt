@@ -16,7 +16,8 @@ use Rattle.loader.proofs.Export.{word_is, no_space_in_name, no_space_in_number}
 use Rattle.oplog.specs.Calls.{Call as NumberedCall}
 use Rattle.scripts.specs.Script.{ProgramCall, Meaning, Comment, Call, InvokeAt, ReadAt, Install, named_call, numbered_call, new_program, word_meaning, call_meaning, line_meaning}
 use Rattle.scripts.specs.LineSpelling.{IsNumber, SpellsBytes, Spells, EachLineIsItsSpelling}
-use Rattle.scripts.proofs.Fields.{mapped, new_from, new_to, number_from, number_to, two_no_bytes}
+use Rattle.scripts.proofs.Fields.{new_from, new_to, number_from, number_to, two_no_bytes}
+use Rattle.encoding.proofs.Export.{mapped}
 
 -- ---- by words
 

@@ -13,8 +13,9 @@ use Rattle.scripts.specs.StepLine.{StepMeaning, Comment, Post, Install, ReadBegi
 use Rattle.scripts.specs.declared.step_lines.SlotAt.{SlotAt}
 use Rattle.scripts.specs.LineSpelling.{IsNumber, IsKey, SpellsBytes, SpellsStep, EachStepIsItsSpelling, key_text}
 use Rattle.loader.proofs.Export.{no_space_in_number}
-use Rattle.scripts.proofs.Fields.{key_plain, keyed_from, keyed_to, mapped, new_from, new_to, number_from, number_to}
+use Rattle.scripts.proofs.Fields.{key_plain, keyed_from, keyed_to, new_from, new_to, number_from, number_to}
 use Rattle.scripts.proofs.SpelledScripts.{by_word}
+use Rattle.encoding.proofs.Export.{mapped}
 
 -- ---- read
 

@@ -16,8 +16,9 @@ use Rattle.scripts.specs.Transcript.{TranscriptMeaning, Comment, Answered, Insta
 use Rattle.scripts.specs.declared.transcripts.ToldReply.{ToldReply}
 use Rattle.scripts.specs.LineSpelling.{IsNumber, IsKey, SpellsBytes, SpellsTold, EachToldIsItsSpelling, key_text, mode_letter}
 use Rattle.loader.proofs.Export.{no_space_in_mode, no_space_in_number}
-use Rattle.scripts.proofs.Fields.{bytes_plain, key_plain, keyed_from, keyed_to, mapped, new_from, new_to, number_from, number_to, program_from, program_to, two_no_bytes}
+use Rattle.scripts.proofs.Fields.{bytes_plain, key_plain, keyed_from, keyed_to, new_from, new_to, number_from, number_to, program_from, program_to, two_no_bytes}
 use Rattle.scripts.proofs.SpelledScripts.{by_word}
+use Rattle.encoding.proofs.Export.{mapped}
 
 -- ---- read
 

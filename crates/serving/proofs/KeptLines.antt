@@ -5,8 +5,7 @@ use Rattle.std.proofs.lemmas.List.{take_all, take-append-le, length-take, length
 use Rattle.std.proofs.lemmas.Slice.Eq.{bytes_eq-Decides}
 use Rattle.std.proofs.lemmas.Bool.{ltb-true, ltb-false, lt-ltb}
 use Rattle.std.specs.Result.{result_ok}
-use Rattle.std.specs.Str.{IsUtf8, is_utf8}
-use Rattle.std.proofs.lemmas.Str.{IsUtf8-from_is_utf8}
+use Rattle.std.specs.Str.{is_utf8}
 use Rattle.text.specs.Lines.{kind_of}
 use Rattle.encoding.specs.Encoded.{encoded}
 use Rattle.loader.specs.CatalogueView.{CatalogueView}
@@ -86,10 +85,3 @@ pub kept_full : (line left : List ℕ) (b : ℕ) → left ≡ take KEPT_BYTES li
 kept_full line left b is le =
     let long : KEPT_BYTES ≤ length line = omega (arith, length-take KEPT_BYTES line, ap length is) in
     is ∙ sym (take-append-le KEPT_BYTES line (b ∷ []) long)
-
-pub no_text : (bytes : List ℕ) → (IsUtf8 bytes → ⊥) → is_utf8 bytes ≡ false
-no_text bytes not = by_test (is_utf8 bytes) refl
-  where
-    by_test : (b : Bool) → is_utf8 bytes ≡ b → is_utf8 bytes ≡ false
-    by_test false is = is
-    by_test true is = absurd (not (IsUtf8-from_is_utf8 bytes is))

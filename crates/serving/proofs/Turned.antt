@@ -1,8 +1,7 @@
 -- Turn after turn: what was read, and what was written.
-use Rattle.std.proofs.Common.{◌≡◌, inl, inr, ℕ, ◌+◌, ◌<◌, Bool, List, [], ◌++◌, length, take, Option, Some, None, Result, Ok, Err, refl, sym, ap, subst, ◌∙◌, append_assoc, min}
+use Rattle.std.proofs.Common.{◌≡◌, inl, inr, ℕ, ◌+◌, ◌<◌, Bool, List, [], ◌++◌, length, take, Option, Some, None, Result, Ok, Err, refl, sym, ap, subst, ◌∙◌, append_assoc}
 use Rattle.std.proofs.Math.Seq.{take-append-add, take-length}
-use Rattle.std.proofs.lemmas.List.{append-nil, take-append-le, take_min}
-use Rattle.std.proofs.Math.Nat.{min-le_right}
+use Rattle.std.proofs.lemmas.List.{append-nil}
 use Rattle.std.proofs.lemmas.Option.{same_Some}
 use Rattle.std.specs.Io.KnownBytes.{Appends, Consumes, Keeps, IsAtEnd}
 use Rattle.loader.specs.StoreState.{StoreState}
@@ -20,6 +19,7 @@ use Rattle.running.proofs.Export as run_turns
 use Rattle.serving.specs.ServeAnswer.{ServiceState, Served, served, served_text, nothing_served, given_back, AnswersBytes, Ports, Serves}
 use Rattle.serving.specs.ServiceKept.{Stands, TakesBytes, Turns, Going}
 use Rattle.serving.proofs.Served.{served_parts, none_served}
+use Rattle.engine.proofs.Export.{appended, first_broken_off}
 
 -- the state that the lines of an input leave which are answered
 abbrev pub state_served : Bool → CatalogueView → List ℕ → StoreState
@@ -46,12 +46,6 @@ consumes_kept None y k = tt
 consumes_kept (Some x) None k = absurd k
 consumes_kept (Some x) (Some y) k = sym k
 
-pub appends_both : (x y z : Option (List ℕ)) (a b : List ℕ) → Appends x y a → Appends y z b → Appends x z (a ++ b)
-appends_both None y z a b p q = tt
-appends_both (Some x) None z a b p q = absurd p
-appends_both (Some x) (Some y) None a b p q = absurd q
-appends_both (Some x) (Some y) (Some z) a b p q = q ∙ ap (λ (t : List ℕ). t ++ b) p ∙ append_assoc x a b
-
 pub appends_none : (x : Option (List ℕ)) → Appends x x []
 appends_none None = tt
 appends_none (Some x) = sym (append-nil x)
@@ -62,13 +56,7 @@ appends_kept (Some x) None k = absurd k
 appends_kept (Some x) (Some y) k = k ∙ sym (append-nil x)
 
 pub begins_both : (x y z : Option (List ℕ)) (a b : List ℕ) → Appends x y a → AppendsBeginning y z b → AppendsBeginning x z (a ++ b)
-begins_both x y z a b p q = (length a + q.0, subst (λ (t : List ℕ). Appends x z t) (sym (take-append-add a b q.0)) (appends_both x y z a (take q.0 b) p q.1))
-
--- a beginning of a text is one of the longer text
-pub begins_longer : (x y : Option (List ℕ)) (a b : List ℕ) → AppendsBeginning x y a → AppendsBeginning x y (a ++ b)
-begins_longer x y a b p =
-    let k = min p.0 (length a) in
-    (k, subst (λ (t : List ℕ). Appends x y t) (sym (take-append-le k a b (min-le_right p.0 (length a)) ∙ take_min p.0 a)) p.1)
+begins_both x y z a b p q = (length a + q.0, subst (λ (t : List ℕ). Appends x z t) (sym (take-append-add a b q.0)) (appended x y z a (take q.0 b) p q.1))
 
 -- ---- how a turn ends
 
@@ -76,7 +64,7 @@ begins_longer x y a b p =
 pub no_memory_at : (old now new : Option (List ℕ)) (got : Status) (text : List ℕ → List ℕ) (bytes : List ℕ) (k : ℕ)
     → Appends old now (text (take k bytes)) → Sends now new got no_memory_line statuses.NoMemory → AnswersBytes old new got text bytes
 no_memory_at old now new got text bytes k p (inl whole) =
-    subst (λ (s : Status). AnswersBytes old new s text bytes) (sym whole.0) (k, appends_both old now new (text (take k bytes)) no_memory_line p whole.1)
+    subst (λ (s : Status). AnswersBytes old new s text bytes) (sym whole.0) (k, appended old now new (text (take k bytes)) no_memory_line p whole.1)
 no_memory_at old now new got text bytes k p (inr broke) =
     subst (λ (s : Status). AnswersBytes old new s text bytes) (sym broke.0) (inr (k, begins_both old now new (text (take k bytes)) no_memory_line p broke.1))
 
@@ -114,7 +102,7 @@ module _ (c : CatalogueView) (s : ServiceState) (service : Service) (given left 
     broke_off (Err e) taken sent =
         inr (
           taken.0,
-          begins_longer old new (served c s (take taken.0 bytes)).text no_memory_line
+          first_broken_off old new (served c s (take taken.0 bytes)).text no_memory_line
               (subst (λ (x : List ℕ). AppendsBeginning old new x) (taken.1 ∙ ap (λ (x : List ℕ). x ++ (served c s (take taken.0 bytes)).text) empty) sent),
         )
 
@@ -148,9 +136,9 @@ module _ (v : Bool) (c : CatalogueView) (before : List ℕ) where
 
   module _ (old now new : Option (List ℕ)) (bytes : List ℕ) (so_far : Appends old now (served_text v c before)) where
     pub answers_both : (status : Status) → AnswersBytes now new status (λ b. (served c here b).text) bytes → AnswersBytes old new status (served_text v c) (before ++ bytes)
-    answers_both statuses.Good a = subst (λ (t : List ℕ). Appends old new t) (text_both bytes) (appends_both old now new _ _ so_far a)
-    answers_both statuses.CannotRead a = subst (λ (t : List ℕ). Appends old new t) (text_both bytes) (appends_both old now new _ _ so_far a)
-    answers_both statuses.NoMemory a = (length before + a.0, subst (λ (t : List ℕ). Appends old new t) (take_both bytes a.0) (appends_both old now new _ _ so_far a.1))
+    answers_both statuses.Good a = subst (λ (t : List ℕ). Appends old new t) (text_both bytes) (appended old now new _ _ so_far a)
+    answers_both statuses.CannotRead a = subst (λ (t : List ℕ). Appends old new t) (text_both bytes) (appended old now new _ _ so_far a)
+    answers_both statuses.NoMemory a = (length before + a.0, subst (λ (t : List ℕ). Appends old new t) (take_both bytes a.0) (appended old now new _ _ so_far a.1))
     answers_both statuses.CannotWrite (inl a) = inl (subst (λ (t : List ℕ). AppendsBeginning old new t) (text_both bytes) (begins_both old now new _ _ so_far a))
     answers_both statuses.CannotWrite (inr a) =
         inr (length before + a.0, subst (λ (t : List ℕ). AppendsBeginning old new t) (take_both bytes a.0) (begins_both old now new _ _ so_far a.1))
@@ -175,7 +163,7 @@ module _ (v : Bool) (c at_turn : CatalogueView) (same : at_turn ≡ c) (service 
       record {
         bytes = going.bytes ++ turn.bytes;
         read = consumes_both given left rest going.bytes turn.bytes going.read turn.read;
-        answers = subst (λ (t : List ℕ). Appends old new t) (text_both v c going.bytes turn.bytes) (appends_both old now new _ _ going.answers turn.answers.0);
+        answers = subst (λ (t : List ℕ). Appends old new t) (text_both v c going.bytes turn.bytes) (appended old now new _ _ going.answers turn.answers.0);
         stands = subst (λ (t : Served). Stands t.serving after) (sym (served_parts c (nothing_served v) going.bytes turn.bytes)) turn.answers.1;
       }
 

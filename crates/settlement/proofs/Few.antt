@@ -10,7 +10,7 @@ use Rattle.replica.specs.StoreMeaning.{store_meaning}
 use Rattle.node.specs.Following.{no_records, may_answer}
 use Rattle.schedule.specs.Trace.{Updated, ReadBack, Back}
 use Rattle.schedule.specs.Stands.{StageStands}
-use Rattle.schedule.proofs.Export.{get_some, collected_is, of_store}
+use Rattle.schedule.proofs.Export.{collected_is, of_store}
 use Rattle.settlement.proofs.Handing.{HandsOut, HandsRead, collect_empties, read_empties}
 use Rattle.std.specs.Option.{option_and_then}
 use Rattle.std.proofs.lemmas.Bool.{false≢true}
@@ -32,6 +32,7 @@ use Rattle.settlement.specs.declared.calls.Taken.{Taken}
 use Rattle.settlement.specs.Settling.{before_taken, taken_of, handing_out, settling}
 use Rattle.settlement.proofs.OwnSteps.{Fact, Leads, Reaches, own_next, stands_on, the_store, node_after}
 use Rattle.settlement.proofs.Lines.{Side, SideOf, IsBare, IsAbove, IsAtEnd, IsUp, HasRest, Any, NotLogged, HasRoomFor, LeavesRoomFor, IsFree, kind_of, no_kind, by_guard, replay_empties, rebase_lifts, replay_ends, finish_completes, replay_rest, reply_ends, reclaim_frees, append_logs, batch_ends, claim_takes}
+use Rattle.node.proofs.Export.{get_some}
 
 empty_no : (r : AReply) → Empty ≡ Answered r → ⊥
 empty_no r is = absurd cc

@@ -24,9 +24,10 @@ use Rattle.schedule.specs.Trace.{Updated, ReadBack, Back, Trace}
 use Rattle.schedule.specs.Worlds.{NodeView, own_of}
 use Rattle.schedule.specs.Steps.{Part, with_call_or_back, session_of_slot, is_free, no_read, is_idle, with_read, read_answer}
 use Rattle.schedule.specs.Stands.{StageStands, batch_in}
-use Rattle.schedule.proofs.Export.{get_some, set_same, claimed_has, requests_have, has_answer}
+use Rattle.schedule.proofs.Export.{set_same, claimed_has, requests_have, has_answer}
 use Rattle.settlement.proofs.OwnSteps.{Fact, Stays, Leads, log_after, node_after, set_other}
 use Rattle.settlement.proofs.Lines.{IsUp, IsFree, up_stays, posted_at, no_kind, requests_alike, as_claimed}
+use Rattle.node.proofs.Export.{get_some}
 
 -- the slots below s are idle
 abbrev pub AreIdle : ℕ → NodeView → Type 0

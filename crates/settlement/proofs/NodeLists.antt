@@ -1,6 +1,7 @@
 -- The lists of steps.
 use Rattle.std.proofs.Common.{◌≡◌, ◌≢◌, ℕ, zero, suc, ◌+◌, ◌<◌, List, [], ◌∷◌, ◌++◌, refl, sym, ap, ◌∙◌, arith, append_assoc}
 use Rattle.std.specs.List.{AllByRecursion}
+use Rattle.std.proofs.lemmas.List.{append-nil}
 use Rattle.schedule.specs.declared.steps.Step.{Step}
 use Rattle.schedule.specs.declared.steps.Step.TheVariants.{Claim, Append, Replay, Finish, Reply, Collect, ReadAnswer, Reclaim, Rebase}
 use Rattle.schedule.specs.Steps.{node_of}
@@ -25,12 +26,8 @@ settling_next n slots =
     (handing_next n 0 slots ∙ ap (λ k. handing_out n 0 slots ++ Collect n k ∷ ReadAnswer n k ∷ []) i) in
     ap (settling n) more ∙ (whole ∙ sym (append_assoc (settling n slots) (Collect n slots ∷ []) (ReadAnswer n slots ∷ [])))
 
-append_nil : {A : Type 0} (xs : List A) → xs ++ [] ≡ xs
-append_nil [] = refl
-append_nil (x ∷ xs) = ap (λ ys. x ∷ ys) (append_nil xs)
-
 all_next : (n count slots : ℕ) → settling_all n (suc count) slots ≡ settling_all n count slots ++ settling (n + count) slots
-all_next n zero slots = let i : n ≡ n + 0 = omega arith in append_nil (settling n slots) ∙ ap (λ k. settling k slots) i
+all_next n zero slots = let i : n ≡ n + 0 = omega arith in append-nil (settling n slots) ∙ ap (λ k. settling k slots) i
 all_next n (suc count) slots =
     let i : suc n + count ≡ n + suc count = omega arith in
     ap (λ steps. settling n slots ++ steps) (all_next (suc n) count slots ∙ ap (λ k. settling_all (suc n) count slots ++ settling k slots) i)

@@ -10,12 +10,12 @@ use Rattle.schedule.specs.Steps.{node_of, part_of, took, world_after, world_of}
 use Rattle.schedule.specs.Taking.{IsStanding}
 use Rattle.settlement.specs.Settling.{handing_out, settling, NodesSettleAlone}
 use Rattle.settlement.specs.Others.{Woven, Ends, Own, OthersMove, Here, Later, NodesSettleOrOthersMove}
-use Rattle.schedule.proofs.Export.{get_some}
 use Rattle.settlement.proofs.OwnSteps.{Fact, Stays, Leads, Chain, Stops, Then, walk, log_after, node_after, the_store, stands_on, other_step}
 use Rattle.settlement.proofs.Lines.{SideOf, IsBare, IsAbove, IsAtEnd, IsUp, HasRest, Any, NotLogged, HasRoomFor, LeavesRoomFor, IsFree, any_stays, bare_stays, above_stays, end_stays, up_stays, rest_stays, replay_empties, rebase_lifts, replay_ends, finish_completes, replay_rest, reply_ends, reclaim_frees, append_logs, batch_ends, claim_takes}
 use Rattle.settlement.proofs.NodeLists.{AreOwn, settling_own}
 use Rattle.settlement.proofs.Few.{costs_settling}
 use Rattle.settlement.proofs.Handing.{HandsOut, HandsRead, hands_stay, hands_read_stay, collect_empties, read_empties}
+use Rattle.node.proofs.Export.{get_some}
 
 module _ (m : Opening) (n : ℕ) where
   abbrev size : ℕ

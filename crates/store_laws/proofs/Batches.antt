@@ -21,10 +21,12 @@ use Rattle.schedule.specs.declared.parts.Opening.{Opening}
 use Rattle.schedule.specs.Explains.{Explains}
 use Rattle.schedule.specs.Stands.{OpenAt}
 use Rattle.schedule.specs.Trace.{Call, Trace, Positions}
-use Rattle.schedule.proofs.Export.{take_length, take_snoc, explains_entry, get_new, get_some, count_self}
+use Rattle.schedule.proofs.Export.{take_length, take_snoc, explains_entry, count_self}
 use Rattle.store_laws.specs.Stands.{CallStands, EventsStand, IndexIs}
 use Rattle.store_laws.specs.Threads.{Moment}
 use Rattle.store_laws.proofs.Calls.{call_entry}
+use Rattle.maps.proofs.Export.{at_end}
+use Rattle.node.proofs.Export.{get_some}
 
 -- the call of a session that waits
 abbrev pub Waiting : Opening → (done : ℕ) → History → Positions → Trace → (x count : ℕ) → Pending → Type 0
@@ -140,7 +142,7 @@ module _ (m : Opening) (s : Moment) (positions : Positions) (t : Trace) (stands 
       let opened : OpenAt m (grown k ++ r ∷ []) (y.places ++ call.0 ∷ []) t r.author (length a.answered) Update o.op (Some (length (grown k))) call.0 = record {
         is_open = waiting.is_open;
         may = waiting.may;
-        has = subst (λ i. slice_get (y.places ++ call.0 ∷ []) i ≡ Some call.0) place (get_new y.places call.0);
+        has = subst (λ i. slice_get (y.places ++ call.0 ∷ []) i ≡ Some call.0) place (at_end y.places call.0);
         counts = count_self (grown k) r ∙ omega (arith, counts);
       } in
       let is : r ≡ record { author = r.author; seq = length a.answered; op = o.op } = λ i. record { author = r.author; seq = seq i; op = asked.2.2 i } in

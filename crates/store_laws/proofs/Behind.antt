@@ -9,7 +9,7 @@ use Rattle.loader.specs.CatalogueView.{CatalogueView}
 use Rattle.oplog.specs.declared.records.Record.{Record}
 use Rattle.accounts.specs.declared.sessions.Progress.{Progress}
 use Rattle.accounts.specs.Accounts.{Extends}
-use Rattle.accounts.proofs.Export.{no_next, at_front, at_one, at_there}
+use Rattle.accounts.proofs.Export.{at_front, at_one, at_there, no_next}
 use Rattle.replica.specs.StoreMeaning.{store_meaning}
 use Rattle.store_steps.specs.declared.values.Setup.{Setup}
 use Rattle.store_laws.specs.Meanwhile.{Meanwhile, StoreKnown, StoreState}

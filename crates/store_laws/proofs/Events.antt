@@ -1,11 +1,9 @@
 -- One session calls or is answered.
-use Rattle.std.proofs.Common.{◌≡◌, ◌≢◌, ℕ, ◌+◌, ◌≤◌, true, List, [], ◌∷◌, ◌++◌, length, Option, Some, None, sym, ap, ◌∙◌, subst, ⊎_elim, arith}
+use Rattle.std.proofs.Common.{◌≡◌, ◌≢◌, ℕ, ◌+◌, ◌≤◌, true, List, [], ◌∷◌, ◌++◌, length, Option, Some, None, sym, ◌∙◌, subst, ⊎_elim, arith}
 use Rattle.std.specs.Prelude.{slice_get}
 use Rattle.std.proofs.lemmas.Bool.{cases_eq}
-use Rattle.verifier.specs.declared.refusal.Mode.{Mode}
 use Rattle.verifier.specs.declared.refusal.Mode.TheVariants.{Update, Read}
 use Rattle.oplog.specs.Calls.{Call as ProgramCall}
-use Rattle.oplog.specs.Operations.{Operation}
 use Rattle.oplog.specs.declared.records.Op.TheVariants.{Run}
 use Rattle.oplog.specs.History.{History}
 use Rattle.replica.specs.StoreMeaning.{is_operation}
@@ -16,8 +14,8 @@ use Rattle.accounts.specs.Accounts.{HasNoRecord}
 use Rattle.schedule.specs.declared.parts.BegunRead.{BegunRead}
 use Rattle.schedule.specs.declared.parts.Opening.{Opening}
 use Rattle.schedule.specs.Explains.{Explains, count_of}
-use Rattle.schedule.specs.Trace.{Answer, Event, Call, Back, Trace, Positions, IsIdle, IsOpen, caller, stamp}
-use Rattle.schedule.proofs.Export.{stamp_of, Fine, Right, explains_event, in_trace, get_snoc, answers_more, open_new, open_once, op_in, stamp_less}
+use Rattle.schedule.specs.Trace.{Answer, Event, Call, Back, Trace, Positions, IsIdle, caller, stamp}
+use Rattle.schedule.proofs.Export.{stamp_of, Fine, explains_event, in_trace, get_snoc, answers_more, open_new, stamp_less}
 use Rattle.store_laws.specs.Threads.{IsTold, Moment}
 use Rattle.store_laws.specs.Stands.{CallStands, EventsStand}
 use Rattle.store_laws.proofs.Calls.{call_event}
@@ -104,11 +102,3 @@ module _ (m : Opening) (done : ℕ) (h : History) (positions : Positions) (t : T
 -- a return stays in the trace
 pub told_more : {t : Trace} {x : ℕ} {u : AnsweredUpdate} (e : Event) → IsTold t x u → IsTold (t ++ e ∷ []) x u
 told_more e told = (told.0, told.1, answers_more e told.2)
-
--- the session's one open call is rightly answered
-pub right_once : (m : Opening) (h : History) (positions : Positions) (t : Trace) (x : ℕ) (mode : Mode) (op : Operation) (c : ℕ) (a : Answer) → IsOpen t x mode op c → Right m h positions t op c a
-    → (k : Mode) (o : Operation) (d : ℕ) → IsOpen t x k o d → Right m h positions t o d a
-right_once m h positions t x mode op c a open_c right k o d open_d =
-    let w = open_once open_c open_d in
-    let same : op ≡ o = ap (op_in op) w.1 in
-    subst (λ y. Right m h positions t y d a) same (subst (λ y. Right m h positions t op y a) w.0 right)

@@ -1,5 +1,5 @@
 -- Each step of the threads keeps what holds of the notes and the events.
-use Rattle.std.proofs.Common.{◌≡◌, ℕ, zero, suc, ◌+◌, ◌≤◌, true, List, [], ◌∷◌, ◌++◌, length, map, take, drop, replicate, max, Option, Some, None, refl, sym, ap, ◌∙◌, subst, ⊎_elim, arith, length-append, append-nil}
+use Rattle.std.proofs.Common.{◌≡◌, ℕ, ◌+◌, ◌≤◌, true, List, [], ◌∷◌, ◌++◌, length, map, take, drop, max, Option, Some, None, refl, sym, ap, ◌∙◌, subst, ⊎_elim, arith, length-append, append-nil}
 use Rattle.std.specs.Prelude.{slice_get, slice_set}
 use Rattle.std.proofs.lemmas.Option.{same_Some, none-some, slice_get_within}
 use Rattle.ownlock.specs.Seats.{At}
@@ -28,34 +28,27 @@ use Rattle.schedule.specs.declared.parts.BegunRead.{BegunRead}
 use Rattle.schedule.specs.declared.parts.Opening.{Opening}
 use Rattle.schedule.specs.Stands.{OpenAt}
 use Rattle.schedule.specs.Trace.{Event, IsOpen, Call, Back, Updated, ReadBack, Trace, Positions}
-use Rattle.schedule.proofs.Export.{Right, get_new, get_set, get_snoc, get_some, set_length, set_same, idle_back, take_all_front, take_length}
+use Rattle.schedule.proofs.Export.{Right, get_set, get_snoc, set_same, idle_back, take_all_front, take_length, right_open, replicate_get, replicate_length}
 use Rattle.store_laws.specs.Threads.{Moment, ThreadStep, PutsBack, Raises, BeginsRead, AnswersRead, Runs, Begins, Then, AnswersAreTold, IsTold, ThreadsAreExplained, events_of}
 use Rattle.store_laws.specs.Stands.{CallStands, EventsStand, IndexIs, OpeningStands, StepsKeepIt}
 use Rattle.store_laws.proofs.Batches.{Waiting, batch_stands, map_length, waits_for}
 use Rattle.store_laws.proofs.Calls.{call_done}
-use Rattle.store_laws.proofs.Events.{AreOthers, calls_read, calls_update, right_once, stands_event, told_more, with_seats}
+use Rattle.store_laws.proofs.Events.{AreOthers, calls_read, calls_update, stands_event, told_more, with_seats}
 use Rattle.store_laws.proofs.Noted.{Kept, batch_noted, between, drop_front, event_noted, further, no_events, no_more, on_progress, own, progress_is, told_before}
+use Rattle.maps.proofs.Export.{length_set, at_end}
+use Rattle.node.proofs.Export.{get_some}
 
 abbrev L : Type 0
 L = Progress CatalogueView
 
 -- ---- the opening
 
-replicate_get : {A : Type 0} (n : ℕ) (v : A) (i : ℕ) (u : A) → slice_get (replicate n v) i ≡ Some u → v ≡ u
-replicate_get zero v i u e = absurd (none-some u e)
-replicate_get (suc n) v zero u e = same_Some v u e
-replicate_get (suc n) v (suc i) u e = replicate_get n v i u e
-
-pub replicate_long : {A : Type 0} (n : ℕ) (v : A) → length (replicate n v) ≡ n
-replicate_long zero v = refl
-replicate_long (suc n) v = ap suc (replicate_long n v)
-
 pub opening_stands : OpeningStands
 opening_stands m sessions = record {
   config = refl;
   catalogue = refl;
   completed = omega arith;
-  long = replicate_long sessions None ∙ sym (replicate_long sessions _);
+  long = replicate_length sessions None ∙ sym (replicate_length sessions _);
   explains = record {
     updates = λ i r e. absurd (none-some r e);
     each_placed = refl;
@@ -129,12 +122,12 @@ module _ (m : Opening) (s : Moment) (positions : Positions) (t : Trace) (stands 
           let just : IsTold (t ++ e ∷ []) c u = (
             waits.0,
             length t,
-            record { open_call = subst (λ z. IsOpen z c Update o.op waits.0) (sym (take_all_front t (e ∷ []))) waiting.is_open; back = get_new t e },
+            record { open_call = subst (λ z. IsOpen z c Update o.op waits.0) (sym (take_all_front t (e ∷ []))) waiting.is_open; back = at_end t e },
           ) in
           event_noted m s positions t stands c n here unread n' e
           (between c n.pending (Some o) n'.pending None (drop (length n.answered) n'.answered) (u ∷ []) asked (ap (λ (z : SessionNote). z.pending) is)
           (ap (λ (z : SessionNote). drop (length n.answered) z.answered) is ∙ drop_front n.answered (u ∷ [])))
-          refl (Update, o.op, waits.0, waiting.is_open, tt, right_once m s.progress.history positions t c Update o.op waits.0 (Updated (Placed i r)) waiting.is_open right) (omega (arith, low))
+          refl (Update, o.op, waits.0, waiting.is_open, tt, right_open m s.progress.history positions t c Update o.op waits.0 (Updated (Placed i r)) waiting.is_open right) (omega (arith, low))
           (λ q v has. ⊎_elim (λ old. told_more e (told_before m s positions t stands c n here unread q v old)) (λ new. subst (λ z. IsTold (t ++ e ∷ []) c z) new.1 just)
           (get_snoc n.answered u q v (subst (λ (z : SessionNote). slice_get z.answered q ≡ Some v) is has)))
           (subst (λ (z : SessionNote). CallStands m s.progress.completed s.progress.history positions (t ++ e ∷ []) c (length z.answered) z.pending None) (sym is) (idle_back t c (Updated (Placed i r)), omega (arith, counts, long)))
@@ -151,7 +144,7 @@ module _ (m : Opening) (s : Moment) (positions : Positions) (t : Trace) (stands 
           event_noted m s positions t stands c n here unread n' e
           (between c n.pending (Some o) n'.pending None (drop (length n.answered) n'.answered) [] asked (ap (λ (z : SessionNote). z.pending) is)
           (ap (λ (z : SessionNote). drop (length n.answered) z.answered) is ∙ (ap (drop (length n.answered)) (sym (append-nil n.answered)) ∙ drop_front n.answered [])))
-          refl (Update, o.op, waits.0, waiting.is_open, tt, right_once m s.progress.history positions t c Update o.op waits.0 (Updated Ended) waiting.is_open right) (omega (arith, full, config)) (still_told n' e (ap (λ (z : SessionNote). z.answered) is))
+          refl (Update, o.op, waits.0, waiting.is_open, tt, right_open m s.progress.history positions t c Update o.op waits.0 (Updated Ended) waiting.is_open right) (omega (arith, full, config)) (still_told n' e (ap (λ (z : SessionNote). z.answered) is))
           (subst (λ (z : SessionNote). CallStands m s.progress.completed s.progress.history positions (t ++ e ∷ []) c (length z.answered) z.pending None) (sym is) (idle_back t c (Updated Ended), omega (arith, counts)))
 
   desk_moves : (p : ℕ) (x : DeskView) (n' : SessionNote) → AgreesWith store_meaning p s.progress s.notes (TheDesk x) → DeskMove store_meaning x c s.progress n n' → Kept m positions (noting n') (t ++ events_of c n n')
@@ -211,7 +204,7 @@ module _ (m : Opening) (s : Moment) (positions : Positions) (t : Trace) (stands 
   others r y n read ne at begun = (at, ⊎_elim (λ same. absurd (ne same.0)) (λ old. old.1) (get_set s.reads x r y read begun))
 
   long : (r : Option BegunRead) → length (slice_set s.reads x r) ≡ length s.notes
-  long r = set_length s.reads x r ∙ stands.long
+  long r = length_set s.reads x r ∙ stands.long
 
   -- what stands of the session then
   this : (note : SessionNote) (old r : Option BegunRead) (e : Event) → At x note s.notes → slice_get s.reads x ≡ Some old → CallStands m done s.progress.history positions (t ++ e ∷ []) x (length note.answered) note.pending r
@@ -258,7 +251,7 @@ module _ (m : Opening) (s : Moment) (positions : Positions) (t : Trace) (stands 
         λ k before. let l = p.3 k before in omega (arith, l, low),
       ) in
       stands_event m s positions t x s.notes (slice_set s.reads x None) (others None) (long None) stands e refl
-      (Read, Run read.call, p.0, (p.1).is_open, tt, right_once m s.progress.history positions t x Read (Run read.call) p.0 (ReadBack answer) (p.1).is_open right) point (λ y q k u at has. told_more e (stands.told y q k u at has))
+      (Read, Run read.call, p.0, (p.1).is_open, tt, right_open m s.progress.history positions t x Read (Run read.call) p.0 (ReadBack answer) (p.1).is_open right) point (λ y q k u at has. told_more e (stands.told y q k u at has))
       (this note.0 (Some read) None e here begun
       (subst (λ z. CallStands m done s.progress.history positions (t ++ e ∷ []) x (length note.0.answered) z None) (sym on.0) (idle_back t x (ReadBack answer), omega (arith, counts))))
 

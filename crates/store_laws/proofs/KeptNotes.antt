@@ -3,6 +3,7 @@ use Rattle.std.proofs.Common.{◌≡◌, ◌≢◌, ◌⊎◌, ℕ, zero, suc, �
 use Rattle.std.specs.Prelude.{slice_set}
 use Rattle.std.proofs.lemmas.Bool.{cases_eq}
 use Rattle.std.specs.Global.{Box}
+use Rattle.accounts.proofs.Export.{at_below, at_one}
 use Rattle.ownlock.specs.declared.known.ShelfStep.{ShelfStep}
 use Rattle.ownlock.specs.Seats.{At, own_steps}
 use Rattle.ownlock.proofs.Export.{own_else, own_here}
@@ -20,7 +21,6 @@ use Rattle.accounts.specs.declared.sessions.Progress.{Progress}
 use Rattle.accounts.specs.declared.sessions.SessionNote.{SessionNote}
 use Rattle.accounts.specs.Moves.{BatchAppended, LogMove, Moves, placed_from}
 use Rattle.accounts.specs.Values.{StoreValue, TheLog, TheReplica, TheDesk}
-use Rattle.accounts.proofs.Export.{at_below, at_one}
 use Rattle.schedule.specs.declared.parts.Opening.{Opening}
 use Rattle.store_steps.specs.declared.values.Value.{Value}
 use Rattle.store_steps.specs.declared.values.Value.TheVariants.{Log, Replica, Desk}

@@ -12,10 +12,11 @@ use Rattle.accounts.proofs.Export.{get_of}
 use Rattle.schedule.specs.declared.parts.BegunRead.{BegunRead}
 use Rattle.schedule.specs.declared.parts.Opening.{Opening}
 use Rattle.schedule.specs.Trace.{Event, Trace, Positions, caller}
-use Rattle.schedule.proofs.Export.{stamp_of, Fine, get_set, set_length, set_same}
+use Rattle.schedule.proofs.Export.{stamp_of, Fine, get_set, set_same}
 use Rattle.store_laws.specs.Threads.{IsTold, Moment, events_between, events_of}
 use Rattle.store_laws.specs.Stands.{CallStands, EventsStand}
 use Rattle.store_laws.proofs.Events.{AreOthers, stands_event, stands_silent, told_more, with_seats}
+use Rattle.maps.proofs.Export.{length_set}
 
 abbrev L : Type 0
 L = Progress CatalogueView
@@ -75,7 +76,7 @@ module _ (m : Opening) (s : Moment) (positions : Positions) (t : Trace) (stands 
   others n' y k read ne at begun = (⊎_elim (λ same. absurd (ne same.0)) (λ old. old.1) (get_set s.notes c n' y k at), begun)
 
   long : (n' : SessionNote) → length s.reads ≡ length (slice_set s.notes c n')
-  long n' = stands.long ∙ sym (set_length s.notes c n')
+  long n' = stands.long ∙ sym (length_set s.notes c n')
 
   pub own : CallStands m done s.progress.history positions t c (length n.answered) n.pending None
   own = stands.calls c n None (get_of s.notes c n here) unread

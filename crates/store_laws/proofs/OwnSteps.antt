@@ -16,6 +16,7 @@ use Rattle.combiner.specs.Desks.{DeskView}
 use Rattle.store_steps.specs.declared.values.Value.{Value}
 use Rattle.store_steps.specs.declared.values.Value.TheVariants.{Desk}
 use Rattle.store_laws.specs.RunEvents.{StoreRun, StoreStep}
+use Rattle.maps.proofs.Export.{joined}
 
 abbrev pub first_or : {A : Type 0} → A → List A → A
 first_or d [] = d
@@ -102,10 +103,6 @@ Deskless x = (p : ℕ) (d : Box DeskView) → x ≡ Put p (Desk d) → ⊥
 abbrev pub DesklessPart : ShelfStep Part → Type 0
 DesklessPart x = (p : ℕ) (d : DeskView) → x ≡ Put p (ADesk d) → ⊥
 
-pub all_joined : {A : Type 0} (P : A → Type 0) (xs ys : List A) → AllByRecursion P xs → AllByRecursion P ys → AllByRecursion P (xs ++ ys)
-all_joined P [] ys a b = b
-all_joined P (x ∷ xs) ys a b = (a.0, all_joined P xs ys a.1 b)
-
 abbrev pub IsDeskPut : ShelfStep Part → Type 0
 IsDeskPut (Put p (ADesk d)) = Unit {0}
 IsDeskPut (Put p (ALog g)) = ⊥
@@ -128,7 +125,7 @@ follow_deskless false g m = tt
 
 pub look_deskless : (place : ℕ) (lacks : Bool) (g : LogView) (n m : NodeReplica) → AllByRecursion DesklessPart (look_deeds place lacks g n m)
 look_deskless place lacks g n m =
-    (other_part (Took place (AReplica n)) (λ z. z), all_joined DesklessPart (follow_deeds lacks g m) (Put place (AReplica m) ∷ []) (follow_deskless lacks g m) (other_part (Put place (AReplica m)) (λ z. z), tt))
+    (other_part (Took place (AReplica n)) (λ z. z), joined DesklessPart (follow_deeds lacks g m) (Put place (AReplica m) ∷ []) (follow_deskless lacks g m) (other_part (Put place (AReplica m)) (λ z. z), tt))
 
 pub from_parts : (xs : List (ShelfStep Value)) → AllByRecursion DesklessPart (map of_part xs) → AllByRecursion Deskless xs
 from_parts [] all = tt

@@ -4,6 +4,7 @@ use Rattle.std.specs.Prelude.{nat_lt, slice_set}
 use Rattle.std.proofs.lemmas.Bool.{cases_eq}
 use Rattle.std.specs.List.{AllByRecursion}
 use Rattle.std.proofs.lemmas.List.{append_cancel_left, append_cancel_right}
+use Rattle.accounts.proofs.Export.{at_below}
 use Rattle.ownlock.specs.declared.known.ShelfStep.{ShelfStep}
 use Rattle.ownlock.specs.Seats.{At, EndsWithOwn, own_steps, tails_in}
 use Rattle.ownlock.proofs.Export.{own_here}
@@ -22,13 +23,13 @@ use Rattle.accounts.specs.Told.{ReadTells}
 use Rattle.schedule.specs.declared.parts.BegunRead.{BegunRead}
 use Rattle.accounts.specs.declared.sessions.Progress.{Progress}
 use Rattle.accounts.specs.declared.sessions.SessionNote.{SessionNote}
-use Rattle.accounts.proofs.Export.{at_below}
 use Rattle.store_steps.specs.Shelving.{places_of, sessions_of}
 use Rattle.store_steps.specs.Standing.{SessionKnown}
 use Rattle.store_laws.specs.RunEvents.{Asks, Hears, MaySay, Sayings, StoreRun, StoreStep, begun_by, begun_in, opening_of, said_at}
 use Rattle.store_laws.specs.ReadsSaid.{EachMaySay, IsSilent, KeepsNote, LooksStand, OwnMaySay, ReadsMaySay, SilentMaySay}
-use Rattle.store_laws.proofs.OwnSteps.{first_or, other_part, none_some_list, tails_on, HasRead, first_read, HasOwn, own_split, Deskless, DesklessPart, all_joined, nothing_deskless, look_deskless, from_parts, all_taken, taken_behind, of_run, EndsIn, last_done, IsReadPart, PutsNoDesks}
+use Rattle.store_laws.proofs.OwnSteps.{first_or, other_part, none_some_list, tails_on, HasRead, first_read, HasOwn, own_split, Deskless, DesklessPart, nothing_deskless, look_deskless, from_parts, all_taken, taken_behind, of_run, EndsIn, last_done, IsReadPart, PutsNoDesks}
 use Rattle.store_laws.proofs.KeptNotes.{Fact, LastStep, Leads, begins, fact, keeps_note, untouched}
+use Rattle.maps.proofs.Export.{joined}
 
 abbrev L : Type 0
 L = Progress CatalogueView
@@ -123,7 +124,7 @@ looks_stand opening begun later k after point a b is_k is_after same batch look 
     none_put : PutsNoDesks c since
     none_put =
         let parts : AllByRecursion DesklessPart (map of_part look.did.since) =
-        subst (AllByRecursion DesklessPart) (sym look.did.are) (all_joined DesklessPart look.tries _ (nothing_deskless look.nothing)
+        subst (AllByRecursion DesklessPart) (sym look.did.are) (joined DesklessPart look.tries _ (nothing_deskless look.nothing)
         (other_part (Read look.loaded) (λ z. z), look_deskless (replica_place k.progress.config look.node) lacks look.log look.own look.left)) in
         let mine : own_steps c since ≡ and_then [] look.did.since = append_cancel_right (own_steps c since) (and_then [] look.did.since) k.steps (own ∙ (look.did.all ∙ taken_behind k.steps look.did.since)) in
         of_run c since (subst (AllByRecursion Deskless) (sym mine) (all_taken Deskless [] look.did.since tt (from_parts look.did.since parts)))

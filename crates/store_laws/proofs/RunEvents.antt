@@ -16,7 +16,7 @@ use Rattle.accounts.specs.Accounts.{Extends}
 use Rattle.accounts.specs.LogSteps.{first_progress, fresh_note}
 use Rattle.store_steps.proofs.Export.{store_laws}
 use Rattle.accounts.specs.Moves.{raised}
-use Rattle.accounts.proofs.Export.{some_none, at_below, get_of, move_seen}
+use Rattle.accounts.proofs.Export.{at_below, get_of, move_seen, some_none}
 use Rattle.accounts.specs.declared.sessions.Progress.{Progress}
 use Rattle.accounts.specs.declared.sessions.SessionNote.{SessionNote}
 use Rattle.accounts.specs.Moves.{BatchAppended, LogMove, Moves, placed_from, record_of}
@@ -25,15 +25,17 @@ use Rattle.schedule.specs.declared.parts.BegunRead.{BegunRead}
 use Rattle.schedule.specs.declared.parts.Opening.{Opening}
 use Rattle.schedule.specs.Explains.{Explains}
 use Rattle.schedule.specs.Trace.{Answer, Back, Event, Positions, Trace, stamp}
-use Rattle.schedule.proofs.Export.{get_some, set_length, set_same}
+use Rattle.schedule.proofs.Export.{set_same, replicate_length}
 use Rattle.store_steps.specs.declared.values.Value.{Value}
 use Rattle.store_steps.specs.Shelving.{IsSized, places_of, session_rules, sessions_of, store_rules, view_of}
 use Rattle.ownlock.specs.Runs.{Begins, Loads, Puts, Raises, Runs, Takes, keeping}
 use Rattle.store_laws.specs.RunEvents.{AnswersAreInRun, Asks, BetweenIsExplained, CalledLater, EachStepStands, EventsGoOn, Hears, KnownEventsBegin, MaySay, MaySayAll, Nothing, RunsAreExplained, Says, Sayings, StoreRun, StoreStep, UpdatesAreExplained, events_in, opened_for, begun_by, begun_in, opening_of, said_at, said_by}
 use Rattle.store_laws.specs.Stands.{EventsStand}
 use Rattle.store_laws.specs.Threads.{AnswersRead, BeginsRead, Moment, PutsBack, Raises as RaisesTail, ThreadStep, events_between, events_of}
-use Rattle.store_laws.proofs.Kept.{opening_stands, replicate_long, step_keeps}
+use Rattle.store_laws.proofs.Kept.{opening_stands, step_keeps}
 use Rattle.store_laws.proofs.Noted.{Kept, further, no_more, progress_is}
+use Rattle.maps.proofs.Export.{get_set_other, length_set}
+use Rattle.node.proofs.Export.{get_some}
 
 abbrev L : Type 0
 L = Progress CatalogueView
@@ -110,13 +112,6 @@ abbrev CanSayAll : Sayings → ℕ → StoreRun → Type 0
 CanSayAll says sessions [] = Unit {0}
 CanSayAll says sessions (e ∷ es) = CanSayAll says sessions es × CanSay (reads_in says sessions es) e (said_at says e es)
 
-get_else : {A : Type 0} (xs : List A) (i j : ℕ) (v : A) → j ≢ i → slice_get (slice_set xs i v) j ≡ slice_get xs j
-get_else [] i j v ne = refl
-get_else (x ∷ xs) zero zero v ne = absurd (ne refl)
-get_else (x ∷ xs) zero (suc j) v ne = refl
-get_else (x ∷ xs) (suc i) zero v ne = refl
-get_else (x ∷ xs) (suc i) (suc j) v ne = get_else xs i j v (λ e. ne (ap suc e))
-
 with_here : (reads : List (Option BegunRead)) (e : StoreStep) (w : Says) (old : Option BegunRead) → slice_get reads e.session ≡ Some old → slice_get (reads_with reads e w) e.session ≡ Some (begun_by e w old)
 with_here reads e Nothing old at = at
 with_here reads e (Asks call) old at = set_same reads e.session old (Some (record { call = call; seen = e.progress.completed })) at
@@ -124,8 +119,8 @@ with_here reads e (Hears answer) old at = set_same reads e.session old None at
 
 with_else : (reads : List (Option BegunRead)) (e : StoreStep) (w : Says) (c : ℕ) → c ≢ e.session → slice_get (reads_with reads e w) c ≡ slice_get reads c
 with_else reads e Nothing c ne = refl
-with_else reads e (Asks call) c ne = get_else reads e.session c (Some (record { call = call; seen = e.progress.completed })) ne
-with_else reads e (Hears answer) c ne = get_else reads e.session c None ne
+with_else reads e (Asks call) c ne = get_set_other reads e.session c (Some (record { call = call; seen = e.progress.completed })) ne
+with_else reads e (Hears answer) c ne = get_set_other reads e.session c None ne
 
 -- each session has begun what it said
 begun_at : (says : Sayings) (sessions : ℕ) (run : StoreRun) (c : ℕ) → c < sessions → slice_get (reads_in says sessions run) c ≡ Some (begun_in says c run)
@@ -248,9 +243,9 @@ module _ (m : Opening) (sessions places : ℕ) (says : Sayings) where
 -- ---- no read
 
 long_notes : (m : Opening) (sessions places : ℕ) {run : StoreRun} {l : L} {ns : List SessionNote} → Runs store_rules (opened_for m sessions places) run l ns → length ns ≡ sessions
-long_notes m sessions places Begins = replicate_long sessions fresh_note
+long_notes m sessions places Begins = replicate_length sessions fresh_note
 long_notes m sessions places (Takes run l ns c p x n r at agrees) = long_notes m sessions places r
-long_notes m sessions places (Puts run ns move y r among puts) = set_length ns move.session move.new_note ∙ long_notes m sessions places r
+long_notes m sessions places (Puts run ns move y r among puts) = length_set ns move.session move.new_note ∙ long_notes m sessions places r
 long_notes m sessions places (Loads run l ns c found n r at is) = long_notes m sessions places r
 long_notes m sessions places (Raises run l ns c k n r at reaches) = long_notes m sessions places r
 

@@ -4,6 +4,7 @@ use Rattle.std.specs.Prelude.{slice_set}
 use Rattle.std.proofs.lemmas.Bool.{cases_eq}
 use Rattle.std.proofs.lemmas.List.{append_cancel_left, append_cancel_right}
 use Rattle.std.specs.Global.{Box}
+use Rattle.accounts.proofs.Export.{at_below, at_one}
 use Rattle.ownlock.specs.declared.known.ShelfStep.{ShelfStep}
 use Rattle.ownlock.specs.declared.known.ShelfStep.TheVariants.{Put, Took}
 use Rattle.ownlock.specs.Seats.{At, EndsWithOwn, own_steps}
@@ -23,7 +24,6 @@ use Rattle.accounts.specs.declared.sessions.AnsweredUpdate.{AnsweredUpdate}
 use Rattle.accounts.specs.declared.sessions.Pending.{Pending}
 use Rattle.accounts.specs.declared.sessions.Progress.{Progress}
 use Rattle.accounts.specs.declared.sessions.SessionNote.{SessionNote}
-use Rattle.accounts.proofs.Export.{at_below, at_one}
 use Rattle.schedule.specs.Trace.{Back, Call, Updated}
 use Rattle.schedule.specs.declared.parts.Opening.{Opening}
 use Rattle.store_laws.proofs.Behind.{own_both}
@@ -42,6 +42,7 @@ use Rattle.store_laws.proofs.OwnSteps.{HasOwn, first_or, none_some_list, others,
 use Rattle.store_laws.proofs.RunEvents.{Stood, stood}
 use Rattle.store_laws.proofs.SessionEvents.{events_else, events_here, no_own_events, silent_events}
 use Rattle.store_laws.proofs.UpdateSteps.{AfterTook, Quiet, Since, UpdateDone, quiet_took, update_done, visits_since}
+use Rattle.store_laws.proofs.Noted.{drop_front}
 
 -- ---- a session that waits
 
@@ -105,17 +106,13 @@ module _ (m : Opening) (sessions places : ℕ) where
 
 -- ---- its answer
 
-drop_past : {A : Type 0} (xs ys : List A) → drop (length xs) (xs ++ ys) ≡ ys
-drop_past [] ys = refl
-drop_past (x ∷ xs) ys = drop_past xs ys
-
 drop_all : {A : Type 0} (xs : List A) → drop (length xs) xs ≡ []
 drop_all [] = refl
 drop_all (x ∷ xs) = drop_all xs
 
 returns_with : (c : ℕ) (o : Pending) (n : SessionNote) (op : Operation) (reply : Reply)
     → events_between c (Some o) None (drop (length n.answered) (noted_with n op reply).answered) ≡ Back c (Updated reply) ∷ []
-returns_with c o n op (Placed i reply) = ap (events_between c (Some o) None) (drop_past n.answered (record { index = i; op = op; reply = reply } ∷ []))
+returns_with c o n op (Placed i reply) = ap (events_between c (Some o) None) (drop_front n.answered (record { index = i; op = op; reply = reply } ∷ []))
 returns_with c o n op Ended = ap (events_between c (Some o) None) (drop_all n.answered)
 
 idle_after : (n : SessionNote) (op : Operation) (reply : Reply) → n.pending ≡ None → (noted_with n op reply).pending ≡ None

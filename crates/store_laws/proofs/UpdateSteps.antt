@@ -18,7 +18,7 @@ use Rattle.node.specs.Answering.{answered_batch}
 use Rattle.node.specs.declared.following.NodeReplica.{NodeReplica}
 use Rattle.atomic_table.proofs.Lists.{set_here}
 use Rattle.accounts.specs.Agreement.{desk_place, log_place, replica_place}
-use Rattle.accounts.proofs.Export.{WasEmpty, answered_at, answered_long, posted_is, at_below, at_one, at_mapped, at_there}
+use Rattle.accounts.proofs.Export.{WasEmpty, answered_at, answered_long, at_below, at_mapped, at_one, at_there, posted_is}
 use Rattle.store_steps.specs.Doing.{ADesk, ALog, AReplica, Did, Part, and_then, of_part}
 use Rattle.store_steps.specs.Pipelines.{Stays, Visit, Visits}
 use Rattle.store_steps.specs.Standing.{SessionKnown}
@@ -29,7 +29,8 @@ use Rattle.store_steps.specs.declared.values.Value.{Value}
 use Rattle.store_steps.specs.declared.values.Value.TheVariants.{Desk, Log, Replica}
 use Rattle.store_laws.specs.CallsMade.{PollsBy}
 use Rattle.store_laws.proofs.DeskNotes.{NotPut, value_or}
-use Rattle.store_laws.proofs.OwnSteps.{Deskless, DesklessPart, all_joined, all_taken, first_or, from_parts, none_some_list, nothing_deskless, other_part, others, taken_behind}
+use Rattle.store_laws.proofs.OwnSteps.{Deskless, DesklessPart, all_taken, first_or, from_parts, none_some_list, nothing_deskless, other_part, others, taken_behind}
+use Rattle.maps.proofs.Export.{joined}
 
 -- the second desk is that of the same node, and has the same slots empty
 abbrev pub KeepsEmpty : DeskView → DeskView → Type 0
@@ -214,11 +215,11 @@ module _ {want : ℕ} {g : LogView} {n : NodeReplica} where
   room_deskless (MovedBase due up) h = (other_part (Raised h.base) (λ z. z), tt)
 
   append_deskless : (room : RoomMade want g n) (h : LogView) → AllByRecursion DesklessPart (append_deeds room h)
-  append_deskless room h = (other_part (Took log_place (ALog g)) (λ z. z), all_joined DesklessPart (room_deeds room h) (Put log_place (ALog h) ∷ []) (room_deskless room h) (other_part (Put log_place (ALog h)) (λ z. z), tt))
+  append_deskless room h = (other_part (Took log_place (ALog g)) (λ z. z), joined DesklessPart (room_deeds room h) (Put log_place (ALog h) ∷ []) (room_deskless room h) (other_part (Put log_place (ALog h)) (λ z. z), tt))
 
   answer_deskless : (place : ℕ) (room : RoomMade want g n) (h : LogView) (m : NodeReplica) → AllByRecursion DesklessPart (answer_deeds place room h m)
   answer_deskless place room h m =
-      (other_part (Took place (AReplica n)) (λ z. z), all_joined DesklessPart (append_deeds room h) (Raised m.replica.tail ∷ Put place (AReplica m) ∷ []) (append_deskless room h) (other_part (Raised m.replica.tail) (λ z. z), (other_part (Put place (AReplica m)) (λ z. z), tt)))
+      (other_part (Took place (AReplica n)) (λ z. z), joined DesklessPart (append_deeds room h) (Raised m.replica.tail ∷ Put place (AReplica m) ∷ []) (append_deskless room h) (other_part (Raised m.replica.tail) (λ z. z), (other_part (Put place (AReplica m)) (λ z. z), tt)))
 
 -- a combine, after what was done before
 and_combine : (k m after : SessionKnown) (b answered : BatchView) → Since k m → CombinesBy m after b answered → Since k after
@@ -229,7 +230,7 @@ and_combine k m after b answered since c =
     let new = replied (answered_batch c.kept b) c.desk in
     let pair : List (ShelfStep Part) = Took at (ADesk c.desk) ∷ Put at (ADesk new) ∷ [] in
     let s : SplitIn deeds pair c.did.since = split_in deeds pair c.did.since (c.did.are ∙ sym (append_assoc c.tries (answer_deeds place c.room c.put c.left) pair)) in
-    let all : AllByRecursion Deskless s.first = from_parts s.first (subst (AllByRecursion DesklessPart) (sym s.first_is) (all_joined DesklessPart c.tries (answer_deeds place c.room c.put c.left) (nothing_deskless c.nothing) (answer_deskless place c.room c.put c.left))) in
+    let all : AllByRecursion Deskless s.first = from_parts s.first (subst (AllByRecursion DesklessPart) (sym s.first_is) (joined DesklessPart c.tries (answer_deeds place c.room c.put c.left) (nothing_deskless c.nothing) (answer_deskless place c.room c.put c.left))) in
     let quiet : Quiet (and_then [] s.first ++ since.steps) = quiet_deskless (and_then [] s.first) since.steps (all_taken Deskless [] s.first tt all) since.quiet in
     let t : TakesDesk at at c.desk new s.rest = takes_desk s.rest at at c.desk new s.rest_is in
     let before : and_then m.steps s.first ≡ (and_then [] s.first ++ since.steps) ++ k.steps = taken_behind m.steps s.first ∙ (ap (λ z. and_then [] s.first ++ z) since.is ∙ sym (append_assoc (and_then [] s.first) since.steps k.steps)) in
@@ -269,7 +270,7 @@ and_deed k m after since (ClaimsIt batch turn) = and_desk k m after _ _ turn.des
 and_deed k m after since (Answers node batch kept noted a) =
     let deeds = answer_deeds (replica_place m.progress.config node) a.room a.put a.left in
     let all = answer_deskless (replica_place m.progress.config node) a.room a.put a.left in
-    and_deskless k m after (a.tries ++ deeds) since (all_joined DesklessPart a.tries deeds (nothing_deskless a.nothing) all) a.did
+    and_deskless k m after (a.tries ++ deeds) since (joined DesklessPart a.tries deeds (nothing_deskless a.nothing) all) a.did
 and_deed k m after since (Gives node batch kept h) =
     and_desk k m after _ _ h.desk (replied (answered_batch kept batch) h.desk) since (replies_empty (answered_batch kept batch) h.desk) h.did
 

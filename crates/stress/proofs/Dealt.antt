@@ -3,6 +3,7 @@ use Rattle.std.proofs.Common.{◌≡◌, ◌∙◌, ℕ, zero, suc, ◌+◌, ◌
 use Rattle.std.specs.Prelude.{drop, map}
 use Rattle.std.specs.List.Sorted.{IsPermutation}
 use Rattle.std.proofs.lemmas.List.Sorted.{IsPermutation-refl, IsPermutation-trans, IsPermutation-cons, IsPermutation-append_comm}
+use Rattle.std.proofs.lemmas.List.{map-append}
 use Rattle.stress.specs.Dealt.{dealt, dealt_from, dealt_to}
 
 module _ {X : Type 0} (n : ℕ) where
@@ -52,10 +53,6 @@ one_map f n skip [] = refl
 one_map f n zero (c ∷ cs) = ap (λ rest. f c ∷ rest) (one_map f n (n - 1) cs)
 one_map f n (suc skip) (c ∷ cs) = one_map f n skip cs
 
-both_map : {X Y : Type 0} (f : X → Y) (xs ys : List X) → map f (xs ++ ys) ≡ map f xs ++ map f ys
-both_map f [] ys = refl
-both_map f (x ∷ xs) ys = ap (λ rest. f x ∷ rest) (both_map f xs ys)
-
 pub dealt_map : {X Y : Type 0} (f : X → Y) (n k count : ℕ) (cs : List X) → dealt_from n k count (map f cs) ≡ map f (dealt_from n k count cs)
 dealt_map f n k zero cs = refl
-dealt_map f n k (suc count) cs = (λ i. one_map f n k cs i ++ dealt_map f n (suc k) count cs i) ∙ sym (both_map f (dealt n k cs) (dealt_from n (suc k) count cs))
+dealt_map f n k (suc count) cs = (λ i. one_map f n k cs i ++ dealt_map f n (suc k) count cs i) ∙ sym (map-append f (dealt n k cs) (dealt_from n (suc k) count cs))

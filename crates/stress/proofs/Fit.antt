@@ -1,17 +1,17 @@
 -- The calls of a script: the digits of each spell bytes with which it is not refused.
-use Rattle.std.proofs.Common.{◌≡◌, ◌∙◌, ◌==◌, ◌+◌, ◌<◌, ℕ, Bool, true, false, List, [], ◌∷◌, ◌++◌, length, slice_get, nat_lt, Option, Some, None, Result, Ok, Err, refl, ap, subst}
-use Rattle.std.specs.Prelude.{if◌then◌else◌, option_map, option_and_then}
+use Rattle.std.proofs.Common.{◌≡◌, ◌∙◌, ◌==◌, ◌+◌, ◌<◌, ℕ, Bool, true, false, List, [], ◌∷◌, ◌++◌, length, nat_lt, Option, Some, None, Result, Ok, Err, refl, ap, subst}
+use Rattle.std.specs.Prelude.{if◌then◌else◌, option_and_then}
 use Rattle.std.specs.Option.{option_map_or}
 use Rattle.std.specs.List.{All}
 use Rattle.std.proofs.lemmas.Bool.{lt-ltb}
 use Rattle.std.proofs.lemmas.List.Elements.{All-nil, All-cons, All-append}
-use Rattle.std.proofs.lemmas.Option.{same_Some, slice_get_within}
+use Rattle.std.proofs.lemmas.Option.{same_Some}
 use Rattle.verifier.specs.declared.refusal.Mode.{Mode}
 use Rattle.verifier.specs.declared.refusal.Mode.TheVariants.{Update, Read}
 use Rattle.verifier.specs.Accepted.{Checked}
 use Rattle.text.specs.Lines.{next_line}
 use Rattle.text.specs.Digits.{field_bytes}
-use Rattle.loader.specs.CatalogueView.{CatalogueView, Entry, number_named}
+use Rattle.loader.specs.CatalogueView.{CatalogueView, number_named}
 use Rattle.replica.specs.StoreMeaning.{program_at}
 use Rattle.replica.specs.Refusals.{early_refusal, mode_refusal, offered_refusal, place_refusal, program_refusal}
 use Rattle.replica.specs.declared.refusals.StoreRefused.TheVariants.{UnknownProgram, ArgumentLength}
@@ -23,6 +23,7 @@ use Rattle.stress.specs.Calls.{Called, asked_refusal, program_named, asked_with,
 use Rattle.stress.proofs.Digits.{Spell, call_hex, invoke_hex, read_hex, install_hex}
 use Rattle.stress.proofs.Ready.{IsFree, free_with}
 use Rattle.stress.proofs.Script.{before}
+use Rattle.replica.proofs.Export.{offered_below}
 
 -- a run of program k, in its own mode, where the argument has its length
 abbrev if_length : List ℕ → ℕ → Checked → Option Asked
@@ -48,20 +49,12 @@ offered_free c k argument p below named long =
     ∙ ap (λ b. if b then mode_refusal p.mode p.mode else Some ArgumentLength) long
     ∙ own_mode p.mode
 
--- the number of a program is below the number of programs
-pub within : (c : CatalogueView) (k : ℕ) (p : Checked) → program_at c k ≡ Some p → k < length c.programs
-within c k p named = by (slice_get c.programs k) refl named
-  where
-    by : (o : Option Entry) → slice_get c.programs k ≡ o → option_map (λ (e : Entry). e.checked) o ≡ Some p → k < length c.programs
-    by None is e = absurd cc
-    by (Some x) is e = slice_get_within c.programs k x is
-
 named_free : (c : CatalogueView) (call : ProgramCall) → IsFree c call.argument (program_named c call)
 unfolding program_named
 named_free c call = by_number (number_named c.programs call.name)
   where
     by_length : (k : ℕ) (p : Checked) → program_at c k ≡ Some p → (b : Bool) → (length call.argument == p.arg_len) ≡ b → IsFree c call.argument (if b then Some (asks.Run p.mode k) else None)
-    by_length k p named true long = offered_free c k call.argument p (within c k p named) named long
+    by_length k p named true long = offered_free c k call.argument p (offered_below c k p named) named long
     by_length k p named false long = tt
 
     by_program : (k : ℕ) (o : Option Checked) → program_at c k ≡ o → IsFree c call.argument (option_and_then (if_length call.argument k) o)

@@ -1,6 +1,6 @@
 -- The lines of calls that agree are read as they were told, and agree.
-use Rattle.std.proofs.Common.{◌≡◌, ◌∙◌, ℕ, suc, ◌+◌, ◌-◌, ◌^◌, ◌≤◌, Bool, true, false, eqb, ltb, List, [], ◌∷◌, ◌++◌, map, length, decimal, Some, None, refl, sym, ap, subst, append_assoc, arith}
-use Rattle.std.specs.Prelude.{if◌then◌else◌, min, Option}
+use Rattle.std.proofs.Common.{◌≡◌, ◌∙◌, ℕ, suc, ◌+◌, ◌-◌, ◌^◌, ◌≤◌, true, eqb, ltb, List, [], ◌∷◌, ◌++◌, map, length, decimal, Some, None, refl, sym, ap, subst, append_assoc, arith}
+use Rattle.std.specs.Prelude.{min}
 use Rattle.std.specs.Option.{option_map_or}
 use Rattle.std.specs.List.{All}
 use Rattle.std.specs.Str.{IsUtf8}
@@ -22,7 +22,7 @@ use Rattle.oplog.specs.Operations.{Operation}
 use Rattle.oplog.specs.History.{reply_at, read_reply_at}
 use Rattle.replica.specs.StoreMeaning.{AreUpdates, is_operation, store_meaning}
 use Rattle.running.proofs.Export.{grown}
-use Rattle.replaying.specs.ReplayAnswer.{Replayed, Agrees, Bad, Differs, by_outcome, compared, ended_outcome, good_answer, good_text, line_outcome, next_count, read_agrees, told, transcript_answer, unless_barred, update_agrees, with_update}
+use Rattle.replaying.specs.ReplayAnswer.{Replayed, Agrees, Bad, by_outcome, compared, ended_outcome, good_answer, good_text, line_outcome, next_count, read_agrees, told, transcript_answer, unless_barred, update_agrees, with_update}
 use Rattle.engine.specs.Answer.{Answer}
 use Rattle.engine.specs.declared.replies.Verdict.TheVariants as verdicts
 use Rattle.stress.specs.declared.calls.Asked.{Asked}
@@ -36,20 +36,13 @@ use Rattle.stress.proofs.Fit.{IsFit}
 use Rattle.stress.proofs.Printed.{ArePrinted, is_utf8_line, no_feed}
 use Rattle.stress.proofs.ReadBack.{AreSmall, FitLines, asked_bytes, asked_operation, call_is, line_of, program_of, read_back, told_meaning}
 use Rattle.stress.proofs.Replies.{HasBytes, read_small, update_small}
+use Rattle.replaying.proofs.Export.{if_agrees, is_told}
 
 -- ---- what a line does
 
 -- as far as 64 bits go
 abbrev pub counted : ℕ → ℕ
 counted n = min n (2 ^ 64 - 1)
-
-if_agrees : (b : Bool) (to next : Replayed) → (if b then Agrees to else Differs) ≡ Agrees next → (b ≡ true) × (to ≡ next)
-if_agrees true to next e = (refl, cc)
-if_agrees false to next e = absurd cc
-
-is_told : (reply : ℕ) (o : Option ℕ) → option_map_or (λ r. eqb r reply) o false ≡ true → o ≡ Some reply
-is_told reply None e = absurd cc
-is_told reply (Some r) e = ap Some (eqb-true r reply e)
 
 inner : (to next : Replayed) → Agrees to ≡ Agrees next → to ≡ next
 inner to next e = cc

@@ -3,7 +3,7 @@ use Rattle.std.proofs.Common.{eq-eqb, ne_eqb, eqb, ◌≡◌, ◌∙◌, ◌⊎�
 use mathlib.Core.Option.{some-injective}
 use native.Mathlib.Decide.{ℕ_discrete}
 use native.Mathlib.Nat.{not-suc-le-zero, le_of_suc-le-suc}
-use Rattle.std.proofs.lemmas.List.{map_push}
+use Rattle.std.proofs.lemmas.List.{map_push, map-append}
 use Rattle.std.specs.Prelude.{Result, Ok, Err, IfOk, Vec}
 use Rattle.std.specs.Result.{result_ok}
 use Rattle.std.specs.List.Sorted.{IsPermutation}
@@ -22,7 +22,7 @@ use Rattle.accounts.specs.declared.sessions.AnsweredUpdate.{AnsweredUpdate}
 use Rattle.accounts.specs.declared.sessions.SessionNote.{SessionNote}
 use Rattle.accounts.specs.Accounts.{Extends, IsWellFormed}
 use Rattle.accounts.specs.Told.{Tells, ReadTells, note_with}
-use Rattle.accounts.proofs.Export.{at_below, at_front, at_joined, at_none, grown_long, at_there, reply_on, read_on}
+use Rattle.accounts.proofs.Export.{at_below, at_front, at_joined, at_none, at_there, grown_long, read_on, reply_on}
 use Rattle.combiner.specs.declared.slots.Reply.TheVariants.{Placed, Ended}
 use Rattle.readpath.specs.declared.reading.ReadAnswer.{ReadAnswer}
 use Rattle.store.specs.declared.answers.Answer.{Answer}
@@ -255,10 +255,6 @@ numbered_fresh shelf config c n xs is k d below =
 pub none_of_none : AreTold [] []
 none_of_none l each = record { so = All-nil (IsSoIn l); shown = λ k s at. absurd (at_none k s at); only = λ i. inl refl }
 
-both_map : {X Y : Type 0} (f : X → Y) (xs ys : List X) → map f (xs ++ ys) ≡ map f xs ++ map f ys
-both_map f [] ys = refl
-both_map f (x ∷ xs) ys = ap (λ rest. f x ∷ rest) (both_map f xs ys)
-
 module _ (sessions : List SessionView) (s : SessionView) (said more : List AnsweredCall) (known : AreTold sessions said) (new : IsTold s more) (l : Progress CatalogueView)
     (each : (k : ℕ) (z : SessionView) → At k z (sessions ++ s ∷ []) → Extends z.progress l × (z.session ≡ k)) where
   abbrev before : List ToldCall
@@ -323,7 +319,7 @@ module _ (sessions : List SessionView) (s : SessionView) (said more : List Answe
 
   all_told : AreToldIn l (sessions ++ s ∷ []) (said ++ more)
   all_told =
-      let both = sym (both_map told_of said more) in
+      let both = sym (map-append told_of said more) in
       record {
         so = subst (All (IsSoIn l)) both (All-append (IsSoIn l) before behind first.so (All-weaker (IsSoIn s.progress) (IsSoIn l) (so_on s.progress l ends.0) behind new.so));
         shown = λ k z at. subst (AreShown l z) both (shown_all k z at);

@@ -1,10 +1,9 @@
 -- What stands in the fields of a line: bytes of ASCII, none a line feed, and how many there are at most.
-use Rattle.std.proofs.Common.{◌≡◌, ◌∙◌, ℕ, ◌+◌, ◌-◌, ◌*◌, ◌^◌, ◌<◌, ◌≤◌, Bool, true, false, cond, eqb, leb, ltb, ◌&&◌, List, [], ◌∷◌, ◌++◌, length, codes, bytes_eq, decimal, Some, None, is_some, Result, Ok, Err, refl, sym, ap, subst, arith}
+use Rattle.std.proofs.Common.{◌≡◌, ◌∙◌, ℕ, ◌+◌, ◌-◌, ◌*◌, ◌^◌, ◌<◌, ◌≤◌, Bool, true, false, cond, eqb, leb, ltb, ◌&&◌, List, [], ◌∷◌, ◌++◌, length, codes, bytes_eq, decimal, Some, None, is_some, refl, sym, ap, subst, arith}
 use Rattle.std.specs.List.{list_all}
 use Rattle.std.specs.Str.{IsUtf8}
 use Rattle.std.proofs.lemmas.Bool.{and_parts, and_from, leb-true, le-leb, ltb-true, lt-ltb, false≢true}
 use Rattle.std.proofs.lemmas.Bool.Decides.{nat_tests}
-use Rattle.std.proofs.lemmas.Fmt.{length-decimal-le}
 use Rattle.std.proofs.lemmas.List.Folds.{list_all-append}
 use Rattle.std.proofs.lemmas.List.Sums.{AllPass-from_list_all, list_all-from_AllPass}
 use Rattle.std.proofs.lemmas.Str.{IsUtf8-from_ascii}
@@ -16,7 +15,7 @@ use Rattle.verifier.specs.declared.refusal.Mode.TheVariants.{Update, Read}
 use Rattle.text.specs.declared.words.TheConstants.{NAME_BYTES}
 use Rattle.text.specs.Digits.{good, field_bytes}
 use Rattle.text.specs.Words.{is_name_byte, is_name}
-use Rattle.text.proofs.Export.{HasNoFeed}
+use Rattle.text.proofs.Export.{HasNoFeed, good_from}
 use Rattle.loader.specs.Spelling.{mode_word}
 use Rattle.loader.proofs.Export.{word_is}
 use Rattle.scripts.proofs.Export.{digits_of_number}
@@ -52,9 +51,6 @@ in_range low high b above below h =
 pub number_printed : (n : ℕ) → n < 2 ^ 64 → ArePrinted (decimal n)
 number_printed n small = passing (λ b. leb 48 b && leb b 57) (λ b h. in_range 48 57 b (omega arith) (omega arith) h) (decimal n) (digits_of_number n small)
 
-pub number_short : (n : ℕ) → n < 2 ^ 64 → length (decimal n) ≤ 20
-number_short n small = length-decimal-le 20 n (omega arith) (omega (arith, small)) small
-
 name_byte_printed : (b : ℕ) → is_name_byte b ≡ true → is_printed b ≡ true
 name_byte_printed b h = grind (arith, nat_tests)
 
@@ -74,10 +70,6 @@ pub mode_printed : (m : Mode) → ArePrinted (mode_word m)
 mode_printed Update = refl
 mode_printed Read = refl
 
-pub mode_short : (m : Mode) → length (mode_word m) ≤ 6
-mode_short Update = omega arith
-mode_short Read = omega arith
-
 -- ---- digits
 
 hex_printed : (b : ℕ) → is_hex_digit b ≡ true → is_printed b ≡ true
@@ -89,10 +81,6 @@ hex_printed b h = by (leb 65 b && leb b 70) refl (leb 97 b && leb b 102) refl (l
     by false is true low d ten h = in_range 97 102 b (omega arith) (omega arith) low
     by false is false low true ten h = in_range 48 57 b (omega arith) (omega arith) ten
     by false is false low false ten h = absurd (false≢true h)
-
-good_from : {E : Type 0} (r : Result (List ℕ) E) (bytes : List ℕ) → good r ≡ Some bytes → r ≡ Ok bytes
-good_from (Ok b) bytes e = cc
-good_from (Err why) bytes e = absurd cc
 
 -- HEX has two digits for a byte, or is -
 abbrev pub IsHexOf : List ℕ → List ℕ → Type 0

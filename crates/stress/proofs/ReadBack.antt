@@ -16,7 +16,7 @@ use Rattle.oplog.specs.Calls.{NewProgram}
 use Rattle.oplog.specs.declared.records.Op.TheVariants as operations
 use Rattle.replica.specs.StoreMeaning.{IsCall, is_operation}
 use Rattle.replica.specs.Refusals.{early_refusal}
-use Rattle.replica.proofs.Export.{is_asked, may_install, are_tested}
+use Rattle.replica.proofs.Export.{is_asked, may_install, are_tested, offered_below}
 use Rattle.running.proofs.Export.{field_are_bytes}
 use Rattle.scripts.specs.Script.{ProgramKey, Named, Numbered, KeyedCall}
 use Rattle.scripts.specs.LineSpelling.{IsKey, IsNumber, SpellsTold, key_text}
@@ -28,10 +28,10 @@ use Rattle.stress.specs.declared.calls.Asked.{Asked}
 use Rattle.stress.specs.declared.calls.Asked.TheVariants as asks
 use Rattle.stress.specs.Calls.{asked_refusal, operation_on, told_as}
 use Rattle.stress.specs.Lines.{Said, Updated, Seen, Ended, asked_text, suits, update_letter}
-use Rattle.stress.proofs.Fit.{within}
-use Rattle.stress.proofs.Printed.{ArePrinted, both_printed, spaced_printed, hex_is, mode_printed, mode_short, name_printed, name_short, number_printed, number_short}
+use Rattle.stress.proofs.Printed.{ArePrinted, both_printed, spaced_printed, hex_is, mode_printed, name_printed, name_short, number_printed}
 use Rattle.stress.proofs.Programs.{number_is}
 use Rattle.stress.proofs.Replies.{HasBytes}
+use Rattle.dumps.proofs.Export.{digits_few, word_few}
 
 -- ---- programs by their names or numbers
 
@@ -122,7 +122,7 @@ module _ (c : CatalogueView) (whole : IsCatalogue c) (lines : FitLines c) where
 
   few_of_call : (mode : Mode) (k : ℕ) (bytes : List ℕ) → IsCall mode c (record { program = k; argument = bytes }) → IsFew k bytes
   few_of_call mode k bytes (inl h) =
-      let below = within c k h.program h.named in
+      let below = offered_below c k h.program h.named in
       let few : length c.programs ≤ 256 = whole.few in
       let long = h.length_is in
       let short : h.program.arg_len ≤ 192 = short_named k (slice_get c.programs k) h.program refl h.named in
@@ -153,14 +153,14 @@ module _ (c : CatalogueView) (whole : IsCatalogue c) (lines : FitLines c) where
   name_field k small = by (slice_get c.programs k) refl
     where
       by : (o : Option Entry) → slice_get c.programs k ≡ o → IsField 32 (name_or k o)
-      by None is = let short = number_short k small in (number_printed k small, omega (arith, short))
+      by None is = let short = digits_few k small in (number_printed k small, omega (arith, short))
       by (Some e) is = let name = (lines.0 k e is).0 in (name_printed e.name name, name_short e.name name)
 
   asked_field : (asked : Asked) → number_of_asked asked < 2 ^ 64 → IsField 32 (asked_text c asked)
   asked_field (asks.Run mode k) small = name_field k small
   asked_field (asks.Install mode arg_len) small =
-      let word = mode_short mode in
-      let number = number_short arg_len small in
+      let word = word_few mode in
+      let number = digits_few arg_len small in
       let both = length-append (mode_word mode) (32 ∷ decimal arg_len) in
       (spaced_printed (mode_word mode) (decimal arg_len) (mode_printed mode) (number_printed arg_len small), omega (arith, word, number, both))
 
@@ -177,8 +177,8 @@ module _ (c : CatalogueView) (whole : IsCatalogue c) (lines : FitLines c) where
   -- PLACE, a call and REPLY behind two bytes
   answered_field : (a b index reply : ℕ) (call : List ℕ) → IsNumber index → IsNumber reply → IsField 418 call → ArePrinted (a ∷ b ∷ []) → IsField 512 ((a ∷ b ∷ []) ++ (decimal index ++ 32 ∷ (call ++ 32 ∷ decimal reply)))
   answered_field a b index reply call small little field letter =
-      let place = number_short index small in
-      let last = number_short reply little in
+      let place = digits_few index small in
+      let last = digits_few reply little in
       let inner = field.1 in
       let back = length-append call (32 ∷ decimal reply) in
       let whole_line = length-append (decimal index) (32 ∷ (call ++ 32 ∷ decimal reply)) in (

@@ -1,9 +1,8 @@
 -- The replies of a catalogue's operations are numbers of 64 bits.
-use Rattle.std.proofs.Common.{◌≡◌, ◌∙◌, inl, inr, ℕ, ◌+◌, ◌-◌, ◌^◌, ◌<◌, ◌≤◌, Bool, true, false, List, length, Option, Some, None, slice_get, nat_lt, [], ◌∷◌, ◌++◌, refl, sym, ap, subst, arith}
+use Rattle.std.proofs.Common.{◌≡◌, ◌∙◌, inl, inr, ℕ, ◌+◌, ◌-◌, ◌^◌, ◌<◌, ◌≤◌, Bool, true, false, length, Option, Some, None, slice_get, nat_lt, [], ◌∷◌, ◌++◌, refl, sym, ap, subst, arith}
 use Rattle.std.specs.Prelude.{option_map, if◌then◌else◌}
-use Rattle.std.specs.List.{All}
 use Rattle.std.proofs.lemmas.Bool.{ltb-true}
-use Rattle.std.proofs.lemmas.Option.{same_Some, slice_get_within, get_or_from_slice_get}
+use Rattle.std.proofs.lemmas.Option.{same_Some}
 use Rattle.maps.specs.Maps.{AreBytes}
 use Rattle.verifier.specs.declared.refusal.Mode.{Mode}
 use Rattle.verifier.specs.declared.refusal.Mode.TheVariants.{Update, Read}
@@ -18,11 +17,7 @@ use Rattle.oplog.specs.declared.records.Op.TheVariants.{Run, Install}
 use Rattle.oplog.specs.History.{Effect, ReadEffect, History, state_after, reply_at, read_reply_at}
 use Rattle.replica.specs.HistoryLaws.{IsEffectOf}
 use Rattle.replica.specs.StoreMeaning.{AreUpdates, is_operation, no_place, placed, program_at, program_in, store_meaning}
-use Rattle.replica.proofs.Export.{have_effects}
-
--- what holds of all holds of each
-pub of_each : {X : Type 0} (P : X → Type 0) (xs : List X) (k : ℕ) (x : X) → All P xs → slice_get xs k ≡ Some x → P x
-of_each P xs k x all at = subst P (get_or_from_slice_get xs k x x at) (all k x (slice_get_within xs k x at))
+use Rattle.replica.proofs.Export.{have_effects, of_each}
 
 pub is_accepted : (c : CatalogueView) (k : ℕ) (p : Checked) → IsCatalogue c → program_at c k ≡ Some p → IsAccepted p
 is_accepted c k p whole named = by (slice_get c.programs k) refl named

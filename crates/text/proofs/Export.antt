@@ -6,4 +6,4 @@ pub use Rattle.text.proofs.FirstLines.{HasNoFeed, lines_of-cut}
 pub use Rattle.text.proofs.LineReadings.{IsSilent, by_empty, by_hash, by_kind_from, by_words}
 pub use Rattle.text.proofs.Numbers.{own}
 pub use Rattle.text.proofs.Numerals.{numerals_are_decimals}
-pub use Rattle.text.proofs.SpacedBytes.{spaced_are_bytes}
+pub use Rattle.text.proofs.SpacedBytes.{good_from, spaced_are_bytes}

@@ -5,7 +5,7 @@ use Rattle.hex.specs.Hex.{IsBytes}
 use Rattle.hex.proofs.HexLemmas.{decode_of-ok}
 use Rattle.text.specs.Digits.{good, is_blank, spaced_bytes}
 
-good_from : {E : Type 0} (r : Result (List ℕ) E) (bytes : List ℕ) → good r ≡ Some bytes → r ≡ Ok bytes
+pub good_from : {E : Type 0} (r : Result (List ℕ) E) (bytes : List ℕ) → good r ≡ Some bytes → r ≡ Ok bytes
 good_from (Ok b) bytes e = cc
 good_from (Err why) bytes e = absurd cc
 

@@ -1,6 +1,6 @@
 -- Where no rule is broken, none of them is, and the other way round.
 use Rattle.std.proofs.Common.{◌≡◌, Bool, true, false, cond, List, [], ◌∷◌, Option, Some, None, refl, sym}
-use Rattle.std.specs.Prelude.{◌||◌, ◌&&◌, find}
+use Rattle.std.specs.Prelude.{◌||◌, find}
 use Rattle.std.specs.List.{AllByRecursion}
 use Rattle.std.proofs.lemmas.Bool.{false≢true}
 use Rattle.insn.specs.declared.instruction.Form.{Form}
@@ -17,10 +17,6 @@ or_parts false b e = (refl, e)
 pub or_from : (a b : Bool) → a ≡ false → b ≡ false → a || b ≡ false
 or_from true b e g = absurd (false≢true (sym e))
 or_from false b e g = g
-
-pub both_true : (a b : Bool) → a && b ≡ true → (a ≡ true) × (b ≡ true)
-both_true true b e = (refl, e)
-both_true false b e = absurd (false≢true e)
 
 -- ---- the first that is found
 

@@ -20,10 +20,10 @@ use Rattle.verifier.specs.Joined.{common_cell, with_common_cells}
 
 -- ---- kinds
 
-same_int : (a b : ℤ) → int_eq a b ≡ true → a ≡ b
+pub same_int : (a b : ℤ) → int_eq a b ≡ true → a ≡ b
 same_int a b e = (Decides-int_eq a b).0 e
 
-int_same : (a : ℤ) → int_eq a a ≡ true
+pub int_same : (a : ℤ) → int_eq a a ≡ true
 int_same a = (Decides-int_eq a a).1 refl
 
 same_nat : (a b : ℕ) → a == b ≡ true → a ≡ b

@@ -22,11 +22,13 @@ use Rattle.verifier.specs.Joined.{common, in_common, leads, entry_at, joined_fra
 use Rattle.verifier.specs.Verdict.{refused, refusal_of, lowest_refusal, or_else}
 use Rattle.verifier.specs.Pass.{Table, IsForward, Meets, FlowsInto, Follows, VisitsFine, Visits}
 use Rattle.verifier.proofs.Monotone.{after_frame}
-use Rattle.verifier.proofs.Lists.{get_set, get_other, get_copy}
+use Rattle.verifier.proofs.Lists.{get_copy}
 use Rattle.verifier.proofs.Common.{common_frame, common_covers}
-use Rattle.verifier.proofs.Slots.{Widths, stands_inside}
+use Rattle.verifier.proofs.Slots.{Widths}
 use Rattle.verifier.proofs.Steps.{same_length}
 use Rattle.verifier.proofs.Joins.{one_target, leads_is, is_leads, along, out_of, out_of_both, out_of_neither, out_of_same, coming_in, coming_next, here, stays}
+use Rattle.maps.proofs.Export.{get_set_other, get_set_same}
+use Rattle.flow.proofs.Export.{stands_within}
 
 -- ---- frames that may be missing
 
@@ -146,8 +148,8 @@ module _ (i : Form) (at : ℕ) (d : Edge) (f : Frame) (frame : IsFrame f) (old n
       let is = flows_is old new to (frame_after i f d) (o to) (stands to edge.1 edge.2) (fine to) (after_frame i f d frame) h.2 in
       let long : length new ≡ length old = ap length is ∙ simp length-set refl in
       ⊎_elim
-      (λ eq. subst (λ u. slice_get new u ≡ Some (along d i at f u (o u))) (sym eq) (ap (λ xs. slice_get xs to) is ∙ get_set old to _ edge.2 ∙ ap Some (sym (leads_there to edge.0))))
-      (λ ne. ap (λ xs. slice_get xs t) is ∙ get_other old to t _ ne ∙ stands t on (omega arith) ∙ ap Some (sym (leads_not t (λ leads. ne (one_target i at t to d leads edge.0)))))
+      (λ eq. subst (λ u. slice_get new u ≡ Some (along d i at f u (o u))) (sym eq) (ap (λ xs. slice_get xs to) is ∙ get_set_same old to _ edge.2 ∙ ap Some (sym (leads_there to edge.0))))
+      (λ ne. ap (λ xs. slice_get xs t) is ∙ get_set_other old to t _ ne ∙ stands t on (omega arith) ∙ ap Some (sym (leads_not t (λ leads. ne (one_target i at t to d leads edge.0)))))
       (cases_eq t to)
   followed (inr h) stands fine = λ t on inside.
       let long : length new ≡ length old = ap length h.1 in
@@ -155,7 +157,7 @@ module _ (i : Form) (at : ℕ) (d : Edge) (f : Frame) (frame : IsFrame f) (old n
 
   -- slots behind it stay
   pub kept : Follows i at d (frame_after i f d) old new → (t : ℕ) → t ≤ at → slice_get new t ≡ slice_get old t
-  kept (inl h) t le = ap (λ xs. slice_get xs t) h.2.written ∙ get_other old h.0 t _ (λ e. let on = h.1.1 in omega arith)
+  kept (inl h) t le = ap (λ xs. slice_get xs t) h.2.written ∙ get_set_other old h.0 t _ (λ e. let on = h.1.1 in omega arith)
   kept (inr h) t le = ap (λ xs. slice_get xs t) h.1
 
 -- ---- the pass
@@ -217,10 +219,10 @@ over_half p l frames at so_far none = same_table p l frames at so_far (λ t o. a
 
 module _ (p : List Form) (l : Signature) (frames : Table) (at : ℕ) (so_far : Swept p l frames at) (i : Form) (stands : StandsAt p i at) where
   pub inside : at < length frames
-  inside = omega (arith, stands_inside p i at stands, so_far.long)
+  inside = omega (arith, stands_within p i at stands, so_far.long)
 
   joined_is : (o : Option Frame) → slice_get frames at ≡ Some o → joined_frame p at ≡ o
-  joined_is o e = let known = known_to p l frames at so_far at (omega arith) (stands_inside p i at stands) in cc
+  joined_is o e = let known = known_to p l frames at so_far at (omega arith) (stands_within p i at stands) in cc
 
   pub there : (f : Frame) → slice_get frames at ≡ Some (Some f) → IsFrame f
   there f e = subst IsFine (joined_is (Some f) e) (joined_fine p at)
@@ -265,5 +267,5 @@ module _ (p : List Form) (l : Signature) (frames : Table) (at : ℕ) (so_far : S
   -- where a rule is broken
   pub broken_here : (f : Frame) (why : VerifyFault) → slice_get frames at ≡ Some (Some f) → first_broken l i f ≡ Some why → lowest_refusal p l (size p) ≡ Some (refused at why)
   broken_here f why e broken =
-      let within = stands_inside p i at stands in
+      let within = stands_within p i at stands in
       lowest_stays p l (suc at) (size p) (refused at why) (lowest_next p l at (Some i) (Some f) so_far.unbroken stands (joined_is (Some f) e) ∙ ap (option_map (refused at)) broken) (omega arith)

@@ -8,14 +8,13 @@ use Rattle.insn.specs.Layout.{size}
 use Rattle.regkind.specs.Frames.{Frame, Covers, IsFrame, entry_frame}
 use Rattle.regkind.proofs.Export.{IsFrame-entry}
 use Rattle.flow.specs.Structure.{IsStructured}
-use Rattle.flow.proofs.Export.{target_stands}
+use Rattle.flow.proofs.Export.{target_stands, stands_within}
 use Rattle.verifier.specs.Signature.{Signature}
 use Rattle.verifier.specs.Rules.{first_broken}
 use Rattle.verifier.specs.FrameAfter.{frame_after}
 use Rattle.verifier.specs.Pass.{Table, or_entry, frame_at, IsTypedBy}
 use Rattle.verifier.specs.Joined.{joined_frame}
 use Rattle.verifier.specs.Verdict.{lowest_refusal}
-use Rattle.verifier.proofs.Slots.{stands_inside}
 use Rattle.verifier.proofs.Joins.{joined_at, or_entry_frame, has_joined}
 use Rattle.verifier.proofs.VerdictLaws.{typed_by_joins}
 
@@ -35,14 +34,14 @@ module _ (p : List Form) (l : Signature) (structured : IsStructured p) (xs : Tab
       let by_joins = typed_by_joins p l structured unbroken in
       record {
         slots = long;
-        each = λ i s stands. (joined_at p s, known s (stands_inside p i s stands) ∙ ap Some (has_joined p structured i s stands).0);
+        each = λ i s stands. (joined_at p s, known s (stands_within p i s stands) ∙ ap Some (has_joined p structured i s stands).0);
         typing = record {
           frames = λ s. ⊎_elim (λ lt. subst IsFrame (sym (at_is s lt)) (by_joins.frames s)) (λ ge. subst IsFrame (sym (past s ge)) IsFrame-entry) (cases_lt s (size p));
           entry = subst (λ g. Covers g entry_frame) (sym (at_is 0 structured.size_good.some)) by_joins.entry;
-          each = λ i s stands. ap (first_broken l i) (at_is s (stands_inside p i s stands)) ∙ by_joins.each i s stands;
+          each = λ i s stands. ap (first_broken l i) (at_is s (stands_within p i s stands)) ∙ by_joins.each i s stands;
           edges = λ i s t d leads.
               let to = target_stands p i s t d structured leads.0 leads.1 in
-              subst (λ g. Covers g (frame_after i (frame_at xs s) d)) (sym (at_is t (stands_inside p to.0 t to.1)))
-              (subst (λ g. Covers (joined_at p t) (frame_after i g d)) (sym (at_is s (stands_inside p i s leads.0))) (by_joins.edges i s t d leads));
+              subst (λ g. Covers g (frame_after i (frame_at xs s) d)) (sym (at_is t (stands_within p to.0 t to.1)))
+              (subst (λ g. Covers (joined_at p t) (frame_after i g d)) (sym (at_is s (stands_within p i s leads.0))) (by_joins.edges i s t d leads));
         };
       }

@@ -13,7 +13,7 @@ use Rattle.regkind.proofs.Export.{covers_antisymmetric, IsFrame-entry}
 use Rattle.flow.specs.Structure.{IsStructured, StandsAt}
 use Rattle.flow.specs.declared.rules.Broken.{Broken}
 use Rattle.flow.specs.Faults.{structure_fault}
-use Rattle.flow.proofs.Export.{leads_on, target_stands, structured_from_fault, broken_from_fault, broken_is_not_structured, only_one_broken, no_fault_iff, fault_iff}
+use Rattle.flow.proofs.Export.{leads_on, target_stands, structured_from_fault, broken_from_fault, broken_is_not_structured, only_one_broken, no_fault_iff, fault_iff, stands_within}
 use Rattle.verifier.specs.declared.refusal.VerifyFault.{VerifyFault}
 use Rattle.verifier.specs.declared.refusal.Refused.{Refused}
 use Rattle.verifier.specs.Signature.{Signature}
@@ -21,7 +21,6 @@ use Rattle.verifier.specs.Rules.{first_broken}
 use Rattle.verifier.specs.Typing.{Frames, IsTyping, IsTypable, ComesTo, IsKnownAt, FirstBrokenKind, Refuses, RefusedByStructure, RefusedByKinds, structure_reason}
 use Rattle.verifier.specs.Joined.{joined_frame}
 use Rattle.verifier.specs.Verdict.{refused, refusal_of, or_else, lowest_refusal, after_structure, verdict}
-use Rattle.verifier.proofs.Slots.{stands_inside}
 use Rattle.verifier.proofs.Joins.{same_form, Below, joined_at, has_joined, is_join, joins, comes_same, ComesIn, or_entry_frame}
 use Rattle.verifier.proofs.Untypable.{untypable}
 
@@ -93,7 +92,7 @@ module _ (p : List Form) (l : Signature) (structured : IsStructured p) where
   typed_by_joins e = record {
     frames = λ s. all_frames s (joined_frame p s) refl;
     entry = first_entry;
-    each = λ i s stands. fine (size p) e i s stands (stands_inside p i s stands);
+    each = λ i s stands. fine (size p) e i s stands (stands_within p i s stands);
     edges = λ i s t d leads.
         let there = target_stands p i s t d structured leads.0 leads.1 in
         (is_join p structured there.0 t there.1).no_more _ (ComesTo.along i s d (joined_at p s) leads (leads_on p i s t d structured leads.0 leads.1) refl);

@@ -2,8 +2,9 @@ use Rattle.std.proofs.Common.{sym, ◌∙◌, ap}
 use Rattle.std.specs.Prelude.{is_some}
 use Rattle.maps.specs.Shapes.{entry_count}
 use Rattle.dumps.specs.Loading.{is_hash}
-use Rattle.dumps.proofs.Faults.{alike, value_there, known_key, hash_room, array_room}
+use Rattle.dumps.proofs.Faults.{alike, known_key, hash_room, array_room}
 use Rattle.dumps.proofs.Entries.{same_shape}
+use Rattle.helpers.proofs.Export.{value_there}
 use Rattle.dumps.proofs.loading.has_room.Goals as goal
 
 pub returns-then-is_some : goal.returns-then-is_some

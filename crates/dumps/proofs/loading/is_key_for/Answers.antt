@@ -2,8 +2,9 @@ use Rattle.std.proofs.Common.{sym, ◌∙◌, ap}
 use Rattle.std.specs.Prelude.{is_some}
 use Rattle.maps.specs.Shapes.{key_size}
 use Rattle.dumps.specs.Loading.{is_hash}
-use Rattle.dumps.proofs.Faults.{alike, value_there, other_size, hash_key, array_key}
+use Rattle.dumps.proofs.Faults.{alike, other_size, hash_key, array_key}
 use Rattle.dumps.proofs.Entries.{same_shape}
+use Rattle.helpers.proofs.Export.{value_there}
 use Rattle.dumps.proofs.loading.is_key_for.Goals as goal
 
 pub returns-then-key-key_bytes : goal.returns-then-key-key_bytes

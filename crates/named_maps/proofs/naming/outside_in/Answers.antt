@@ -1,9 +1,9 @@
-use Rattle.std.proofs.Common.{◌≡◌, ◌+◌, arith, refl, sym, ap, ◌∙◌, false, length}
-use Rattle.std.proofs.lemmas.Bool.{false≢true}
+use Rattle.std.proofs.Common.{◌+◌, arith, refl, sym, ap, ◌∙◌, false}
 use Rattle.insn.specs.Layout.{slot_count}
-use Rattle.verifier.proofs.Export.{slot_after, stands_here, stands_inside}
+use Rattle.verifier.proofs.Export.{slot_after, stands_here}
 use Rattle.named_maps.specs.Naming.{is_outside}
 use Rattle.named_maps.proofs.Named.{found_outside, none_outside, passed_on}
+use Rattle.flow.proofs.Export.{stands_within}
 use Rattle.named_maps.proofs.naming.outside_in.Goals as goal
 
 pub loop-insn-init : goal.loop-insn-init
@@ -17,7 +17,7 @@ returns-then-is_outside-clause-slot c =
 pub returns-then-is_outside-clause-few : goal.returns-then-is_outside-clause-few
 returns-then-is_outside-clause-few c =
     let stands = stands_here c.args.program.now c.loop-insn.insn-index c.loop-insn.slot c.insn-item.result c.loop-insn-test.true c.insn-item.is c.loop-insn.invariant.0 in
-    omega (arith, stands_inside c.args.program.now c.insn-item.result c.loop-insn.slot stands, c.requires.few)
+    omega (arith, stands_within c.args.program.now c.insn-item.result c.loop-insn.slot stands, c.requires.few)
 
 pub overflow_add-slot : goal.overflow_add-slot
 overflow_add-slot c =

@@ -3,9 +3,10 @@ use Rattle.std.proofs.lemmas.Str.{is_utf8-from_IsUtf8}
 use Rattle.oplog.specs.declared.configuration.TheConstants.{ENDLESS}
 use Rattle.std.specs.Str.{is_utf8}
 use Rattle.serving.specs.StoreText.{asks}
-use Rattle.serving.proofs.KeptLines.{told_turn, read_turn, no_turn, no_text}
+use Rattle.serving.proofs.KeptLines.{told_turn, read_turn, no_turn}
 use Rattle.running.proofs.Export.{taken_so}
 use Rattle.serving.proofs.LineTurns.{none_taken, told}
+use Rattle.engine.proofs.Export.{not_text_from_err}
 use Rattle.serving.proofs.service.Service.take_left.Goals as goal
 
 pub returns-then-asks-clause-taken : goal.returns-then-asks-clause-taken
@@ -20,7 +21,7 @@ returns-in_default-clause-taken c = λ s stands.
     let k = c.args.self.now.catalogue in
     let kept = c.as_slice-kept.result.now in
     none_taken k _ c.args.self.now.node c.args.self.now.answer.items
-    (no_turn s.has_values k s.history s.left kept (c.as_slice-kept.ensures.value ∙ stands.left) (sym c.asks.ensures ∙ c.if-asks.false) (no_text kept c.in_default.ensures.cases.0))
+    (no_turn s.has_values k s.history s.left kept (c.as_slice-kept.ensures.value ∙ stands.left) (sym c.asks.ensures ∙ c.if-asks.false) (not_text_from_err kept c.in_default.ensures.cases.0))
 
 pub returns-then-self-clause-taken : goal.returns-then-self-clause-taken
 returns-then-self-clause-taken c = λ s stands.
