@@ -1,7 +1,7 @@
 // A store as one value, and its steps.
 
 ghost use Rattle.std.specs.Prelude.{◌≡◌, ◌≢◌, ◌↔◌, ◌<◌, ◌≤◌, [], ◌∷◌, length, replicate, slice_get, Some, None, option_map, IfOk, IfErr, OnErr};
-ghost use Rattle.loader.specs.CatalogueView.{IsCatalogue, MayOpenOn, OpensOn, with_long_places, with_places};
+ghost use Rattle.loader.specs.CatalogueView.{IsCatalogue, MayOpenOn, OpensOn, with_long_places};
 ghost use Rattle.oplog.specs.Limits.{sizes_in, AreSizes, IsConfig};
 ghost use Rattle.oplog.specs.declared.configuration.OpenError.TheVariants.{OtherState, OutOfLimits};
 ghost use Rattle.schedule.specs.Worlds.{new_log, opened_node, opened_nodes, opening_of, opening_on};
@@ -125,32 +125,8 @@ impl World {
         }
     }
 
-    /// `open`, but on a state that was taken out of another store: the maps have what the state's maps have, and the programs that were
-    /// installed there are installed.
-    ///
-    /// # Errors
-    ///
-    /// O1 where a number of the configuration is out of its limits, then O3 where the state has other maps than the catalogue, or more
-    /// or longer programs than there is room for, then O2 where there is no memory.
-    pub fn open_on(
-        alloc: Global,
-        config: Config,
-        catalogue: Catalogue,
-        state: &StoreState,
-    ) -> Result<World, OpenError>
-        ensures limits { IfErr result (λ e. (e ≡ OutOfLimits) ↔ (IsConfig config → ⊥)) }
-        ensures other { IfErr result (λ e. (e ≡ OtherState) ↔ IsConfig config × (MayOpenOn (with_places catalogue config.spare) state.now → ⊥)) }
-        ensures within { IfOk result (λ w. IsConfig config × MayOpenOn (with_places catalogue config.spare) state.now) }
-        ensures opened { IfOk result (λ w. w ≡ opened_store (opening_on (sizes_in config) catalogue state.now)) }
-        ensures stands { IfOk result (λ w. Stands w.opening w.world [] [] []) }
-    {
-        if !config.is_within_limits() {
-            return Err(OpenError::OutOfLimits);
-        }
-        World::open_sized_on(alloc, config.sizes(), catalogue, state)
-    }
-
-    /// A store of these sizes on a state, as [`World::open_on`] has it.
+    /// `open_sized`, but on a state that was taken out of another store: the maps have what the state's maps have, and the programs that
+    /// were installed there are installed.
     ///
     /// # Errors
     ///
