@@ -2,17 +2,11 @@
 use Rattle.std.proofs.Common.{◌≡◌, refl, None, Some, Option, MatchOption, Result, Ok, Err, sym, ap, subst}
 use Rattle.accounts.specs.declared.sessions.Pending.{Pending}
 use Rattle.store_steps.specs.Views.{SessionView}
-use Rattle.store.specs.Looks.{TellsTried, TriedGoes, IfUnanswered}
+use Rattle.store.specs.Looks.{TellsTried, IfUnanswered}
 use Rattle.host_calls.specs.declared.attached.Looked.{Looked}
 use Rattle.host_calls.specs.declared.attached.Looked.TheVariants.{IsOut}
 use Rattle.host_calls.specs.Looks.{TellsLook, TellsNo, TellsSight, look_of}
 use Rattle.host_calls.specs.CallResults.{HasGrown}
-
--- what a try tells of its answer, and how it went
-pub both : {A E : Type 0} (P Q : A → Type 0) (result : Result (Option A) E) → TellsTried result P → TriedGoes result Q → TellsTried result (λ a. P a × Q a)
-both P Q (Err why) t g = absurd t
-both P Q (Ok None) t g = t
-both P Q (Ok (Some a)) t g = (t, g)
 
 module _ {A E : Type 0} (words : E → Looked) (seen : A → Looked) (kept : Type 0) (P : A → Type 0) (Q : Looked → Type 0) (made : (a : A) → P a → TellsSight kept Q (seen a)) where
   -- where it isn't refused

@@ -1,5 +1,7 @@
 -- What a session tells of an update or a read that is asked of it.
-use Rattle.std.specs.Prelude.{◌≡◌, ◌≤◌, length, Some, Option, MatchOption}
+use Rattle.std.specs.Prelude.{◌≡◌, ℕ, ◌≤◌, length, Some, Option, MatchOption}
+use Rattle.loader.specs.CatalogueView.{CatalogueView}
+use Rattle.loader.specs.StoreState.{StoreState}
 use Rattle.oplog.specs.Operations.{Operation}
 use Rattle.combiner.specs.declared.slots.Reply.TheVariants.{Placed, Ended}
 use Rattle.readpath.specs.declared.reading.ReadAnswer.{ReadAnswer}
@@ -9,7 +11,9 @@ use Rattle.replica.specs.declared.refusals.StoreRefused.TheVariants.{Ended as Th
 use Rattle.accounts.specs.declared.sessions.Pending.{Pending}
 use Rattle.accounts.specs.Accounts.{Extends, IsWellFormed}
 use Rattle.store_steps.specs.Views.{SessionView}
-use Rattle.store.specs.Looks.{IsSight, HasReply}
+use Rattle.store.specs.Looks.{HasReply}
+use Rattle.store_steps.specs.Sights.{SightTells}
+use Rattle.store.specs.Sessions.{IsFresh}
 use Rattle.store.specs.Polled.{HasPostedFor}
 use Rattle.store_steps.specs.Stages.{TellsDone}
 use Rattle.host_calls.specs.declared.attached.CallResult.{CallResult}
@@ -19,6 +23,10 @@ use Rattle.host_calls.specs.declared.attached.CallResult.TheVariants.{Busy, Agai
 pub record HasGrown (old new : SessionView) : Type 0 where
   pub grown : Extends old.progress new.progress
   pub well_formed : IsWellFormed store_meaning new.progress
+
+-- P is so of the state at the answer's point, and the point is not below the tail that was completed when the session looked
+abbrev pub IsSeen : {A : Type 0} → (A → CatalogueView → StoreState → Type 0) → (A → ℕ) → (old new : SessionView) → A → Type 0
+IsSeen P point old new answer = IsFresh old new (point answer) × SightTells (P answer) new.progress old.progress.completed (point answer)
 
 -- the request is out: it is posted, once, and not answered; or it is answered, with its place in the history that the session knows now and
 -- the reply there; or that history has its last record, and none of the request
@@ -63,7 +71,7 @@ TellsPost op refused old new told =
 -- a read that isn't refused: a place was held, or it has seen all that was completed when it began, and has the reply there
 abbrev pub TellsSeen : Operation → (old new : SessionView) → CallResult → Type 0
 TellsSeen op old new Busy = Unit {0}
-TellsSeen op old new (Answered point reply) = IsSight (HasReply op) (λ (a : ReadAnswer). a.point) old new (record { point = point; reply = reply })
+TellsSeen op old new (Answered point reply) = IsSeen (HasReply op) (λ (a : ReadAnswer). a.point) old new (record { point = point; reply = reply })
 TellsSeen op old new told = ⊥
 
 -- a read alike: it is refused while an update is out, and what the session waits for stays what it was

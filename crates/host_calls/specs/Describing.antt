@@ -16,7 +16,6 @@ use Rattle.store_steps.specs.declared.describing.ProgramInfo.{ProgramInfo}
 use Rattle.store_steps.specs.Describing.{info_fault_number, map_refusal, program_refusal}
 use Rattle.store_steps.specs.Views.{SessionView}
 use Rattle.store.specs.Describing.{IsMapAsTold, IsProgramAsTold}
-use Rattle.store.specs.Looks.{IsSight}
 use Rattle.store.specs.Sessions.{StoreView}
 use Rattle.host_calls.specs.declared.attached.Looked.{Looked}
 use Rattle.host_calls.specs.declared.attached.Looked.TheVariants.{Seen, Refused}
@@ -28,6 +27,7 @@ use Rattle.host_calls.specs.declared.describing.StoreWords.{StoreWords}
 use Rattle.host_calls.specs.declared.handles.SessionHandle.{SessionHandle}
 use Rattle.host_calls.specs.declared.handles.StoreHandle.{StoreHandle}
 use Rattle.host_calls.specs.declared.handles.TheConstants.{AT_END, NAME_ROOM}
+use Rattle.host_calls.specs.CallResults.{IsSeen}
 use Rattle.host_calls.specs.Looks.{Looks, TellsLook}
 use Rattle.host_calls.specs.Statuses.{done, letter_S, not_open, refusal}
 use Rattle.host_calls.specs.Stores.{IsStatusAlone}
@@ -57,7 +57,7 @@ map_words map info = record {
 abbrev pub TellsMap : (words left : MapWords) → (old new : SessionView) → Looked → Type 0
 TellsMap words left old new told =
     (info : MapInfo) × (told ≡ Seen info.point info.keys AT_END) × (left ≡ map_words words.map info)
-    × IsSight (IsMapAsTold words.map) (λ (i : MapInfo). i.point) old new info
+    × IsSeen (IsMapAsTold words.map) (λ (i : MapInfo). i.point) old new info
 
 abbrev pub TellsMapAsked : (words left : MapWords) → (old new : AttachedView) → Looked → Type 0
 TellsMapAsked words left old new told =
@@ -96,7 +96,7 @@ program_words k info name = record { program = k; point = info.point; place = if
 abbrev pub TellsProgram : (words left : ProgramWords) → (old new : AttachedView) → Looked → Type 0
 TellsProgram words left old new told =
     (info : ProgramInfo) × (told ≡ Seen info.point 0 AT_END) × (left ≡ program_words words.program info (name_of old.store.catalogue words.program))
-    × IsSight (IsProgramAsTold words.program) (λ (i : ProgramInfo). i.point) old.session new.session info
+    × IsSeen (IsProgramAsTold words.program) (λ (i : ProgramInfo). i.point) old.session new.session info
 
 abbrev pub TellsProgramAsked : (words left : ProgramWords) → (old new : AttachedView) → Looked → Type 0
 TellsProgramAsked words left old new told =

@@ -19,7 +19,7 @@ use Rattle.store_steps.specs.Lending.{replica_of}
 use Rattle.store_steps.specs.Questions.{first_refused}
 use Rattle.store_steps.specs.Scanning.{GivesIn, scan_fault_number, scan_refusal}
 use Rattle.store_steps.specs.Views.{SessionView}
-use Rattle.store.specs.Looks.{HaveReplies, IsSight, IsTaken}
+use Rattle.store.specs.Looks.{HaveReplies, IsTaken}
 use Rattle.host_calls.specs.declared.attached.Looked.{Looked}
 use Rattle.host_calls.specs.declared.attached.Looked.TheVariants.{Busy, Seen, Refused, NotOpen, IsOut, NoWord}
 use Rattle.host_calls.specs.declared.handles.Answered.{Answered}
@@ -27,7 +27,7 @@ use Rattle.host_calls.specs.declared.handles.SessionHandle.{SessionHandle}
 use Rattle.host_calls.specs.declared.handles.StateHandle.{StateHandle}
 use Rattle.host_calls.specs.declared.handles.TheConstants.{MOST_ASKED, AT_END}
 use Rattle.host_calls.specs.Statuses.{busy, done, is_out, letter_S, no_word, not_open, other_sizes, refusal}
-use Rattle.host_calls.specs.CallResults.{HasGrown}
+use Rattle.host_calls.specs.CallResults.{HasGrown, IsSeen}
 use Rattle.host_calls.specs.Views.{AttachedView, IsSame}
 
 -- ---- what is told
@@ -60,7 +60,7 @@ seen_key found = Seen found.point (if found.found then 1 else 0) AT_END
 -- what stands under the key at a point that is not below what was completed when the session looked
 abbrev pub TellsKey : (map : ℕ) → (key before value : List ℕ) → (old new : SessionView) → Looked → Type 0
 TellsKey map key before value old new told =
-    (found : Lookup) × (told ≡ seen_key found) × IsSight (λ (f : Lookup) (c : CatalogueView) (state : StoreState). IsUnder state.maps map key before value f) (λ (f : Lookup). f.point) old new found
+    (found : Lookup) × (told ≡ seen_key found) × IsSeen (λ (f : Lookup) (c : CatalogueView) (state : StoreState). IsUnder state.maps map key before value f) (λ (f : Lookup). f.point) old new found
 
 abbrev pub TellsGot : (map : ℕ) → (key before value : List ℕ) → (old new : AttachedView) → Looked → Type 0
 TellsGot map key before value old new told =
@@ -82,7 +82,7 @@ seen_scan s = Seen s.point s.count (next_word s.next)
 -- a page of the map, from this place on, at such a point
 abbrev pub TellsPage : (map from : ℕ) → (keys keys' values values' : List ℕ) → (old new : SessionView) → Looked → Type 0
 TellsPage map from keys keys' values values' old new told =
-    (s : Scan) × (told ≡ seen_scan s) × IsSight (λ (s : Scan) (c : CatalogueView) (state : StoreState). GivesIn c state map from (length keys) (length values) keys' values' s) (λ (s : Scan). s.point) old new s
+    (s : Scan) × (told ≡ seen_scan s) × IsSeen (λ (s : Scan) (c : CatalogueView) (state : StoreState). GivesIn c state map from (length keys) (length values) keys' values' s) (λ (s : Scan). s.point) old new s
 
 abbrev pub TellsScanned : (map from : ℕ) → (keys keys' values values' : List ℕ) → (old new : AttachedView) → Looked → Type 0
 TellsScanned map from keys keys' values values' old new told =
@@ -116,7 +116,7 @@ pub record HasCaughtUp (old new : SessionView) (point : ℕ) : Type 0 where
 pub record TellsReplies (questions : List Question) (replies : List ℕ) (old new : SessionView) (told : Looked) : Type 0 where
   pub point : ℕ
   pub seen : told ≡ Seen point (length questions) AT_END
-  pub answers : IsSight (HaveReplies questions replies) (λ point. point) old new point
+  pub answers : IsSeen (HaveReplies questions replies) (λ point. point) old new point
   pub up : HasCaughtUp old new point
 
 abbrev pub TellsAnswers : List Question → (before replies : List ℕ) → (old new : AttachedView) → Looked → Type 0
@@ -137,7 +137,7 @@ pub record TellsMany (asked : List Question) (before replies : List ℕ) (old ne
 
 -- the state at a point that is not below what was completed when the session looked
 abbrev pub TellsState : StoreState → (old new : SessionView) → Looked → Type 0
-TellsState left old new told = (point : ℕ) × (told ≡ Seen point 0 AT_END) × IsSight (IsTaken left) (λ point. point) old new point
+TellsState left old new told = (point : ℕ) × (told ≡ Seen point 0 AT_END) × IsSeen (IsTaken left) (λ point. point) old new point
 
 -- into a state of the store's sizes; one of others is refused
 pub record TellsTaken (state left : StoreState) (old new : AttachedView) (told : Looked) : Type 0 where

@@ -27,12 +27,12 @@ use Rattle.store_steps.specs.Pipelines.{AreMembers, HasLooked, KnownAt, MayAskAt
 use Rattle.store_steps.specs.Standing.{SessionKnown}
 use Rattle.store_steps.specs.Updating.{UpdatesBy}
 use Rattle.store_steps.specs.Views.{IsIdle, SessionView, session_view}
-use Rattle.store_steps.proofs.Export.{seen_as, store_laws, view_known, was_at}
+use Rattle.store_steps.proofs.Export.{goes_seen, seen_as, store_laws, view_known, was_at}
 use Rattle.store.specs.declared.answers.Answer.{Answer}
 use Rattle.store.specs.Opening.{AreOf}
 use Rattle.store.specs.Pipelines.{AreInOrder, AreJoined, EachGoes, EachGoesOn, LooksAndUpdates, LooksPostsCollects, OthersStay, TellsEach, views_of}
 use Rattle.store.specs.Sessions.{HasRoom, IsOf, SessionGoesOn, StoreView, TellsUpdate, said}
-use Rattle.store.proofs.Invoked.{Invoked, goes_on, goes_seen, has_grown, invoked, is_idle, may_ask, tells_update}
+use Rattle.store.proofs.Invoked.{Invoked, goes_on, has_grown, invoked, is_idle, may_ask, tells_update}
 
 abbrev K : Type 0
 K = SessionKnown

@@ -19,8 +19,8 @@ use Rattle.store_steps.specs.declared.values.Value.{Value}
 use Rattle.store_steps.specs.AtOnce.{IsAlone}
 use Rattle.store_steps.specs.AtDesk.{HasAsked}
 use Rattle.store_steps.specs.Requests.{HasCompleted, HasPosted}
-use Rattle.store.specs.Sessions.{said, IsOf, SessionGoesOn, StoreView, TellsUpdate, known_of}
-use Rattle.store_steps.specs.Views.{IsIdle, SessionView, request_of, session_view}
+use Rattle.store.specs.Sessions.{said, IsOf, SessionGoesOn, StoreView, TellsUpdate}
+use Rattle.store_steps.specs.Views.{IsIdle, SessionView, request_of}
 use Rattle.store_steps.specs.Standing.{IsFree, SessionKnown, Stands}
 use Rattle.store_steps.proofs.Export.{free_by, store_laws, well_formed, view_known}
 
@@ -108,14 +108,6 @@ module _ (k f : K) (op : Operation) (reply : Reply) (v : Invoked k f op reply) w
       ap_length h = subst (λ (n : SessionNote). length n.answered ≤ length f.progress.history) (sym v.note) h
 
 -- ---- as its user sees it
-
--- what a session knows that holds nothing is what its user sees
-known_seen : (s : S) (k : K) → IsSession s k → k.held ≡ [] → k ≡ known_of (session_view s)
-known_seen s k is none = (λ i. record { session = k.session; progress = k.progress; note = k.note; held = none i; steps = k.steps; run = k.run })
-    ∙ ap (λ z. known_of (session_view (record { shelf = s.shelf; sessions = z }))) (sym is)
-
-pub goes_seen : (P : K → K → Type 0) (old new : S) (was : SessionView) (k f : K) → IsSession old k → k.held ≡ [] → session_view old ≡ was → IsSession new f → f.held ≡ [] → P k f → P (known_of was) (known_of (session_view new))
-goes_seen P old new was k f is none seen now free h = subst (λ (z : K × K). P z.0 z.1) (λ i. ((known_seen old k is none ∙ ap known_of seen) i, (known_seen new f now free) i)) h
 
 module _ (store : StoreView) (old new : SessionView) (id shelf : ShelfId) (k f : K) (op : Operation) (reply : Reply) (v : Invoked k f op reply) (was : old ≡ view_known id k) (now : new ≡ view_known shelf f) where
   -- what is said of the sessions as they are known holds of them as they are seen

@@ -1,5 +1,5 @@
 -- What a session was told that looked at its node's replica, as its user sees it; it is idle still.
-use Rattle.std.proofs.Common.{◌≡◌, ℕ, ◌+◌, ◌≤◌, None, ap, subst, sym, ◌∙◌}
+use Rattle.std.proofs.Common.{◌≡◌, ℕ, ◌+◌, ◌≤◌, [], None, ap, subst, sym, ◌∙◌}
 use Rattle.loader.specs.CatalogueView.{CatalogueView}
 use Rattle.loader.specs.StoreState.{StoreState}
 use Rattle.oplog.specs.declared.configuration.TheConstants.{MAX_NODES}
@@ -9,22 +9,24 @@ use Rattle.replica.specs.Views.{RepliesView}
 use Rattle.store_steps.specs.declared.deeds.Stage.{Stage}
 use Rattle.store_steps.specs.declared.steps.Caller.{Caller}
 use Rattle.store_steps.specs.declared.steps.Shared.{Shared}
-use Rattle.store_steps.specs.Sights.{HasSeen, HasSight, SightTells}
+use Rattle.store_steps.specs.Sights.{HasSeen, HasSight, SightBy, SightTells}
 use Rattle.store_steps.specs.Knowing.{IsOn, Knows}
 use Rattle.store_steps.specs.Stages.{IsPolled}
 use Rattle.store_steps.specs.Standing.{IsFree, SessionKnown, StoreSeat}
-use Rattle.store_steps.specs.Views.{IsIdle, SessionView, session_view}
-use Rattle.store_steps.proofs.Export.{on_known, both}
+use Rattle.store_steps.specs.Views.{IsIdle, SessionView, known_of, session_view}
+use Rattle.store_steps.proofs.Export.{both, goes_seen, on_known}
 use Rattle.loader.specs.Installed.{InstalledView}
 use Rattle.store.specs.Sessions.{HasRoom, IsFresh, IsOf, SessionGoesOn, StoreView}
 use Rattle.store.proofs.Between.{StaysIdle, goes_on, idle_at, idle_stage, on_at, room_on, stays_idle}
 
-module _ (old new : StoreSeat) (k m : SessionKnown) (was : IsSession old k) (now : IsSession new m) where
-  pub seen_fresh : (point : ℕ) → HasSeen k m point → IsFresh (session_view old) (session_view new) point
-  seen_fresh point r = both old new k m was now (λ x y. IsFresh x y point) (r.begun, r.more, r.read, r.reached)
-
-  pub seen_sight : (P : CatalogueView → StoreState → Type 0) (point : ℕ) → HasSight P point k m → SightTells P (session_view new).progress (session_view old).progress.completed point
-  seen_sight P point r = both old new k m was now (λ x y. SightTells P y.progress x.progress.completed point) r.1
+module _ (old new : StoreSeat) (k m : SessionKnown) (is : IsSession old k) (now : IsSession new m) (was : SessionView) (seen : session_view old ≡ was) (none : k.held ≡ []) where
+  pub sight_seen : (P : CatalogueView → StoreState → Type 0) (point : ℕ) → HasSight P point k m → SightBy P point k m
+      → IsFresh was (session_view new) point × SightTells P (session_view new).progress was.progress.completed point × SightBy P point (known_of was) (known_of (session_view new))
+  sight_seen P point r by = (
+    subst (λ (z : SessionView). IsFresh z (session_view new) point) seen (both old new k m is now (λ x y. IsFresh x y point) (r.0.begun, r.0.more, r.0.read, r.0.reached)),
+    subst (λ (z : SessionView). SightTells P (session_view new).progress z.progress.completed point) seen (both old new k m is now (λ x y. SightTells P y.progress x.progress.completed point) r.1),
+    goes_seen (SightBy P point) old new was k m is none seen now r.0.held by,
+  )
 
 -- what is known of the room that a look was lent holds of it at its end
 pub lent_to : {A : Type 0} (P : A → Type 0) (x y : A) → x ≡ y → P x → P y

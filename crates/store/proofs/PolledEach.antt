@@ -25,14 +25,13 @@ use Rattle.store_steps.specs.declared.steps.Question.{Question}
 use Rattle.store_steps.specs.declared.steps.Shared.{Shared}
 use Rattle.store_steps.specs.Asking.{asked_op}
 use Rattle.store_steps.specs.EachMember.{LooksEach}
-use Rattle.store_steps.specs.Knowing.{Relates}
 use Rattle.store_steps.specs.Pipelines.{AreMembers, HasLooked, spot_of}
 use Rattle.store_steps.specs.Polling.{BeginsBy, DeedsGo, HasAskedFor, HasBegun}
 use Rattle.store_steps.specs.PollingEach.{AreIdle, AreOn, AreOut, BeginsEach, CompletesEach, WaitsEach, stage_at}
 use Rattle.store_steps.specs.Stages.{HasDone, HasGone, IsPolled}
 use Rattle.store_steps.specs.Standing.{SessionKnown, StoreSeat}
 use Rattle.store_steps.specs.Views.{IsIdle, SessionView, session_view}
-use Rattle.store_steps.proofs.Export.{both, not_looked, seen_as, was_at}
+use Rattle.store_steps.proofs.Export.{both, goes_seen, not_looked, seen_as, was_at}
 use Rattle.replica.specs.declared.refusals.StoreRefused.{StoreRefused}
 use Rattle.store.specs.declared.answers.Answer.{Answer}
 use Rattle.store.specs.Opening.{AreOf}
@@ -42,7 +41,6 @@ use Rattle.store.specs.Sessions.{HasRoom, IsOf, SessionGoesOn, StoreView, known_
 use Rattle.store.proofs.AskedEach.{IsShared, at_replaced, at_taken, replaced_long, stays_behind}
 use Rattle.store.proofs.Held.{HoldNothing}
 use Rattle.store.proofs.Between.{goes_on, goes_still, known_at, on_at, well_at}
-use Rattle.store.proofs.Invoked.{goes_seen}
 
 abbrev K : Type 0
 K = SessionKnown
@@ -172,23 +170,12 @@ module _ (store : StoreView) (m o : Member) (i : IsIdle m.seat m.caller) (f : K)
   looked_seen = goes_seen HasLooked m.seat o.seat (session_view m.seat) i.known f i.is i.free.held refl is (h.held ∙ i.free.held) h
 
 -- it has gone on with its update
-module _ (m o : Member) (b c : BatchView) (kept now : RepliesView) (stage next : Stage) (was : IsPolled m.seat m.caller b kept stage) where
-  seen_by : (P : K → K → Type 0) → IsPolled o.seat m.caller c now next → Relates m.seat o.seat P → P (known_of (session_view m.seat)) (known_of (session_view o.seat))
-  seen_by P is goes =
-      let k = known_at m.seat m.caller b kept stage was in
-      let f = known_at o.seat m.caller c now next is in
-      goes_seen P m.seat o.seat (session_view m.seat) k.0 f.0 k.1 k.3 refl f.1 f.3 (goes k.0 f.0 k.1 f.1)
+module _ (m o : Member) (c : BatchView) (now : RepliesView) (next : Stage) where
+  pub waits_seen : (o1 : Pending) → HasGone DeedsGo m.seat o.seat m.caller c now next Busy → IsTold (session_view m.seat) (session_view o.seat) o1 None
+  waits_seen o1 g = (g.done, g.goes)
 
-  pub waits_seen : (o1 : Pending) → (session_view m.seat).note.pending ≡ Some o1 → HasGone m.seat o.seat m.caller c now next Busy → Relates m.seat o.seat (λ k after. DeedsGo k after Busy) → IsTold (session_view m.seat) (session_view o.seat) o1 None
-  waits_seen o1 is g goes = (g.done, seen_by (λ k after. DeedsGo k after Busy) g.polled goes)
-
-  pub told_seen : (o1 : Pending) (reply : Reply) → (session_view m.seat).note.pending ≡ Some o1 → HasGone m.seat o.seat m.caller c now next (Collected reply) → Relates m.seat o.seat (λ k after. DeedsGo k after (Collected reply))
-      → IsTold (session_view m.seat) (session_view o.seat) o1 (Some (said reply))
-  told_seen o1 reply is g goes =
-      let e = same_Some g.request o1 (sym g.waited ∙ is) in (
-        (reply, refl, subst (λ z. TellsDoneOf z) e g.done),
-        (reply, refl, seen_by (λ k after. DeedsGo k after (Collected reply)) g.polled goes),
-      )
+  pub told_seen : (o1 : Pending) (reply : Reply) → (session_view m.seat).note.pending ≡ Some o1 → HasGone DeedsGo m.seat o.seat m.caller c now next (Collected reply) → IsTold (session_view m.seat) (session_view o.seat) o1 (Some (said reply))
+  told_seen o1 reply is g = let e = same_Some g.request o1 (sym g.waited ∙ is) in ((reply, refl, subst (λ z. TellsDoneOf z) e g.done), (reply, refl, g.goes))
     where
       TellsDoneOf : Pending → Type 0
       TellsDoneOf z = HasDone (session_view m.seat) (session_view o.seat) z (Collected reply)
@@ -318,13 +305,12 @@ module _ (store : StoreView) (ms : List Member) (rooms : List InstalledView) (po
 
   -- none was out, and the first ones have posted
   module _ (none : posted ≡ 0) (calls : List Question) (count : n ≡ length calls) (c : BatchView) (now : RepliesView) (next : EachStage) (begins : BeginsEach (take n ms) new calls c now next) where
-    began : (j : ℕ) (m o : Member) → At j m (take n ms) → At j o new → (q : Question) × At j q calls × HasBegun m.seat o.seat m.caller (asked_op q) c now (stage_at next j) × Relates m.seat o.seat (λ k after. BeginsBy k after (asked_op q))
+    began : (j : ℕ) (m o : Member) → At j m (take n ms) → At j o new → (q : Question) × At j q calls × HasBegun m.seat o.seat m.caller (asked_op q) c now (stage_at next j)
     began j m o at_m at_o =
         let below = at_below new j o at_o in
         let long = sets.long in
         let q = at_there calls j (omega (arith, below, long, count)) in
-        let d = begins j m o q.0 at_m at_o q.1 in
-        (q.0, q.1, d.0, d.1)
+        (q.0, q.1, begins j m o q.0 at_m at_o q.1)
 
     pub each_began : (j : ℕ) (m o : Member) → At j m (take n ms) → At j o new → GoesOnAt store m o
     each_began j m o at_m at_o =
@@ -345,24 +331,15 @@ module _ (store : StoreView) (ms : List Member) (rooms : List InstalledView) (po
         (λ j m o at there w at_q. ⊎_elim
         (λ a.
         let d = begins j m o q a.1 a.2 at_q in
-        let i = l.idle j m (omega (arith, none)) at in
-        let f = known_at o.seat m.caller c now (stage_at next j) d.0.polled in
-        (d.0.asked, goes_seen (λ k after. BeginsBy k after (asked_op q)) m.seat o.seat (session_view m.seat) i.known f.0 i.is i.free.held refl f.1 f.3 (d.1 i.known f.0 i.is f.1)))
+        (d.asked, d.goes))
         (λ e. let below = at_below calls j q at_q in let far = e.0 in absurd (omega (arith, below, far, count)))
         w) j s t at there at_q
 
   -- so many were out
   module _ (count : posted ≡ n) (c : BatchView) (now : RepliesView) where
-    polled_at : (j : ℕ) (m : Member) → At j m (take n ms) → IsPolled m.seat m.caller b kept (stage_at stage j)
-    polled_at j m at = (l.out (some n ms j m at count)).polled j m (subst (λ z. At j m (take z ms)) (sym count) at)
-      where
-        some : (n : ℕ) (xs : List Member) (j : ℕ) (m : Member) → At j m (take n xs) → posted ≡ n → 0 < posted
-        some zero xs j m at is = absurd (at_none j m at)
-        some (suc n) xs j m at is = omega (arith, is)
-
     module _ (next : EachStage) (waits : WaitsEach (take n ms) new c now next) where
       pub each_waits : (j : ℕ) (m o : Member) → At j m (take n ms) → At j o new → GoesOnAt store m o
-      each_waits j m o at_m at_o = let d = (waits j m o at_m at_o).0 in on_by store m o (spot_at j m o at_m at_o) (mine j m (at_taken n ms j m at_m)) d.session d.extends d.well_formed
+      each_waits j m o at_m at_o = let d = waits j m o at_m at_o in on_by store m o (spot_at j m o at_m at_o) (mine j m (at_taken n ms j m at_m)) d.session d.extends d.well_formed
 
       pub still_waits : AreOut new c now next → (after : ℕ) → after ≡ posted → AreListed all rooms after c now next
       still_waits out after is =
@@ -376,7 +353,7 @@ module _ (store : StoreView) (ms : List Member) (rooms : List InstalledView) (po
       tells_waits answers j s t o1 at there is =
           listed_views store ms rooms posted b kept stage l own n fits all new sets each_waits (λ j s t. s.note.pending ≡ Some o1 → IsTold s t o1 None)
           (λ j m o at there w is. ⊎_elim
-          (λ a. let d = waits j m o a.1 a.2 in waits_seen m o b c kept now (stage_at stage j) (stage_at next j) (polled_at j m a.1) o1 is d.0 d.1)
+          (λ a. waits_seen m o c now (stage_at next j) o1 (waits j m o a.1 a.2))
           (λ e. let far = e.0 in let i = l.idle j m (omega (arith, far, count)) at in absurd (none-some o1 (sym (ap (λ (z : SessionView). z.note.pending) (seen_as m.seat i.known i.is) ∙ i.pending) ∙ is)))
           w) j s t at there is
 
@@ -402,7 +379,7 @@ module _ (store : StoreView) (ms : List Member) (rooms : List InstalledView) (po
           (λ j m o at there w is. ⊎_elim
           (λ a.
           let d = completes j m o a.1 a.2 in
-          (said d.0, at_map said replies j d.0 d.1, told_seen m o b c kept now (stage_at stage j) Idle (polled_at j m a.1) o1 d.0 is d.2 d.3))
+          (said d.0, at_map said replies j d.0 d.1, told_seen m o c now Idle o1 d.0 is d.2))
           (λ e. let far = e.0 in let i = l.idle j m (omega (arith, far, count)) at in absurd (none-some o1 (sym (ap (λ (z : SessionView). z.note.pending) (seen_as m.seat i.known i.is) ∙ i.pending) ∙ is)))
           w) j s t at there is
 

@@ -47,7 +47,7 @@ PolledRest =
 abbrev pub IsToldRead : (old new : SessionView) → (program : ℕ) → List ℕ → ReadAnswer → Type 0
 IsToldRead old new program argument a = WasRead (known_of old) (known_of new) (record { program = program; argument = argument }) a × Continues old.run new.run
 
--- so may each read that gets an answer: `goes` and `told` of `Session::read` and of `Polled::try_read` unfold to these two of an answer
+-- so may each read that gets an answer: `told` of `Session::read` and of `Polled::try_read` says both of an answer
 abbrev pub ReadsAreTold : Type 0
 ReadsAreTold =
     (store : StoreView) (old new : SessionView) (program : ℕ) (argument : List ℕ) (a : ReadAnswer) → IsOf store old → Rests old → AreBytes argument

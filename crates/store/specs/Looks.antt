@@ -25,17 +25,14 @@ use Rattle.store.specs.Sessions.{IsFresh, StoreView, known_of}
 abbrev pub IsRefused : {A E : Type 0} → Option E → Result A E → Type 0 → Type 0
 IsRefused {A} {E} refusal result P = (r : E) → refusal ≡ Some r → (result ≡ Err r) × P
 
--- P is so of the state at the answer's point, and the point is not below the tail that was completed when the session looked
+-- P is so of the state at the answer's point, and the point is not below the tail that was completed when the session looked; and the steps of the look
 abbrev pub IsSight : {A : Type 0} → (A → CatalogueView → StoreState → Type 0) → (A → ℕ) → (old new : SessionView) → A → Type 0
-IsSight P point old new answer = IsFresh old new (point answer) × SightTells (P answer) new.progress old.progress.completed (point answer)
+IsSight P point old new answer =
+    IsFresh old new (point answer) × SightTells (P answer) new.progress old.progress.completed (point answer) × SightBy (P answer) (point answer) (known_of old) (known_of new)
 
 -- a look that is not refused has such an answer
 abbrev pub TellsSight : {A E : Type 0} → (A → CatalogueView → StoreState → Type 0) → (A → ℕ) → (old new : SessionView) → Result A E → Type 0
 TellsSight P point old new result = MatchResult result (IsSight P point old new) (λ _. ⊥)
-
--- the steps of a look with this answer
-abbrev pub GoesToSee : {A : Type 0} → (A → CatalogueView → StoreState → Type 0) → (A → ℕ) → (old new : SessionView) → A → Type 0
-GoesToSee P point old new answer = SightBy (P answer) (point answer) (known_of old) (known_of new)
 
 -- ---- what each answer says of the state
 

@@ -21,6 +21,7 @@ use Rattle.replica.specs.declared.refusals.StoreRefused.{StoreRefused}
 use Rattle.replica.specs.declared.refusals.StoreRefused.TheVariants.{Ended as TheEnd}
 use Rattle.store_steps.specs.Standing.{SessionKnown, StoreSeat}
 use Rattle.store_steps.specs.Views.{SessionView, request_of, session_view}
+pub use Rattle.store_steps.specs.Views.{known_of}
 
 -- the shelf of a store, and what the store was opened with
 pub record StoreView : Type 0 where
@@ -53,10 +54,6 @@ fresh_session shelf config c a = record { shelf = shelf; session = a; progress =
 abbrev pub fresh_sessions : ShelfId → Sizes → CatalogueView → ℕ → ℕ → List SessionView
 fresh_sessions shelf config c a zero = []
 fresh_sessions shelf config c a (suc n) = fresh_session shelf config c a ∷ fresh_sessions shelf config c (suc a) n
-
--- what a session knows that holds nothing
-abbrev pub known_of : SessionView → SessionKnown
-known_of s = record { session = s.session; progress = s.progress; note = s.note; held = []; steps = s.steps; run = s.run }
 
 -- room for a program that the session's store may install
 abbrev pub HasRoom : InstalledView → StoreSeat → Type 0

@@ -1,8 +1,8 @@
 // The calls that ask a store what it is.
 
-ghost use Rattle.std.specs.Prelude.{◌≡◌, length, None, IfOk};
+ghost use Rattle.std.specs.Prelude.{◌≡◌, length, None};
 ghost use Rattle.store.specs.Describing.{IsMapAsTold, IsProgramAsTold, map_refused, number_refused};
-ghost use Rattle.store.specs.Looks.{GoesToSee, IsRefused, IsSight, TellsSight, TellsTried, TriedGoes};
+ghost use Rattle.store.specs.Looks.{IsRefused, IsSight, TellsSight, TellsTried};
 ghost use Rattle.store.specs.Sessions.{IsOf, SessionGoesOn};
 
 use crate::polled::Polled;
@@ -107,7 +107,6 @@ impl Session {
         ensures note { self.new.note ≡ self.old.note }
         ensures early { IsRefused (map_refused store.now map) result (self.new ≡ self.old) }
         ensures told { map_refused store.now map ≡ None → TellsSight (IsMapAsTold map) (λ i. i.point) self.old self.new result }
-        ensures goes { IfOk result (GoesToSee (IsMapAsTold map) (λ i. i.point) self.old self.new) }
     {
         self.see(rt, store, &mut MapQuery { map })
     }
@@ -151,7 +150,6 @@ impl Session {
         ensures note { self.new.note ≡ self.old.note }
         ensures early { IsRefused (number_refused store.now program) result (self.new ≡ self.old) }
         ensures told { number_refused store.now program ≡ None → TellsSight (IsProgramAsTold program) (λ i. i.point) self.old self.new result }
-        ensures goes { IfOk result (GoesToSee (IsProgramAsTold program) (λ i. i.point) self.old self.new) }
     {
         self.see(rt, store, &mut ProgramQuery { program })
     }
@@ -191,7 +189,6 @@ impl Polled {
         ensures note { self.new.note ≡ self.old.note }
         ensures early { IsRefused (map_refused store.now map) result (self.new ≡ self.old) }
         ensures told { map_refused store.now map ≡ None → TellsTried result (IsSight (IsMapAsTold map) (λ i. i.point) self.old self.new) }
-        ensures goes { TriedGoes result (GoesToSee (IsMapAsTold map) (λ i. i.point) self.old self.new) }
     {
         self.try_see(store, &mut MapQuery { map })
     }
@@ -232,7 +229,6 @@ impl Polled {
         ensures note { self.new.note ≡ self.old.note }
         ensures early { IsRefused (number_refused store.now program) result (self.new ≡ self.old) }
         ensures told { number_refused store.now program ≡ None → TellsTried result (IsSight (IsProgramAsTold program) (λ i. i.point) self.old self.new) }
-        ensures goes { TriedGoes result (GoesToSee (IsProgramAsTold program) (λ i. i.point) self.old self.new) }
     {
         self.try_see(store, &mut ProgramQuery { program })
     }

@@ -19,7 +19,7 @@ ghost use Rattle.store_steps.specs.declared.questions.QuestionRefused.{QuestionR
 ghost use Rattle.store_steps.specs.declared.scanning.ScanRefused.{ScanRefused};
 ghost use Rattle.store_steps.specs.Questions.{first_refused};
 ghost use Rattle.store_steps.specs.Scanning.{scan_refusal};
-ghost use Rattle.store.specs.Looks.{GoesToSee, HasPage, HasReply, HasValue, HaveReplies, IfUnanswered, IsAsSeen, IsRefused, IsSight, IsTaken, MayGet, MayRead, MayReadEach, MayScan, TellsTried, TriedGoes, key_refused, scan_refused};
+ghost use Rattle.store.specs.Looks.{HasPage, HasReply, HasValue, HaveReplies, IfUnanswered, IsAsSeen, IsRefused, IsSight, IsTaken, MayGet, MayRead, MayReadEach, MayScan, TellsTried, TriedGoes, key_refused, scan_refused};
 ghost use Rattle.store.specs.Polled.{HasPostedFor, TellsCompleted, TellsPost};
 
 use crate::answers::Answer;
@@ -411,7 +411,6 @@ impl Polled {
         ensures lent { TriedGoes result (λ _. L.lent look.old look.new) }
         ensures told { L.refusal look.old store.now.catalogue ≡ None
             → TellsTried result (IsSight (IsAsSeen (L.sees look.old look.new)) L.point self.old self.new) }
-        ensures goes { TriedGoes result (GoesToSee (IsAsSeen (L.sees look.old look.new)) L.point self.old self.new) }
     {
         let Polled { seat, caller, .. } = self;
         look.check(store.catalogue())?;
@@ -461,7 +460,6 @@ impl Polled {
         ensures early { IsRefused (early_refusal store.now.catalogue Read program argument.now) result (self.new ≡ self.old) }
         ensures told { MayRead store.now program argument.now
             → TellsTried result (IsSight (HasReply (op_of program argument.now)) (λ a. a.point) self.old self.new) }
-        ensures goes { TriedGoes result (GoesToSee (HasReply (op_of program argument.now)) (λ a. a.point) self.old self.new) }
     {
         self.try_see(store, &mut Question { program, argument })
     }
@@ -507,7 +505,6 @@ impl Polled {
         ensures note { self.new.note ≡ self.old.note }
         ensures told { MayReadEach store.now questions.now
             → TellsTried result (IsSight (HaveReplies questions.now replies.new) (λ point. point) self.old self.new) }
-        ensures goes { TriedGoes result (GoesToSee (HaveReplies questions.now replies.new) (λ point. point) self.old self.new) }
     {
         self.try_see(store, &mut Reads { questions, replies })
     }
@@ -551,7 +548,6 @@ impl Polled {
         ensures note { self.new.note ≡ self.old.note }
         ensures told { MayScan store.now begin
             → TellsTried result (IsSight (HasPage begin keys.old values.old keys.new values.new) (λ s. s.point) self.old self.new) }
-        ensures goes { TriedGoes result (GoesToSee (HasPage begin keys.old values.old keys.new values.new) (λ s. s.point) self.old self.new) }
     {
         self.try_see(
             store,
@@ -600,7 +596,6 @@ impl Polled {
         ensures note { self.new.note ≡ self.old.note }
         ensures told { MayGet store.now of.entry value.old
             → TellsTried result (IsSight (HasValue of.entry value.old value.new) (λ l. l.point) self.old self.new) }
-        ensures goes { TriedGoes result (GoesToSee (HasValue of.entry value.old value.new) (λ l. l.point) self.old self.new) }
     {
         self.try_see(store, &mut Get { of, value })
     }
@@ -636,7 +631,6 @@ impl Polled {
         ensures session { SessionGoesOn store.now self.old self.new }
         ensures note { self.new.note ≡ self.old.note }
         ensures told { IfSome result (IsSight (IsTaken into.new) (λ point. point) self.old self.new) }
-        ensures goes { IfSome result (GoesToSee (IsTaken into.new) (λ point. point) self.old self.new) }
     {
         match self.try_see(store, &mut Snapshot { into }) {
             Ok(point) => point,

@@ -12,7 +12,7 @@ ghost use Rattle.store.specs.Sessions.{said};
 ghost use Rattle.store_steps.specs.Questions.{first_refused};
 ghost use Rattle.loader.specs.CatalogueView.{sizes_for};
 ghost use Rattle.loader.specs.StoreState.{sizes_of};
-ghost use Rattle.store.specs.Looks.{GoesToSee, HasPage, HasReply, HasValue, HaveReplies, IsAsSeen, IsRefused, IsSight, IsTaken, MayGet, MayRead, MayReadEach, MayScan, TellsSight, key_refused, scan_refused};
+ghost use Rattle.store.specs.Looks.{HasPage, HasReply, HasValue, HaveReplies, IsAsSeen, IsRefused, IsSight, IsTaken, MayGet, MayRead, MayReadEach, MayScan, TellsSight, key_refused, scan_refused};
 ghost use Rattle.store_steps.specs.Asking.{asked_op};
 ghost use Rattle.store_steps.specs.Views.{IsIdle, op_of, session_view};
 ghost use Rattle.store.specs.Sessions.{IsOf, SessionGoesOn, TellsUpdate, HasRoom, MayUpdate, known_of, install_of, install_refused};
@@ -377,7 +377,6 @@ impl Session {
         ensures lent { IfOk result (λ _. L.lent look.old look.new) }
         ensures told { L.refusal look.old store.now.catalogue ≡ None
             → TellsSight (IsAsSeen (L.sees look.old look.new)) L.point self.old self.new result }
-        ensures goes { IfOk result (GoesToSee (IsAsSeen (L.sees look.old look.new)) L.point self.old self.new) }
     {
         let Session { seat, caller, .. } = self;
         look.check(store.catalogue())?;
@@ -423,7 +422,6 @@ impl Session {
         ensures early { IsRefused (early_refusal store.now.catalogue Read program argument.now) result (self.new ≡ self.old) }
         ensures told { MayRead store.now program argument.now
             → TellsSight (HasReply (op_of program argument.now)) (λ a. a.point) self.old self.new result }
-        ensures goes { IfOk result (GoesToSee (HasReply (op_of program argument.now)) (λ a. a.point) self.old self.new) }
     {
         self.see(rt, store, &mut Question { program, argument })
     }
@@ -468,7 +466,6 @@ impl Session {
         ensures early { IsRefused (first_refused store.now.catalogue 0 questions.now) result ((self.new ≡ self.old) × (replies.new ≡ replies.old)) }
         ensures told { MayReadEach store.now questions.now
             → TellsSight (HaveReplies questions.now replies.new) (λ point. point) self.old self.new result }
-        ensures goes { IfOk result (GoesToSee (HaveReplies questions.now replies.new) (λ point. point) self.old self.new) }
     {
         self.see(rt, store, &mut Reads { questions, replies })
     }
@@ -514,7 +511,6 @@ impl Session {
         ensures early { IsRefused (scan_refused store.now begin) result ((self.new ≡ self.old) × (keys.new ≡ keys.old) × (values.new ≡ values.old)) }
         ensures told { MayScan store.now begin
             → TellsSight (HasPage begin keys.old values.old keys.new values.new) (λ s. s.point) self.old self.new result }
-        ensures goes { IfOk result (GoesToSee (HasPage begin keys.old values.old keys.new values.new) (λ s. s.point) self.old self.new) }
     {
         self.see(
             rt,
@@ -567,7 +563,6 @@ impl Session {
         ensures kept { IfErr result (λ _. value.new ≡ value.old) }
         ensures told { MayGet store.now of.entry value.old
             → TellsSight (HasValue of.entry value.old value.new) (λ found. found.point) self.old self.new result }
-        ensures goes { IfOk result (GoesToSee (HasValue of.entry value.old value.new) (λ found. found.point) self.old self.new) }
     {
         self.see(rt, store, &mut Get { of, value })
     }
@@ -601,7 +596,6 @@ impl Session {
         ensures note { self.new.note ≡ self.old.note }
         ensures sizes { sizes_of into.new ≡ sizes_of into.old }
         ensures told { IsSight (IsTaken into.new) (λ point. point) self.old self.new result }
-        ensures goes { GoesToSee (IsTaken into.new) (λ point. point) self.old self.new result }
     {
         match self.see(rt, store, &mut Snapshot { into }) {
             Ok(point) => point,

@@ -18,17 +18,17 @@ use Rattle.store_steps.specs.declared.deeds.Stage.TheVariants.{Asked, Claimed}
 use Rattle.store_steps.specs.declared.desks.Turn.TheVariants.{Combines, Waits}
 use Rattle.store_steps.specs.declared.steps.Caller.{Caller}
 use Rattle.store_steps.specs.Combining.{HasCombined}
-use Rattle.store_steps.specs.Polling.{DeedsGo, HasBegun}
+use Rattle.store_steps.specs.Polling.{BeginsBy, DeedsGo, HasBegun}
 use Rattle.store_steps.specs.Requests.{HasPosted, HasTurned}
 use Rattle.store_steps.specs.Stages.{HasDone, HasGone, IsAsking, IsOnItsWay}
 use Rattle.store_steps.specs.Standing.{SessionKnown, StoreSeat}
-use Rattle.store_steps.specs.Updating.{DeedBy, DeedGoes, Deeds, Rests, Then}
-use Rattle.store_steps.specs.Views.{IsIdle, SessionView, session_view}
+use Rattle.store_steps.specs.Updating.{ClaimsIt, DeedBy, DeedGoes, Deeds, PostsBy, Rests, Then, TurnsBy}
+use Rattle.store_steps.specs.Views.{IsIdle, SessionView, known_of, session_view}
 use Rattle.store_steps.proofs.Gone.{asking_on, claims_gone, waits_gone}
 use Rattle.store_steps.proofs.Resumed.{free_by}
 use Rattle.store_steps.proofs.StoreLaws.{store_laws}
 use Rattle.store_steps.proofs.Taken.{well_formed}
-use Rattle.store_steps.proofs.Views.{seen_as, view_known}
+use Rattle.store_steps.proofs.Views.{goes_seen, seen_as, view_known}
 
 abbrev K : Type 0
 K = SessionKnown
@@ -54,9 +54,14 @@ go_deeds k after Busy d = one_deed k after d
 go_deeds k after Went d = one_deed k after d
 go_deeds k after (Collected reply) d = (k, Rests k, d)
 
+pub deeds_after : (k m after : K) (deed : Deed) → Deeds k m → DeedsGo m after deed → DeedsGo k after deed
+deeds_after k m after Busy first d = deeds_on k m after first d
+deeds_after k m after Went first d = deeds_on k m after first d
+deeds_after k m after (Collected reply) first d = (d.0, deeds_on k m d.0 first d.1, d.2)
+
 -- ---- behind a post
 
-module _ (old new : S) (caller : Caller) (i : IsIdle old caller) (few : suc (length i.known.note.answered) < 2 ^ 64) (m after : K) (op : Operation) (p : HasPosted i.known m op) (is : IsSession new after) (b : BatchView) (kept : RepliesView) where
+module _ (old new : S) (caller : Caller) (i : IsIdle old caller) (few : suc (length i.known.note.answered) < 2 ^ 64) (m after : K) (op : Operation) (p : HasPosted i.known m op) (posts : PostsBy i.known m op) (is : IsSession new after) (b : BatchView) (kept : RepliesView) where
   asking : IsAsking (seat_of old m) caller m p.request
   asking =
       let long = grown_long store_meaning i.known.progress m.progress p.back.extends in
@@ -72,8 +77,8 @@ module _ (old new : S) (caller : Caller) (i : IsIdle old caller) (few : suc (len
         before = subst (λ (n : SessionNote). length n.answered ≤ p.request.seen) (sym p.note) (omega (arith, seen, low));
       }
 
-  begun : (stage : Stage) (deed : Deed) → IsOnItsWay (view_known old.shelf m) (session_view new) → HasGone (seat_of old m) new caller b kept stage deed → HasBegun old new caller op b kept stage
-  begun stage deed way h =
+  begun : (stage : Stage) (deed : Deed) → IsOnItsWay (view_known old.shelf m) (session_view new) → HasGone DeedsGo (seat_of old m) new caller b kept stage deed → after.held ≡ [] → Deeds m after → HasBegun old new caller op b kept stage
+  begun stage deed way h held deeds =
       let was = seen_as old i.known i.is in
       record {
         asked = subst (λ (z : SessionView). (o : Pending) × (o.op ≡ op) × (length z.progress.history ≤ o.seen) × (record (session_view new).note { batch = [] } ≡ record z.note { pending = Some o; batch = [] })) (sym was) (
@@ -82,6 +87,7 @@ module _ (old new : S) (caller : Caller) (i : IsIdle old caller) (few : suc (len
           p.seen,
           λ j. record { answered = (way.1 ∙ ap (λ (n : SessionNote). n.answered) p.note) j; pending = (way.0 ∙ ap (λ (n : SessionNote). n.pending) p.note) j; batch = [] },
         );
+        goes = goes_seen (λ x y. BeginsBy x y op) old new (session_view old) i.known after i.is i.free.held refl is held (m, posts, deeds);
         session = h.session ∙ (p.back.session ∙ sym (ap (λ (z : SessionView). z.session) was));
         extends = subst (λ (z : SessionView). Extends z.progress (session_view new).progress) (sym was) (store_laws.extends_on i.known.progress m.progress (session_view new).progress p.back.extends h.extends);
         well_formed = h.well_formed;
@@ -91,11 +97,14 @@ module _ (old new : S) (caller : Caller) (i : IsIdle old caller) (few : suc (len
   alone : m.note.batch ≡ []
   alone = ap (λ (n : SessionNote). n.batch) p.note ∙ i.batch
 
-  pub begun_waiting : HasTurned m after p.request b Waits → HasBegun old new caller op b kept Asked
-  begun_waiting h = let g = waits_gone (seat_of old m) new caller b kept m p.request asking after is alone h in begun Asked Busy g.done g
+  pub begun_waiting : HasTurned m after p.request b Waits → Deeds m after → HasBegun old new caller op b kept Asked
+  begun_waiting h deeds = let g = waits_gone DeedsGo (seat_of old m) new caller b kept m p.request asking after is alone h deeds in begun Asked Busy g.done g h.back.held deeds
 
-  pub begun_combining : HasTurned m after p.request b Combines → HasBegun old new caller op b kept Claimed
-  begun_combining h = let g = claims_gone (seat_of old m) new caller b kept m p.request asking after is h in begun Claimed Went g.done g
+  pub begun_combining : HasTurned m after p.request b Combines → TurnsBy m after b Combines → HasBegun old new caller op b kept Claimed
+  begun_combining h turns =
+      let deeds = one_deed m after (ClaimsIt b turns) in
+      let g = claims_gone DeedsGo (seat_of old m) new caller b kept m p.request asking after is h deeds in
+      begun Claimed Went g.done g h.back.held deeds
 
 -- ---- behind the answers of a batch
 
@@ -119,8 +128,8 @@ module _ (old new : S) (caller : Caller) (k m : K) (o : Pending) (a : IsAsking o
     d.1 ∙ (λ j. answered_with (record (h.note j) { batch = [] }) r.op reply),
   )
 
-  pub gone_then : (b : BatchView) (kept : RepliesView) (stage : Stage) (deed : Deed) → HasGone (seat_of old m) new caller b kept stage deed → HasGone old new caller b kept stage deed
-  gone_then b kept stage deed g =
+  pub gone_then : (b : BatchView) (kept : RepliesView) (stage : Stage) (deed : Deed) → DeedBy k m → HasGone DeedsGo (seat_of old m) new caller b kept stage deed → HasGone DeedsGo old new caller b kept stage deed
+  gone_then b kept stage deed first g =
       let was = seen_as old k a.is in
       record {
         request = g.request;
@@ -129,5 +138,7 @@ module _ (old new : S) (caller : Caller) (k m : K) (o : Pending) (a : IsAsking o
         extends = subst (λ (z : SessionView). Extends z.progress (session_view new).progress) (sym was) (store_laws.extends_on k.progress m.progress (session_view new).progress h.extends g.extends);
         well_formed = g.well_formed;
         done = subst (λ (z : SessionView). HasDone z (session_view new) g.request deed) (sym was) (done_then deed g.request g.done);
+        goes = deeds_after (known_of (session_view old)) (known_of (session_view (seat_of old m))) (known_of (session_view new)) deed
+            (goes_seen Deeds old (seat_of old m) (session_view old) k m a.is a.free.held refl refl h.held (one_deed k m first)) g.goes;
         polled = g.polled;
       }

@@ -10,12 +10,11 @@ use Rattle.store_steps.specs.declared.steps.Question.{Question}
 use Rattle.store_steps.specs.declared.steps.Shared.{Shared}
 use Rattle.store_steps.specs.Asking.{AwaitsAnswer, asked_op}
 use Rattle.store_steps.specs.AtOnce.{IsAlone, MayAsk, MayHandOver}
-use Rattle.store_steps.specs.Combining.{HasAnswered, HasCombined}
+use Rattle.store_steps.specs.Combining.{HasAnswered, HasCombined, SessionAnswers}
 use Rattle.ownlock.proofs.Export.{one_known}
 use Rattle.combiner.specs.declared.slots.Reply.{Reply}
 use Rattle.store_steps.specs.EachMember.{AscendEach, AsksEach, AsksFor, ClaimsAt, CombinesEach, GivesEach, HasRecordOf, LooksAndPosts, MayGive}
 use Rattle.store_steps.specs.Holds.{UpdatesInTwoHolds, session_at, with_first}
-use Rattle.store_steps.specs.Knowing.{Learns, Relates}
 use Rattle.store_steps.specs.Pipelines.{CollectsAt, HasLooked, KnownAt, MayAskAt, PostsAt, SameSpots}
 use Rattle.store_steps.specs.Standing.{IsFree, SessionKnown, StoreSeat}
 use Rattle.store_steps.specs.Whole.{AnswersBy, HandsOver}
@@ -29,7 +28,7 @@ abbrev K : Type 0
 K = SessionKnown
 
 module _ (shared : Shared) (old new : List Member) (calls : List Question) (batch : BatchView) (same : SameSpots old new) (count : (0 < length calls) × (length old ≡ length calls)) (idle : (j : ℕ) → MayAskAt shared old j) (p : LooksAndPosts old new calls batch) (own : Member) (at_own : At 0 own new) (s3 : StoreSeat) (kept : RepliesView)
-    (learns : Learns own.seat s3 (λ k after. HasAnswered k after batch kept)) (goes : Relates own.seat s3 (λ k after. AnswersBy own.caller.node k after batch kept)) where
+    (learns : SessionAnswers own.caller.node own.seat s3 batch kept) where
   abbrev Of : ℕ → Type 0
   Of = MemberOf shared old new calls batch same count idle p
 
@@ -48,7 +47,7 @@ module _ (shared : Shared) (old new : List Member) (calls : List Question) (batc
   same_caller : (j : ℕ) (member : Member) (w : Of j) → At j member new → member.caller ≡ w.member.caller
   same_caller j member w at = let o = was_at old new same j member at in ap (λ z. z.0) o.2 ∙ ap (λ (z : Member). z.caller) (at_one old j o.0 w.member o.1 w.at)
 
-  abbrev combined : (a : K) × IsSession s3 a × HasAnswered claims.after a batch kept
+  abbrev combined : (a : K) × IsSession s3 a × HasAnswered claims.after a batch kept × AnswersBy own.caller.node claims.after a batch kept
   combined = learns claims.after is_first
 
   at_first : At 0 (record own { seat = s3 }) last
@@ -130,7 +129,7 @@ module _ (shared : Shared) (old new : List Member) (calls : List Question) (batc
         let a = learns k is in
         let o = was_at old new same 0 own at_own in
         let node = ap (λ z. z.0.node) o.2 ∙ ap (λ (z : Member). z.caller.node) (at_one old 0 o.0 member o.1 at) in
-        (a.0, (record own { seat = s3 }, at_first, a.1), a.2, subst (λ n. AnswersBy n k a.0 batch kept) node (goes k a.0 is a.1));
+        (a.0, (record own { seat = s3 }, at_first, a.1), a.2, subst (λ n. AnswersBy n k a.0 batch kept) node a.3);
     others = λ j k lt known. (known.0, set_else new 0 j (record own { seat = s3 }) (λ e. omega (arith, e, lt)) ∙ known.1, known.2);
   }
 

@@ -8,4 +8,4 @@ pub use Rattle.store_steps.proofs.Places.{at_drop}
 pub use Rattle.store_steps.proofs.Resumed.{free_by}
 pub use Rattle.store_steps.proofs.StoreLaws.{session_laws, store_laws}
 pub use Rattle.store_steps.proofs.Taken.{well_formed}
-pub use Rattle.store_steps.proofs.Views.{both, seen_as, view_known}
+pub use Rattle.store_steps.proofs.Views.{both, goes_seen, seen_as, view_known}

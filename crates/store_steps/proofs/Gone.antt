@@ -28,7 +28,7 @@ use Rattle.store_steps.specs.Stages.{HasDone, HasGone, IsAsking, IsOnItsWay, IsP
 use Rattle.store_steps.specs.Views.{SessionView, session_view}
 use Rattle.store_steps.specs.Standing.{SessionKnown, StoreSeat}
 use Rattle.store_steps.specs.Trying.{IsStill}
-use Rattle.store_steps.proofs.Views.{both, seen_as, view_known}
+use Rattle.store_steps.proofs.Views.{both, goes_seen, seen_as, view_known}
 use Rattle.store_steps.proofs.Resumed.{free_by, has_claimed}
 use Rattle.store_steps.proofs.StoreLaws.{store_laws}
 use Rattle.store_steps.proofs.Taken.{well_formed}
@@ -75,57 +75,61 @@ moved_back k m o b pending answered = record { session = b.session; held = b.hel
 
 -- ---- what a deed leaves
 
-module _ (old new : S) (caller : Caller) (b : BatchView) (kept : RepliesView) (k : K) (o : Pending) (a : IsAsking old caller k o) where
-  gone : (m : K) (stage : Stage) (deed : Deed) → IsSession new m → m.session ≡ k.session → Extends k.progress m.progress → IsWellFormed store_meaning m.progress → HasDone (view_known old.shelf k) (view_known new.shelf m) o deed → IsPolled new caller b kept stage
-      → HasGone old new caller b kept stage deed
-  gone m stage deed is session extends well done polled = record {
+module _ (Goes : K → K → Deed → Type 0) (old new : S) (caller : Caller) (b : BatchView) (kept : RepliesView) (k : K) (o : Pending) (a : IsAsking old caller k o) where
+  abbrev Leaves : Stage → Deed → Type 0
+  Leaves stage deed = HasGone Goes old new caller b kept stage deed
+
+  gone : (m : K) (stage : Stage) (deed : Deed) → IsSession new m → m.session ≡ k.session → m.held ≡ [] → Extends k.progress m.progress → IsWellFormed store_meaning m.progress → HasDone (view_known old.shelf k) (view_known new.shelf m) o deed → IsPolled new caller b kept stage
+      → Goes k m deed → Leaves stage deed
+  gone m stage deed is session held extends well done polled goes = record {
     request = o;
     waited = asks old caller k o a;
     session = both old new k m a.is is (λ x y. y.session ≡ x.session) session;
     extends = both old new k m a.is is (λ x y. Extends x.progress y.progress) extends;
     well_formed = both old new k m a.is is (λ x y. IsWellFormed store_meaning y.progress) well;
     done = both old new k m a.is is (λ x y. HasDone x y o deed) done;
+    goes = goes_seen (λ x y. Goes x y deed) old new (session_view old) k m a.is a.free.held refl is held goes;
     polled = polled;
   }
 
   -- the session waits on
-  on_way : (m : K) (stage : Stage) (deed : Deed) → (IsOnItsWay (view_known old.shelf k) (view_known new.shelf m) → HasDone (view_known old.shelf k) (view_known new.shelf m) o deed) → IsSession new m → Moved k m o → IsPolled new caller b kept stage → HasGone old new caller b kept stage deed
-  on_way m stage deed told is v polled = gone m stage deed is v.session v.extends v.well (told (v.pending ∙ sym a.pending, v.answered)) polled
+  on_way : (m : K) (stage : Stage) (deed : Deed) → (IsOnItsWay (view_known old.shelf k) (view_known new.shelf m) → HasDone (view_known old.shelf k) (view_known new.shelf m) o deed) → IsSession new m → Moved k m o → IsPolled new caller b kept stage → Goes k m deed → Leaves stage deed
+  on_way m stage deed told is v polled goes = gone m stage deed is v.session v.held v.extends v.well (told (v.pending ∙ sym a.pending, v.answered)) polled goes
 
   -- the seat is as it was
-  pub stays_gone : new ≡ old → (stage : Stage) → IsPolled old caller b kept stage → HasGone old new caller b kept stage Busy
-  stays_gone e stage v = gone k stage Busy (ap (λ (z : S). z.sessions) e ∙ a.is) refl (store_laws.extends_self k.progress) a.well_formed (refl, refl) (subst (λ z. IsPolled z caller b kept stage) (sym e) v)
+  pub stays_gone : new ≡ old → (stage : Stage) → IsPolled old caller b kept stage → Goes k k Busy → Leaves stage Busy
+  stays_gone e stage v goes = gone k stage Busy (ap (λ (z : S). z.sessions) e ∙ a.is) refl a.free.held (store_laws.extends_self k.progress) a.well_formed (refl, refl) (subst (λ z. IsPolled z caller b kept stage) (sym e) v) goes
 
-  pub waits_gone : (m : K) → IsSession new m → k.note.batch ≡ [] → HasTurned k m o b Waits → HasGone old new caller b kept Asked Busy
-  waits_gone m is alone h =
+  pub waits_gone : (m : K) → IsSession new m → k.note.batch ≡ [] → HasTurned k m o b Waits → Goes k m Busy → Leaves Asked Busy
+  waits_gone m is alone h goes =
       let v = moved_back k m o h.back (ap (λ (n : SessionNote). n.pending) h.turns ∙ a.pending) (ap (λ (n : SessionNote). n.answered) h.turns) in
-      on_way m Asked Busy (λ w. w) is v (m, o, asking_on old new caller k m o a is v, ap (λ (n : SessionNote). n.batch) h.turns ∙ alone)
+      on_way m Asked Busy (λ w. w) is v (m, o, asking_on old new caller k m o a is v, ap (λ (n : SessionNote). n.batch) h.turns ∙ alone) goes
 
-  pub claims_gone : (m : K) → IsSession new m → HasTurned k m o b Combines → HasGone old new caller b kept Claimed Went
-  claims_gone m is h =
+  pub claims_gone : (m : K) → IsSession new m → HasTurned k m o b Combines → Goes k m Went → Leaves Claimed Went
+  claims_gone m is h goes =
       let v = moved_back k m o h.back (ap (λ (n : SessionNote). n.pending) h.turns.0 ∙ a.pending) (ap (λ (n : SessionNote). n.answered) h.turns.0) in
-      on_way m Claimed Went (λ w. w) is v (m, o, asking_on old new caller k m o a is v, has_claimed k m o b h)
+      on_way m Claimed Went (λ w. w) is v (m, o, asking_on old new caller k m o a is v, has_claimed k m o b h) goes
 
-  pub held_gone : (m : K) → IsSession new m → HasClaimed k b → IsStill k m → HasGone old new caller b kept Claimed Busy
-  held_gone m is claimed s =
+  pub held_gone : (m : K) → IsSession new m → HasClaimed k b → IsStill k m → Goes k m Busy → Leaves Claimed Busy
+  held_gone m is claimed s goes =
       let v : Moved k m o = record { session = s.session; held = s.held; extends = s.extends; well = s.well_formed a.well_formed; pending = ap (λ (n : SessionNote). n.pending) s.note ∙ a.pending; answered = ap (λ (n : SessionNote). n.answered) s.note } in
-      on_way m Claimed Busy (λ w. w) is v (m, o, asking_on old new caller k m o a is v, claimed_still k m b s claimed)
+      on_way m Claimed Busy (λ w. w) is v (m, o, asking_on old new caller k m o a is v, claimed_still k m b s claimed) goes
 
-  pub ran_gone : (m : K) → IsSession new m → HasAnswered k m b kept → HasGone old new caller b kept Ready Went
-  ran_gone m is h =
+  pub ran_gone : (m : K) → IsSession new m → HasAnswered k m b kept → Goes k m Went → Leaves Ready Went
+  ran_gone m is h goes =
       let v : Moved k m o = record { session = h.session; held = h.held; extends = h.extends; well = well_formed m.progress h.stands.notes h.stands.accounts; pending = ap (λ (n : SessionNote). n.pending) h.note ∙ a.pending; answered = ap (λ (n : SessionNote). n.answered) h.note } in
-      on_way m Ready Went (λ w. w) is v (m, o, asking_on old new caller k m o a is v, h.ready, h.stands)
+      on_way m Ready Went (λ w. w) is v (m, o, asking_on old new caller k m o a is v, h.ready, h.stands) goes
 
-  pub gave_gone : (m : K) → IsSession new m → HasCombined k m → HasGone old new caller b kept Asked Went
-  gave_gone m is h =
+  pub gave_gone : (m : K) → IsSession new m → HasCombined k m → Goes k m Went → Leaves Asked Went
+  gave_gone m is h goes =
       let v : Moved k m o = record { session = h.session; held = h.held; extends = h.extends; well = well_formed m.progress h.stands.notes h.stands.accounts; pending = ap (λ (n : SessionNote). n.pending) h.note ∙ a.pending; answered = ap (λ (n : SessionNote). n.answered) h.note } in
-      on_way m Asked Went (λ w. w) is v (m, o, asking_on old new caller k m o a is v, ap (λ (n : SessionNote). n.batch) h.note)
+      on_way m Asked Went (λ w. w) is v (m, o, asking_on old new caller k m o a is v, ap (λ (n : SessionNote). n.batch) h.note) goes
 
   -- the session has its answer
-  pub collects_gone : (m : K) (reply : Reply) → IsSession new m → k.note.batch ≡ [] → HasTurned k m o b (Collects reply) → HasGone old new caller b kept Idle (Collected reply)
-  collects_gone m reply is alone h =
+  pub collects_gone : (m : K) (reply : Reply) → IsSession new m → k.note.batch ≡ [] → HasTurned k m o b (Collects reply) → Goes k m (Collected reply) → Leaves Idle (Collected reply)
+  collects_gone m reply is alone h goes =
       let well = well_formed m.progress h.back.stands.notes h.back.stands.accounts in
-      gone m Idle (Collected reply) is h.back.session h.back.extends well (h.turns.1, h.turns.0 ∙ (λ i. answered_with (record k.note { batch = alone i }) o.op reply))
+      gone m Idle (Collected reply) is h.back.session h.back.held h.back.extends well (h.turns.1, h.turns.0 ∙ (λ i. answered_with (record k.note { batch = alone i }) o.op reply))
       (record {
         known = m;
         is = is;
@@ -135,6 +139,7 @@ module _ (old new : S) (caller : Caller) (b : BatchView) (kept : RepliesView) (k
         well_formed = well;
         within = subst (λ (n : SessionNote). length n.answered ≤ length m.progress.history) (sym h.turns.0) (fits reply h.turns.1);
       })
+      goes
     where
       none_pending : (reply : Reply) → (answered_with k.note o.op reply).pending ≡ None
       none_pending (Placed i x) = refl

@@ -26,28 +26,26 @@ use Rattle.store_steps.specs.declared.steps.Caller.{Caller}
 use Rattle.store_steps.specs.declared.steps.Question.{Question}
 use Rattle.store_steps.specs.declared.steps.Shared.{Shared}
 use Rattle.store_steps.specs.Asking.{AwaitsAnswer, asked_op}
-use Rattle.store_steps.specs.Combining.{HasAnswered}
+use Rattle.store_steps.specs.Combining.{SessionAnswers}
 use Rattle.store_steps.specs.EachMember.{AllRequested, AscendEach, GivesEach, HasRecordOf, LooksEach, MayGive, PostsEach}
 use Rattle.store_steps.specs.Holds.{session_at}
-use Rattle.store_steps.specs.Knowing.{Relates}
 use Rattle.store_steps.specs.Pipelines.{KnownAt, MayAskAt, SameSpots, spot_of}
-use Rattle.store_steps.specs.Polling.{BeginsBy, DeedsGo}
+use Rattle.store_steps.specs.Polling.{DeedsGo}
 use Rattle.store_steps.specs.PollingEach.{AreIdle, AreOn, AreOut, BeginsEach, CompletesEach, WaitsEach, stage_at}
 use Rattle.store_steps.specs.Requests.{HasTurned}
 use Rattle.store_steps.specs.Stages.{HasDone, HasGone, IsAsking, IsOnItsWay, IsOut, IsPolled}
 use Rattle.store_steps.specs.Standing.{IsFree, SessionKnown, StoreSeat}
 use Rattle.store_steps.specs.Trying.{IsStill}
-use Rattle.store_steps.specs.Updating.{Answers, ClaimsIt, Deeds, Gives, Rests, Tries}
-use Rattle.store_steps.specs.Views.{SessionView, session_view}
-use Rattle.store_steps.specs.Whole.{AnswersBy}
+use Rattle.store_steps.specs.Updating.{Answers, Deeds, Gives, Rests, Tries}
+use Rattle.store_steps.specs.Views.{SessionView, known_of, session_view}
 use Rattle.store_steps.proofs.AskingEach.{spots_below, was_at}
-use Rattle.store_steps.proofs.Begun.{asking_still, begun_combining, begun_waiting, deeds_on, gone_then, one_deed, seat_of}
+use Rattle.store_steps.proofs.Begun.{asking_still, begun_combining, begun_waiting, deeds_after, gone_then, one_deed, seat_of}
 use Rattle.store_steps.proofs.Gone.{asked_of, collects_gone, held_gone, on_known, ran_gone, stays_gone}
 use Rattle.store_steps.proofs.Holds.{known_session}
 use Rattle.store_steps.proofs.Posting.{known_as, map_set}
 use Rattle.store_steps.proofs.Resumed.{free_by, shelf_then}
 use Rattle.store_steps.proofs.StoreLaws.{store_laws}
-use Rattle.store_steps.proofs.Views.{seen_as}
+use Rattle.store_steps.proofs.Views.{known_seen, seen_as}
 
 abbrev K : Type 0
 K = SessionKnown
@@ -57,9 +55,6 @@ S = StoreSeat
 
 -- ---- one session, after two calls
 
-abbrev Goes : S → S → Deed → Type 0
-Goes old new deed = Relates old new (λ k after. DeedsGo k after deed)
-
 done_after : (old mid new : SessionView) → IsOnItsWay old mid → mid.session ≡ old.session → (deed : Deed) (o : Pending) → HasDone mid new o deed → HasDone old new o deed
 done_after old mid new way same Busy o d = (d.0 ∙ way.0, d.1 ∙ way.1)
 done_after old mid new way same Went o d = (d.0 ∙ way.0, d.1 ∙ way.1)
@@ -68,7 +63,7 @@ done_after old mid new way same (Collected reply) o d = (
   d.1 ∙ (λ j. answered_with (record { answered = way.1 j; pending = way.0 j; batch = [] }) o.op reply),
 )
 
-gone_after : (old mid new : S) (caller : Caller) (b c : BatchView) (kept now : RepliesView) (stage next : Stage) (deed : Deed) → HasGone old mid caller b kept stage Busy → HasGone mid new caller c now next deed → HasGone old new caller c now next deed
+gone_after : (old mid new : S) (caller : Caller) (b c : BatchView) (kept now : RepliesView) (stage next : Stage) (deed : Deed) → HasGone DeedsGo old mid caller b kept stage Busy → HasGone DeedsGo mid new caller c now next deed → HasGone DeedsGo old new caller c now next deed
 gone_after old mid new caller b c kept now stage next deed g h = record {
   request = h.request;
   waited = sym g.done.0 ∙ h.waited;
@@ -76,22 +71,18 @@ gone_after old mid new caller b c kept now stage next deed g h = record {
   extends = store_laws.extends_on (session_view old).progress (session_view mid).progress (session_view new).progress g.extends h.extends;
   well_formed = h.well_formed;
   done = done_after (session_view old) (session_view mid) (session_view new) g.done g.session deed h.request h.done;
+  goes = deeds_after (known_of (session_view old)) (known_of (session_view mid)) (known_of (session_view new)) deed g.goes h.goes;
   polled = h.polled;
 }
 
-gone_busy : (old new : S) (caller : Caller) (b : BatchView) (kept : RepliesView) (stage : Stage) → HasGone old new caller b kept stage Went → HasGone old new caller b kept stage Busy
-gone_busy old new caller b kept stage g = record { request = g.request; waited = g.waited; session = g.session; extends = g.extends; well_formed = g.well_formed; done = g.done; polled = g.polled }
+gone_busy : (old new : S) (caller : Caller) (b : BatchView) (kept : RepliesView) (stage : Stage) → HasGone DeedsGo old new caller b kept stage Went → HasGone DeedsGo old new caller b kept stage Busy
+gone_busy old new caller b kept stage g = record { request = g.request; waited = g.waited; session = g.session; extends = g.extends; well_formed = g.well_formed; done = g.done; goes = g.goes; polled = g.polled }
 
-deeds_after : (k m after : K) (deed : Deed) → Deeds k m → DeedsGo m after deed → DeedsGo k after deed
-deeds_after k m after Busy first d = deeds_on k m after first d
-deeds_after k m after Went first d = deeds_on k m after first d
-deeds_after k m after (Collected reply) first d = (d.0, deeds_on k m d.0 first d.1, d.2)
-
-known_in : (s : S) (caller : Caller) (b : BatchView) (kept : RepliesView) (stage : Stage) → IsPolled s caller b kept stage → (k : K) × IsSession s k
-known_in s caller b kept Idle v = (v.known, v.is)
-known_in s caller b kept Asked v = (v.0, v.2.is)
-known_in s caller b kept StageClaimed v = (v.0, v.2.is)
-known_in s caller b kept StageReady v = (v.0, v.2.is)
+known_in : (s : S) (caller : Caller) (b : BatchView) (kept : RepliesView) (stage : Stage) → IsPolled s caller b kept stage → (k : K) × IsSession s k × (k.held ≡ [])
+known_in s caller b kept Idle v = (v.known, v.is, v.free.held)
+known_in s caller b kept Asked v = (v.0, v.2.is, v.2.free.held)
+known_in s caller b kept StageClaimed v = (v.0, v.2.is, v.2.free.held)
+known_in s caller b kept StageReady v = (v.0, v.2.is, v.2.free.held)
 
 asking_in : (s : S) (caller : Caller) (b : BatchView) (kept : RepliesView) (stage : Stage) → IsOut stage → IsPolled s caller b kept stage → (k : K) × (o : Pending) × IsAsking s caller k o
 asking_in s caller b kept Idle out v = absurd out
@@ -99,18 +90,12 @@ asking_in s caller b kept Asked out v = (v.0, v.1, v.2)
 asking_in s caller b kept StageClaimed out v = (v.0, v.1, v.2)
 asking_in s caller b kept StageReady out v = (v.0, v.1, v.2)
 
--- what is said of the sessions of two seats holds of whatever sessions these are
-relates : (old new : S) (k m : K) (P : K → K → Type 0) → IsSession old k → IsSession new m → P k m → Relates old new P
-relates old new k m P was now h l n is at = subst (λ (z : K × K). P z.0 z.1) (λ i. (one_known old k l was is i, one_known new m n now at i)) h
-
 -- it is where it was
-abbrev Gone : (p q : Member) → BatchView → RepliesView → Stage → Deed → Type 0
-Gone p q b kept stage deed = HasGone p.seat q.seat p.caller b kept stage deed × Goes p.seat q.seat deed
+abbrev Waits : (p q : Member) → BatchView → RepliesView → Stage → Type 0
+Waits p q b kept stage = HasGone DeedsGo p.seat q.seat p.caller b kept stage Busy
 
-stays_at : (p q : Member) (b : BatchView) (kept : RepliesView) (stage : Stage) → IsOut stage → q.seat ≡ p.seat → IsPolled p.seat p.caller b kept stage → Gone p q b kept stage Busy
-stays_at p q b kept stage out e v =
-    let a = asking_in p.seat p.caller b kept stage out v in
-    (stays_gone p.seat q.seat p.caller b kept a.0 a.1 a.2 e stage v, relates p.seat q.seat a.0 a.0 Deeds a.2.is (subst (λ z. IsSession z a.0) (sym e) a.2.is) (Rests a.0))
+stays_at : (p q : Member) (b : BatchView) (kept : RepliesView) (stage : Stage) → IsOut stage → q.seat ≡ p.seat → IsPolled p.seat p.caller b kept stage → Waits p q b kept stage
+stays_at p q b kept stage out e v = let a = asking_in p.seat p.caller b kept stage out v in stays_gone DeedsGo p.seat q.seat p.caller b kept a.0 a.1 a.2 e stage v (Rests a.0)
 
 stage_out : (stage : EachStage) (j : ℕ) → IsOut (stage_at stage j)
 stage_out stage (suc j) = tt
@@ -120,7 +105,7 @@ stage_out Ready zero = tt
 -- ---- all members
 
 -- each member is the session that it was
-module _ (old new : List Member) (same : SameSpots old new) (has : (j : ℕ) (p : Member) → At j p old → (k : K) × IsSession p.seat k)
+module _ (old new : List Member) (same : SameSpots old new) (has : (j : ℕ) (p : Member) → At j p old → (k : K) × IsSession p.seat k × (k.held ≡ []))
     (sessions : (j : ℕ) (p q : Member) → At j p old → At j q new → (session_view q.seat).session ≡ (session_view p.seat).session) where
   origin : (j : ℕ) (f : K) → KnownAt new j f → (k : K) × KnownAt old j k × (f.session ≡ k.session)
   origin j f known =
@@ -146,9 +131,9 @@ same_caller old new same j p q at_p at_q = let o = was_at old new same j q at_q 
 -- a list that is out goes on
 pub out_on : (old new : List Member) (b : BatchView) (kept now : RepliesView) (stage next : EachStage) → SameSpots old new → AreOut old b kept stage → WaitsEach old new b now next → AreOut new b now next
 out_on old new b kept now stage next same out waits = record {
-  polled = λ j q at. let p = was_at old new same j q at in subst (λ c. IsPolled q.seat c b now (stage_at next j)) (sym (same_caller old new same j p.0 q p.1 at)) (waits j p.0 q p.1 at).0.polled;
-  ascend = ascend_on old new same (λ j p at. known_in p.seat p.caller b kept (stage_at stage j) (out.polled j p at)) (λ j p q a c. (waits j p q a c).0.session) out.ascend;
-  requests = requests_on old new same (λ j p at. known_in p.seat p.caller b kept (stage_at stage j) (out.polled j p at)) (λ j p q a c. (waits j p q a c).0.session) b out.requests;
+  polled = λ j q at. let p = was_at old new same j q at in subst (λ c. IsPolled q.seat c b now (stage_at next j)) (sym (same_caller old new same j p.0 q p.1 at)) (waits j p.0 q p.1 at).polled;
+  ascend = ascend_on old new same (λ j p at. known_in p.seat p.caller b kept (stage_at stage j) (out.polled j p at)) (λ j p q a c. (waits j p q a c).session) out.ascend;
+  requests = requests_on old new same (λ j p at. known_in p.seat p.caller b kept (stage_at stage j) (out.polled j p at)) (λ j p q a c. (waits j p q a c).session) b out.requests;
 }
 
 -- its sessions have their shelf and their catalogue still
@@ -157,7 +142,7 @@ on_after shared old new b kept now stage next same out out2 waits on j q at =
     let p = was_at old new same j q at in
     let k = known_in p.0.seat p.0.caller b kept (stage_at stage j) (out.polled j p.0 p.1) in
     let f = known_in q.seat q.caller b now (stage_at next j) (out2.polled j q at) in
-    let grown = subst (λ (z : SessionView × SessionView). Extends z.0.progress z.1.progress) (λ i. (seen_as p.0.seat k.0 k.1 i, seen_as q.seat f.0 f.1 i)) (waits j p.0 q p.1 at).0.extends in
+    let grown = subst (λ (z : SessionView × SessionView). Extends z.0.progress z.1.progress) (λ i. (seen_as p.0.seat k.0 k.1 i, seen_as q.seat f.0 f.1 i)) (waits j p.0 q p.1 at).extends in
     (f.0, f.1, shelf_then _ _ _ k.0 f.0 grown (on_known shared p.0.seat k.0 k.1 (on j p.0 p.1)))
 
 pub stays_each : (members : List Member) (b : BatchView) (kept : RepliesView) (stage : EachStage) → AreOut members b kept stage → WaitsEach members members b kept stage
@@ -189,31 +174,27 @@ module _ (shared : Shared) (old new : List Member) (calls : List Question) (b : 
   begins_each zero p q asked at_p at_q at_c =
       let i = idle 0 p at_p in
       let c = posts.first i.known asked at_c (p, at_p, i.is) in
-      let is = known_as new 0 c.after q at_q c.is in (
-        begun_combining p.seat q.seat p.caller i (few 0 p at_p) c.asked c.after (asked_op asked) c.posted is b kept c.turned,
-        relates p.seat q.seat i.known c.after (λ k after. BeginsBy k after (asked_op asked)) i.is is (c.asked, c.posts, one_deed c.asked c.after (ClaimsIt b c.turns)),
-      )
+      let is = known_as new 0 c.after q at_q c.is in
+      begun_combining p.seat q.seat p.caller i (few 0 p at_p) c.asked c.after (asked_op asked) c.posted c.posts is b kept c.turned c.turns
   begins_each (suc j) p q asked at_p at_q at_c =
       let i = idle (suc j) p at_p in
       let c = posts.others (suc j) i.known asked (omega arith) at_c (p, at_p, i.is) in
-      let is = known_as new (suc j) c.0 q at_q c.1 in (
-        begun_waiting p.seat q.seat p.caller i (few (suc j) p at_p) c.0 c.0 (asked_op asked) c.2 is b kept
-            (record { back = record { session = refl; held = c.2.back.held; extends = store_laws.extends_self c.0.progress; stands = c.2.back.stands }; turns = refl }),
-        relates p.seat q.seat i.known c.0 (λ k after. BeginsBy k after (asked_op asked)) i.is is (c.0, c.3, Rests c.0),
-      )
+      let is = known_as new (suc j) c.0 q at_q c.1 in
+      begun_waiting p.seat q.seat p.caller i (few (suc j) p at_p) c.0 c.0 (asked_op asked) c.2 c.3 is b kept
+      (record { back = record { session = refl; held = c.2.back.held; extends = store_laws.extends_self c.0.progress; stands = c.2.back.stands }; turns = refl }) (Rests c.0)
 
   call_at : (j : ℕ) (p : Member) → At j p old → (c : Question) × At j c calls
   call_at j p at = let lt = at_below old j p at in at_there calls j (omega (arith, lt, count))
 
   pub begins_out : AscendEach old → AreOut new b kept Claimed
   begins_out up =
-      let has : (j : ℕ) (p : Member) → At j p old → (k : K) × IsSession p.seat k = λ j p at. ((idle j p at).known, (idle j p at).is) in
-      let sessions : (j : ℕ) (p q : Member) → At j p old → At j q new → (session_view q.seat).session ≡ (session_view p.seat).session = λ j p q at_p at_q. let c = call_at j p at_p in (begins_each j p q c.0 at_p at_q c.1).0.session in
+      let has : (j : ℕ) (p : Member) → At j p old → (k : K) × IsSession p.seat k × (k.held ≡ []) = λ j p at. ((idle j p at).known, (idle j p at).is, (idle j p at).free.held) in
+      let sessions : (j : ℕ) (p q : Member) → At j p old → At j q new → (session_view q.seat).session ≡ (session_view p.seat).session = λ j p q at_p at_q. let c = call_at j p at_p in (begins_each j p q c.0 at_p at_q c.1).session in
       record {
         polled = λ j q at.
             let p = was_at old new same j q at in
             let c = call_at j p.0 p.1 in
-            subst (λ z. IsPolled q.seat z b kept (stage_at Claimed j)) (sym (same_caller old new same j p.0 q p.1 at)) (begins_each j p.0 q c.0 p.1 at c.1).0.polled;
+            subst (λ z. IsPolled q.seat z b kept (stage_at Claimed j)) (sym (same_caller old new same j p.0 q p.1 at)) (begins_each j p.0 q c.0 p.1 at c.1).polled;
         ascend = ascend_on old new same has sessions up;
         requests = requests_on old new same has sessions b posts.requests;
       }
@@ -230,9 +211,9 @@ module _ (old : List Member) (b : BatchView) (kept : RepliesView) (out : AreOut 
   first_at : At 0 (record own { seat = seat }) set_first
   first_at = set_here old 0 (record own { seat = seat }) (at_below old 0 own at_own)
 
-  first_waits : (next : EachStage) → Gone own (record own { seat = seat }) b now (stage_at next 0) Busy → WaitsEach old set_first b now next
+  first_waits : (next : EachStage) → Waits own (record own { seat = seat }) b now (stage_at next 0) → WaitsEach old set_first b now next
   first_waits next first zero p q at_p at_q =
-      subst (λ (z : Member × Member). Gone z.0 z.1 b now (stage_at next 0) Busy) (λ i. (at_one old 0 own p at_own at_p i, at_one set_first 0 (record own { seat = seat }) q first_at at_q i)) first
+      subst (λ (z : Member × Member). Waits z.0 z.1 b now (stage_at next 0)) (λ i. (at_one old 0 own p at_own at_p i, at_one set_first 0 (record own { seat = seat }) q first_at at_q i)) first
   first_waits next first (suc j) p q at_p at_q =
       stays_at p q b now Asked tt (ap (λ (z : Member). z.seat) (at_one old (suc j) q p (sym (set_else old 0 (suc j) (record own { seat = seat }) (λ e. omega (arith, e))) ∙ at_q) at_p)) (out.polled (suc j) p at_p)
 
@@ -241,15 +222,14 @@ module _ (old : List Member) (b : BatchView) (kept : RepliesView) (out : AreOut 
   held_waits learns =
       let v = out.polled 0 own at_own in
       let t = learns v.0 v.2.is in
-      first_waits Claimed (held_gone own.seat seat own.caller b now v.0 v.1 v.2 t.0 t.1 v.3 t.2, relates own.seat seat v.0 t.0 Deeds v.2.is t.1 (one_deed v.0 t.0 (Tries t.2.tries t.2.nothing t.2.did)))
+      first_waits Claimed (held_gone DeedsGo own.seat seat own.caller b now v.0 v.1 v.2 t.0 t.1 v.3 t.2 (one_deed v.0 t.0 (Tries t.2.tries t.2.nothing t.2.did)))
 
   -- the requests have run
-  pub ran_waits : (learns : (k : K) → IsSession own.seat k → (m : K) × IsSession seat m × HasAnswered k m b now) → Relates own.seat seat (λ k after. AnswersBy own.caller.node k after b now) → WaitsEach old set_first b now Ready
-  ran_waits learns goes =
+  pub ran_waits : SessionAnswers own.caller.node own.seat seat b now → WaitsEach old set_first b now Ready
+  ran_waits learns =
       let v = out.polled 0 own at_own in
       let t = learns v.0 v.2.is in
-      first_waits Ready
-      (gone_busy own.seat seat own.caller b now StageReady (ran_gone own.seat seat own.caller b now v.0 v.1 v.2 t.0 t.1 t.2), relates own.seat seat v.0 t.0 Deeds v.2.is t.1 (one_deed v.0 t.0 (Answers own.caller.node b now v.3.noted (goes v.0 t.0 v.2.is t.1))))
+      first_waits Ready (gone_busy own.seat seat own.caller b now StageReady (ran_gone DeedsGo own.seat seat own.caller b now v.0 v.1 v.2 t.0 t.1 t.2 (one_deed v.0 t.0 (Answers own.caller.node b now v.3.noted t.3))))
 
 -- ---- the members collect
 
@@ -279,9 +259,9 @@ gives_each old new b c kept replies out g zero p q at_p at_q =
     let is = known_as new 0 e.after q at_q e.is in (
       d.1,
       d.2,
-      gone_then p.seat q.seat p.caller v.0 d.0 v.1 v.2 d.3 c kept Idle (Collected d.1)
-          (collects_gone (seat_of p.seat d.0) q.seat p.caller c kept d.0 v.1 (asking_still p.seat q.seat p.caller v.0 d.0 v.1 v.2 d.3) e.after d.1 is (ap (λ (n : SessionNote). n.batch) d.3.note) (any_batch d.0 e.after v.1 e.batch c d.1 e.turned)),
-      relates p.seat q.seat v.0 e.after (λ k after. DeedsGo k after (Collected d.1)) v.2.is is (d.0, one_deed v.0 d.0 (Gives p.caller.node b kept d.4), (e.batch, e.turns)),
+      gone_then p.seat q.seat p.caller v.0 d.0 v.1 v.2 d.3 c kept Idle (Collected d.1) (Gives p.caller.node b kept d.4)
+          (collects_gone DeedsGo (seat_of p.seat d.0) q.seat p.caller c kept d.0 v.1 (asking_still p.seat q.seat p.caller v.0 d.0 v.1 v.2 d.3) e.after d.1 is (ap (λ (n : SessionNote). n.batch) d.3.note) (any_batch d.0 e.after v.1 e.batch c d.1 e.turned)
+          (d.0, Rests d.0, (e.batch, e.turns))),
     )
 gives_each old new b c kept replies out g (suc j) p q at_p at_q =
     let v = out.polled (suc j) p at_p in
@@ -290,23 +270,17 @@ gives_each old new b c kept replies out g (suc j) p q at_p at_q =
     let is = known_as new (suc j) e.after q at_q e.is in (
       d.0,
       d.1,
-      collects_gone p.seat q.seat p.caller c kept v.0 v.1 v.2 e.after d.0 is v.3 (any_batch v.0 e.after v.1 e.batch c d.0 e.turned),
-      relates p.seat q.seat v.0 e.after (λ k after. DeedsGo k after (Collected d.0)) v.2.is is (v.0, Rests v.0, (e.batch, e.turns)),
+      collects_gone DeedsGo p.seat q.seat p.caller c kept v.0 v.1 v.2 e.after d.0 is v.3 (any_batch v.0 e.after v.1 e.batch c d.0 e.turned) (v.0, Rests v.0, (e.batch, e.turns)),
     )
 
 -- they waited before
-pub completes_after : (old mid new : List Member) (b c : BatchView) (kept now : RepliesView) (stage : EachStage) (replies : List Reply) → SameSpots old mid → SameSpots mid new → AreOut mid b kept stage → WaitsEach old mid b kept stage → CompletesEach mid new c now replies
+pub completes_after : (old mid new : List Member) (b c : BatchView) (kept now : RepliesView) (stage : EachStage) (replies : List Reply) → SameSpots old mid → SameSpots mid new → WaitsEach old mid b kept stage → CompletesEach mid new c now replies
     → CompletesEach old new c now replies
-completes_after old mid new b c kept now stage replies first last out waits completes j p q at_p at_q =
+completes_after old mid new b c kept now stage replies first last waits completes j p q at_p at_q =
     let m = was_at mid new last j q at_q in
     let w = waits j p m.0 at_p m.1 in
     let d = completes j m.0 q m.1 at_q in
-    let k = known_in m.0.seat m.0.caller b kept (stage_at stage j) (out.polled j m.0 m.1) in (
-      d.0,
-      d.1,
-      gone_after p.seat m.0.seat q.seat p.caller b c kept now (stage_at stage j) Idle (Collected d.0) w.0 (subst (λ z. HasGone m.0.seat q.seat z c now Idle (Collected d.0)) (same_caller old mid first j p m.0 at_p m.1) d.2),
-      λ l after is at. deeds_after l k.0 after (Collected d.0) (w.1 l k.0 is k.1) (d.3 k.0 after k.1 at),
-    )
+    (d.0, d.1, gone_after p.seat m.0.seat q.seat p.caller b c kept now (stage_at stage j) Idle (Collected d.0) w (subst (λ z. HasGone DeedsGo m.0.seat q.seat z c now Idle (Collected d.0)) (same_caller old mid first j p m.0 at_p m.1) d.2))
 
 -- what each of them did before it collects
 pub deeds_between : (old mid : List Member) (b : BatchView) (kept now : RepliesView) (stage next : EachStage) → SameSpots old mid → AreOut old b kept stage → AreOut mid b now next → WaitsEach old mid b now next → (j : ℕ) → j < length old → Deeds (session_at old j) (session_at mid j)
@@ -315,4 +289,4 @@ deeds_between old mid b kept now stage next same out out2 waits j lt =
     let q = at_there mid j (spots_below old mid same j lt) in
     let k = known_in p.0.seat p.0.caller b kept (stage_at stage j) (out.polled j p.0 p.1) in
     let f = known_in q.0.seat q.0.caller b now (stage_at next j) (out2.polled j q.0 q.1) in
-    subst (λ (z : K × K). Deeds z.0 z.1) (λ i. (sym (known_session old j k.0 (p.0, p.1, k.1)) i, sym (known_session mid j f.0 (q.0, q.1, f.1)) i)) ((waits j p.0 q.0 p.1 q.1).1 k.0 f.0 k.1 f.1)
+    subst (λ (z : K × K). Deeds z.0 z.1) (λ i. (sym (known_session old j k.0 (p.0, p.1, k.1) ∙ known_seen p.0.seat k.0 k.1 k.2) i, sym (known_session mid j f.0 (q.0, q.1, f.1) ∙ known_seen q.0.seat f.0 f.1 f.2) i)) (waits j p.0 q.0 p.1 q.1).goes

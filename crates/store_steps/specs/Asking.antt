@@ -12,7 +12,8 @@ use Rattle.store_steps.specs.declared.steps.Shared.{Shared}
 use Rattle.store_steps.specs.AtDesk.{HasAsked}
 use Rattle.store_steps.specs.Requests.{HasPosted, HasTurned, HasCompleted}
 use Rattle.store_steps.specs.Standing.{SessionKnown, StoreSeat, IsFree}
-use Rattle.store_steps.specs.Knowing.{IsOn, Learns}
+use Rattle.store_steps.specs.Knowing.{IsOn, LearnsBy}
+use Rattle.store_steps.specs.Updating.{CompletesBy, PostsBy, TurnsBy}
 use Rattle.store_steps.specs.Views.{op_of}
 
 -- the operation that the question asks for
@@ -33,12 +34,14 @@ AwaitsAnswer s caller shared = (k : SessionKnown) × (o : Pending) × IsSession 
 
 -- the session of the seat has posted the operation
 abbrev pub SessionPosts : (old new : StoreSeat) → Operation → Type 0
-SessionPosts old new op = Learns old new (λ k after. HasPosted k after op)
+SessionPosts old new op = LearnsBy old new (λ k after. HasPosted k after op) (λ k after. PostsBy k after op)
 
 -- the session has had its turn, whichever request it waits for
 abbrev pub SessionTurns : (old new : StoreSeat) → BatchView → Turn → Type 0
-SessionTurns old new batch turn = (k : SessionKnown) (o : Pending) → IsSession old k → HasAsked k o → (after : SessionKnown) × IsSession new after × HasTurned k after o batch turn
+SessionTurns old new batch turn =
+    (k : SessionKnown) (o : Pending) → IsSession old k → HasAsked k o → (after : SessionKnown) × IsSession new after × HasTurned k after o batch turn × TurnsBy k after batch turn
 
 -- the session has its answer, whichever request it waits for
 abbrev pub SessionCompletes : (old new : StoreSeat) → Reply → Type 0
-SessionCompletes old new reply = (k : SessionKnown) (o : Pending) → IsSession old k → HasAsked k o → (after : SessionKnown) × IsSession new after × HasCompleted k after o reply
+SessionCompletes old new reply =
+    (k : SessionKnown) (o : Pending) → IsSession old k → HasAsked k o → (after : SessionKnown) × IsSession new after × HasCompleted k after o reply × CompletesBy k after reply

@@ -16,7 +16,7 @@ use Rattle.store_steps.specs.Whole.{HandsOver}
 use Rattle.store_steps.specs.Knowing.{IsOn, Knows}
 use Rattle.store_steps.specs.Requests.{HasCompleted, HasPosted, HasTurned}
 use Rattle.store_steps.specs.Standing.{SessionKnown, StoreSeat, IsFree, Stands}
-use Rattle.store_steps.specs.Updating.{PostsBy, TurnsBy}
+use Rattle.store_steps.specs.Updating.{CompletesBy, PostsBy, TurnsBy}
 
 -- the session waits for no answer, combines for nobody, and has had fewer answers than a word can count
 pub record IsAlone (k : SessionKnown) : Type 0 where
@@ -70,6 +70,8 @@ SessionGives node old new given kept batch turn = (k : SessionKnown) (o : Pendin
 pub record AsksAtOnce (new : StoreSeat) (k : SessionKnown) (op : Operation) (reply : Reply) : Type 0 where
   pub asked : SessionKnown
   pub posted : HasPosted k asked op
+  pub posts : PostsBy k asked op
   pub after : SessionKnown
   pub is : IsSession new after
   pub completed : HasCompleted asked after posted.request reply
+  pub completes : CompletesBy asked after reply

@@ -18,9 +18,9 @@ Knows s P = (k : SessionKnown) × IsSession s k × P k
 abbrev pub Learns : (old new : StoreSeat) → (SessionKnown → SessionKnown → Type 0) → Type 0
 Learns old new P = (k : SessionKnown) → IsSession old k → (after : SessionKnown) × IsSession new after × P k after
 
--- where the seat was one session and is one now, P holds of what that knew and what it knows
-abbrev pub Relates : (old new : StoreSeat) → (SessionKnown → SessionKnown → Type 0) → Type 0
-Relates old new P = (k after : SessionKnown) → IsSession old k → IsSession new after → P k after
+-- `Learns` of what the session was told, and of the steps that it took
+abbrev pub LearnsBy : (old new : StoreSeat) → (Told Goes : SessionKnown → SessionKnown → Type 0) → Type 0
+LearnsBy old new Told Goes = (k : SessionKnown) → IsSession old k → (after : SessionKnown) × IsSession new after × Told k after × Goes k after
 
 -- the session's store has this shelf and this catalogue
 abbrev pub IsOn : Shared → SessionKnown → Type 0

@@ -13,24 +13,25 @@ use Rattle.store_steps.specs.declared.steps.Caller.{Caller}
 use Rattle.store_steps.specs.Stages.{IsPolled}
 use Rattle.store_steps.specs.Standing.{SessionKnown, StoreSeat}
 use Rattle.store_steps.specs.Updating.{CollectsBy, Deeds, PostsBy}
-use Rattle.store_steps.specs.Views.{SessionView, session_view}
+use Rattle.store_steps.specs.Views.{SessionView, known_of, session_view}
 
 -- it waits for the answer to this operation, which it posted when the history was no shorter than it had known; it may have claimed a batch since
 abbrev pub HasAskedFor : (old new : SessionView) → Operation → Type 0
 HasAskedFor old new op =
     (o : Pending) × (o.op ≡ op) × (length old.progress.history ≤ o.seen) × (record new.note { batch = [] } ≡ record old.note { pending = Some o; batch = [] })
 
--- what the post of an idle session leaves, and what may stand between its calls then
+-- it posted this operation, and then did so many deeds
+abbrev pub BeginsBy : SessionKnown → SessionKnown → Operation → Type 0
+BeginsBy k after op = (m : SessionKnown) × PostsBy k m op × Deeds m after
+
+-- what the post of an idle session leaves, by which steps, and what may stand between its calls then
 pub record HasBegun (old new : StoreSeat) (caller : Caller) (op : Operation) (b : BatchView) (kept : RepliesView) (stage : Stage) : Type 0 where
   pub asked : HasAskedFor (session_view old) (session_view new) op
+  pub goes : BeginsBy (known_of (session_view old)) (known_of (session_view new)) op
   pub session : (session_view new).session ≡ (session_view old).session
   pub extends : Extends (session_view old).progress (session_view new).progress
   pub well_formed : IsWellFormed store_meaning (session_view new).progress
   pub polled : IsPolled new caller b kept stage
-
--- it posted this operation, and then did so many deeds
-abbrev pub BeginsBy : SessionKnown → SessionKnown → Operation → Type 0
-BeginsBy k after op = (m : SessionKnown) × PostsBy k m op × Deeds m after
 
 -- so many deeds in one call; where it has its answer, that was collected last
 abbrev pub DeedsGo : SessionKnown → SessionKnown → Deed → Type 0

@@ -15,8 +15,8 @@ use Rattle.store_steps.specs.declared.steps.Question.{Question}
 use Rattle.store_steps.specs.declared.steps.Shared.{Shared}
 use Rattle.store_steps.specs.Asking.{asked_op}
 use Rattle.store_steps.specs.EachMember.{AllRequested, AscendEach}
-use Rattle.store_steps.specs.Knowing.{IsOn, Knows, Relates}
-use Rattle.store_steps.specs.Polling.{BeginsBy, DeedsGo, HasBegun}
+use Rattle.store_steps.specs.Knowing.{IsOn, Knows}
+use Rattle.store_steps.specs.Polling.{DeedsGo, HasBegun}
 use Rattle.store_steps.specs.Stages.{HasGone, IsPolled}
 use Rattle.store_steps.specs.Views.{IsIdle}
 
@@ -47,17 +47,14 @@ pub record AreOut (members : List Member) (batch : BatchView) (kept : RepliesVie
 -- each member has posted its call
 abbrev pub BeginsEach : (old new : List Member) → List Question → BatchView → RepliesView → EachStage → Type 0
 BeginsEach old new calls batch kept stage =
-    (j : ℕ) (p q : Member) (asked : Question) → At j p old → At j q new → At j asked calls
-    → HasBegun p.seat q.seat p.caller (asked_op asked) batch kept (stage_at stage j) × Relates p.seat q.seat (λ k after. BeginsBy k after (asked_op asked))
+    (j : ℕ) (p q : Member) (asked : Question) → At j p old → At j q new → At j asked calls → HasBegun p.seat q.seat p.caller (asked_op asked) batch kept (stage_at stage j)
 
 -- each member waits for its answer still
 abbrev pub WaitsEach : (old new : List Member) → BatchView → RepliesView → EachStage → Type 0
 WaitsEach old new batch kept stage =
-    (j : ℕ) (p q : Member) → At j p old → At j q new
-    → HasGone p.seat q.seat p.caller batch kept (stage_at stage j) Busy × Relates p.seat q.seat (λ k after. DeedsGo k after Busy)
+    (j : ℕ) (p q : Member) → At j p old → At j q new → HasGone DeedsGo p.seat q.seat p.caller batch kept (stage_at stage j) Busy
 
 -- each member has collected its answer, and is idle
 abbrev pub CompletesEach : (old new : List Member) → BatchView → RepliesView → List Reply → Type 0
 CompletesEach old new batch kept replies =
-    (j : ℕ) (p q : Member) → At j p old → At j q new
-    → (reply : Reply) × At j reply replies × HasGone p.seat q.seat p.caller batch kept Idle (Collected reply) × Relates p.seat q.seat (λ k after. DeedsGo k after (Collected reply))
+    (j : ℕ) (p q : Member) → At j p old → At j q new → (reply : Reply) × At j reply replies × HasGone DeedsGo p.seat q.seat p.caller batch kept Idle (Collected reply)

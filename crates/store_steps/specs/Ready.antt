@@ -1,5 +1,5 @@
 -- A session that holds its node's replica, once that has come up.
-use Rattle.std.specs.Prelude.{◌≡◌, ℕ, ◌≤◌, [], ◌∷◌, ◌++◌, length, nat_lt, Some}
+use Rattle.std.specs.Prelude.{◌≡◌, ℕ, true, ◌≤◌, [], ◌∷◌, ◌++◌, length, nat_lt, Some}
 use Rattle.ownlock.specs.declared.known.ShelfStep.TheVariants.{Read, Took}
 use Rattle.ownlock.specs.Seats.{tails_in}
 use Rattle.loader.specs.CatalogueView.{CatalogueView}
@@ -9,8 +9,17 @@ use Rattle.node.specs.declared.following.NodeReplica.{NodeReplica}
 use Rattle.store_steps.specs.declared.values.Value.{Value}
 use Rattle.store_steps.specs.Doing.{AReplica, Did}
 use Rattle.store_steps.specs.Lending.{replica_of, with_replica}
-use Rattle.store_steps.specs.Standing.{SessionKnown, Stands, Agrees, HoldsReplica}
+use Rattle.store_steps.specs.Knowing.{LearnsBy}
+use Rattle.store_steps.specs.Standing.{SessionKnown, Stands, StoreSeat, Agrees, HasReached, HoldsReplica}
 use Rattle.store_steps.specs.Whole.{FollowsBy}
+
+-- the session has brought a node's replica, which was n and is m, to the tail that was completed
+abbrev pub SessionFollows : (old new : StoreSeat) → (n m : NodeReplica) → Type 0
+SessionFollows old new n m = LearnsBy old new (λ k after. HasReached k after k.progress.completed m) (λ k after. FollowsBy true k after n m)
+
+-- the same to this tail, and only if the replica was below it
+abbrev pub SessionReaches : ℕ → (old new : StoreSeat) → (n m : NodeReplica) → Type 0
+SessionReaches done old new n m = LearnsBy old new (λ k after. HasReached k after done m) (λ k after. FollowsBy (nat_lt n.replica.tail done) k after n m)
 
 -- the session has read the completed tail, and has taken the replica of its node, which is the value v now that it has come up to that tail
 pub record HoldsReady (k after : SessionKnown) (place : ℕ) (v : Value) : Type 0 where

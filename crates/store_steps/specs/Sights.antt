@@ -7,7 +7,8 @@ use Rattle.oplog.specs.History.{state_after}
 use Rattle.replica.specs.StoreMeaning.{store_meaning}
 use Rattle.accounts.specs.declared.sessions.Progress.{Progress}
 use Rattle.accounts.specs.Accounts.{Extends, IsWellFormed}
-use Rattle.store_steps.specs.Standing.{SessionKnown}
+use Rattle.store_steps.specs.Knowing.{LearnsBy}
+use Rattle.store_steps.specs.Standing.{SessionKnown, StoreSeat}
 use Rattle.store_steps.specs.Whole.{LooksBy}
 
 -- A look began when `begun` operations were completed. Its point is not below that, nor above the completed tail at its end, and P holds of the
@@ -36,3 +37,7 @@ HasSight P point k after = HasSeen k after point × SightTells P after.progress 
 -- the steps of a look: P holds of the state of the replica that the session put back
 abbrev pub SightBy : (CatalogueView → StoreState → Type 0) → (point : ℕ) → (k after : SessionKnown) → Type 0
 SightBy P point k after = (by : LooksBy k after point) × P k.progress.catalogue by.left.replica.state
+
+-- the session of the seat has looked
+abbrev pub SessionLooks : (old new : StoreSeat) → (CatalogueView → StoreState → Type 0) → (point : ℕ) → Type 0
+SessionLooks old new P point = LearnsBy old new (HasSight P point) (SightBy P point)

@@ -16,7 +16,7 @@ use Rattle.store_steps.specs.declared.deeds.Stage.TheVariants.{Idle, Asked, Clai
 use Rattle.store_steps.specs.declared.steps.Caller.{Caller}
 use Rattle.store_steps.specs.AtDesk.{IsReady}
 use Rattle.store_steps.specs.Combining.{HasClaimed}
-use Rattle.store_steps.specs.Views.{IsIdle, SessionView, session_view}
+use Rattle.store_steps.specs.Views.{IsIdle, SessionView, known_of, session_view}
 use Rattle.store_steps.specs.Standing.{IsFree, SessionKnown, StoreSeat, Stands}
 
 -- ---- between its calls
@@ -67,12 +67,13 @@ HasDone old new o (Collected reply) = TellsDone old new o reply
 
 -- ---- one deed
 
--- what a deed of an update that was out leaves, as the session is seen, and what may stand between its calls then
-pub record HasGone (old new : StoreSeat) (caller : Caller) (b : BatchView) (kept : RepliesView) (stage : Stage) (deed : Deed) : Type 0 where
+-- what a deed of an update that was out leaves, as the session is seen, by which steps, and what may stand between its calls then
+pub record HasGone (Goes : SessionKnown → SessionKnown → Deed → Type 0) (old new : StoreSeat) (caller : Caller) (b : BatchView) (kept : RepliesView) (stage : Stage) (deed : Deed) : Type 0 where
   pub request : Pending
   pub waited : (session_view old).note.pending ≡ Some request
   pub session : (session_view new).session ≡ (session_view old).session
   pub extends : Extends (session_view old).progress (session_view new).progress
   pub well_formed : IsWellFormed store_meaning (session_view new).progress
   pub done : HasDone (session_view old) (session_view new) request deed
+  pub goes : Goes (known_of (session_view old)) (known_of (session_view new)) deed
   pub polled : IsPolled new caller b kept stage

@@ -42,6 +42,10 @@ first_in (k ∷ ks) = k
 abbrev pub session_view : StoreSeat → SessionView
 session_view s = let k = first_in s.sessions in record { shelf = s.shelf; session = k.session; progress = k.progress; note = k.note; steps = k.steps; run = k.run }
 
+-- what a session knows that holds nothing
+abbrev pub known_of : SessionView → SessionKnown
+known_of s = record { session = s.session; progress = s.progress; note = s.note; held = []; steps = s.steps; run = s.run }
+
 -- between its calls the session of that slot holds nothing, waits for nothing, and combines for nobody
 pub record IsIdle (s : StoreSeat) (caller : Caller) : Type 0 where
   pub known : SessionKnown

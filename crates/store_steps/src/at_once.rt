@@ -5,9 +5,7 @@ ghost use Rattle.ownlock.specs.Seats.{IsSession};
 ghost use Rattle.verifier.specs.declared.refusal.Mode.TheVariants.{Update};
 ghost use Rattle.replica.specs.StoreMeaning.{is_operation};
 ghost use Rattle.store_steps.specs.AtOnce.{AsksAtOnce, FoundNoAnswer, MayAsk, MayHandOver, PostsAndTurns, SessionGives};
-ghost use Rattle.store_steps.specs.Knowing.{Relates};
 ghost use Rattle.store_steps.specs.Standing.{SessionKnown};
-ghost use Rattle.store_steps.specs.Updating.{UpdatesBy};
 
 use crate::batches::Room;
 use crate::combining::append_and_replay;
@@ -144,7 +142,6 @@ pub fn ask_at_once<R: Wait>(
     requires update { is_operation Update here.shared.catalogue.now op.now ≡ true }
     ensures same { seat.new.shelf ≡ seat.old.shelf }
     ensures asked { (k : SessionKnown) → IsSession seat.old k → AsksAtOnce seat.new k op.now result }
-    ensures goes { Relates seat.old seat.new (λ k after. UpdatesBy k after op.now result) }
 {
     let mut at = post_and_turn(rt, here, seat, op, &mut room.batch);
     for _ in rt.forever() {

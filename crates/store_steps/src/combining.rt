@@ -3,11 +3,10 @@
 ghost use Rattle.std.specs.Prelude.{◌≡◌, ◌<◌, IfSome, IfNone, IfOk, IfErr};
 ghost use Rattle.node.specs.Answering.{answered_batch};
 ghost use Rattle.store_steps.specs.AtDesk.{IsReady};
-ghost use Rattle.store_steps.specs.Combining.{HasClaimed, HasAnswered, HasCombined};
-ghost use Rattle.store_steps.specs.Knowing.{IsOn, Knows, Learns, Relates};
+ghost use Rattle.store_steps.specs.Combining.{HasClaimed, SessionAnswers, SessionCombines, SessionHandsOver};
+ghost use Rattle.store_steps.specs.Knowing.{IsOn, Knows, Learns};
 ghost use Rattle.store_steps.specs.Standing.{Stands, IsFree};
 ghost use Rattle.store_steps.specs.Trying.{IsStill};
-ghost use Rattle.store_steps.specs.Whole.{AnswersBy, CombinesBy, HandsOver};
 
 use crate::desks;
 use crate::pauses::{Pauses, Waiting};
@@ -35,8 +34,7 @@ pub(crate) fn try_combine(
     ensures same { seat.new.shelf ≡ seat.old.shelf }
     ensures held { IfErr result (λ place. place < here.entry.shared.shelf.now.places) }
     ensures stays { IfErr result (λ _. Learns seat.old seat.new IsStill) }
-    ensures combined { IfOk result (λ _. Learns seat.old seat.new (λ k after. HasAnswered k after batch.now replies.new)) }
-    ensures goes { IfOk result (λ _. Relates seat.old seat.new (λ k after. AnswersBy here.entry.caller.node k after batch.now replies.new)) }
+    ensures combined { IfOk result (λ _. SessionAnswers here.entry.caller.node seat.old seat.new batch.now replies.new) }
 {
     let Shared { shelf, .. } = here.shared;
     let Some(mut held) = shelf.try_take(seat, 1 + here.caller.node) else {
@@ -64,8 +62,7 @@ pub(crate) fn append_and_replay<R: Wait>(
     requires own { seat.old.shelf ≡ here.shared.shelf.now.id }
     requires claimed { Knows seat.old (λ k. IsFree here.caller k × HasClaimed k batch.now × IsOn here.shared k) }
     ensures same { seat.new.shelf ≡ seat.old.shelf }
-    ensures combined { Learns seat.old seat.new (λ k after. HasAnswered k after batch.now replies.new) }
-    ensures goes { Relates seat.old seat.new (λ k after. AnswersBy here.entry.caller.node k after batch.now replies.new) }
+    ensures combined { SessionAnswers here.entry.caller.node seat.old seat.new batch.now replies.new }
 {
     for _ in waiting.rt.forever() {
         match try_combine(here, seat, batch, replies) {
@@ -92,8 +89,7 @@ pub(crate) fn combine<R: Wait>(
     requires own { seat.old.shelf ≡ here.shared.shelf.now.id }
     requires claimed { Knows seat.old (λ k. IsFree here.caller k × HasClaimed k batch.old × IsOn here.shared k) }
     ensures same { seat.new.shelf ≡ seat.old.shelf }
-    ensures combined { Learns seat.old seat.new HasCombined }
-    ensures goes { Relates seat.old seat.new (λ k after. CombinesBy k after batch.old batch.new) }
+    ensures combined { SessionCombines seat.old seat.new batch.old batch.new }
 {
     let pauses = &mut Pauses::new();
     append_and_replay(Waiting { rt, pauses }, here, seat, batch, replies);
@@ -113,9 +109,8 @@ pub(crate) fn try_hand_over(
     requires ready { Knows seat.old (λ k. IsFree here.caller k × IsReady k batch.old replies.now × IsOn here.shared k × Stands k) }
     ensures same { seat.new.shelf ≡ seat.old.shelf }
     ensures stays { IfNone result ((seat.new ≡ seat.old) × (batch.new ≡ batch.old)) }
-    ensures combined { IfSome result (λ _. Learns seat.old seat.new HasCombined) }
     ensures answered { IfSome result (λ _. batch.new ≡ answered_batch replies.now batch.old) }
-    ensures handed { IfSome result (λ _. Relates seat.old seat.new (λ k after. HandsOver here.entry.caller.node k after batch.old replies.now)) }
+    ensures handed { IfSome result (λ _. SessionHandsOver here.entry.caller.node seat.old seat.new batch.old replies.now) }
 {
     let Some(mut held) = try_take_desk(here, seat) else {
         return None;
@@ -137,9 +132,8 @@ fn hand_over<R: Wait>(
     requires own { seat.old.shelf ≡ here.shared.shelf.now.id }
     requires ready { Knows seat.old (λ k. IsFree here.caller k × IsReady k batch.old replies.now × IsOn here.shared k × Stands k) }
     ensures same { seat.new.shelf ≡ seat.old.shelf }
-    ensures combined { Learns seat.old seat.new HasCombined }
     ensures answered { batch.new ≡ answered_batch replies.now batch.old }
-    ensures handed { Relates seat.old seat.new (λ k after. HandsOver here.entry.caller.node k after batch.old replies.now) }
+    ensures handed { SessionHandsOver here.entry.caller.node seat.old seat.new batch.old replies.now }
 {
     if let Some(()) = try_hand_over(here, seat, batch, replies) {
         return;

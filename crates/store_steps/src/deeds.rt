@@ -3,7 +3,7 @@
 
 ghost use Rattle.std.specs.Prelude.{◌≡◌};
 ghost use Rattle.replica.specs.Views.{RepliesView};
-ghost use Rattle.store_steps.specs.Knowing.{IsOn, Knows, Relates};
+ghost use Rattle.store_steps.specs.Knowing.{IsOn, Knows};
 ghost use Rattle.store_steps.specs.Stages.{HasGone, IsAsked, IsOut, IsPolled};
 ghost use Rattle.store_steps.specs.Updating.{DeedGoes};
 ghost use Rattle.store_steps.specs.declared.deeds.Stage.TheVariants.{Asked, Claimed, Ready};
@@ -47,8 +47,7 @@ fn take_turn(here: Here<'_>, seat: &mut Seat<Value>, batch: &mut Batch, stage: &
     requires asked { stage.old ≡ Asked }
     requires polled { IsAsked seat.old here.caller }
     ensures same { seat.new.shelf ≡ seat.old.shelf }
-    ensures gone { (kept : RepliesView) → HasGone seat.old seat.new here.entry.caller batch.new kept stage.new result }
-    ensures goes { Relates seat.old seat.new (λ k after. DeedGoes k after result) }
+    ensures gone { (kept : RepliesView) → HasGone DeedGoes seat.old seat.new here.entry.caller batch.new kept stage.new result }
 {
     match try_turn(here, seat, batch) {
         None => Deed::Busy,
@@ -77,8 +76,7 @@ fn run_claimed(
     requires claimed { stage.old ≡ Claimed }
     requires polled { IsPolled seat.old here.caller batch.now replies.old Claimed }
     ensures same { seat.new.shelf ≡ seat.old.shelf }
-    ensures gone { HasGone seat.old seat.new here.entry.caller batch.now replies.new stage.new result }
-    ensures goes { Relates seat.old seat.new (λ k after. DeedGoes k after result) }
+    ensures gone { HasGone DeedGoes seat.old seat.new here.entry.caller batch.now replies.new stage.new result }
 {
     let Ok(()) = try_combine(here, seat, batch, replies) else {
         return Deed::Busy;
@@ -100,8 +98,7 @@ fn give_answers(
     requires ready { stage.old ≡ Ready }
     requires polled { IsPolled seat.old here.caller batch.old replies.now Ready }
     ensures same { seat.new.shelf ≡ seat.old.shelf }
-    ensures gone { HasGone seat.old seat.new here.entry.caller batch.new replies.now stage.new result }
-    ensures goes { Relates seat.old seat.new (λ k after. DeedGoes k after result) }
+    ensures gone { HasGone DeedGoes seat.old seat.new here.entry.caller batch.new replies.now stage.new result }
 {
     let Some(()) = try_hand_over(here, seat, batch, replies) else {
         return Deed::Busy;
@@ -123,8 +120,7 @@ pub fn go_on(
     requires polled { IsPolled seat.old here.caller batch.old replies.old stage.old }
     requires out { IsOut stage.old }
     ensures same { seat.new.shelf ≡ seat.old.shelf }
-    ensures gone { HasGone seat.old seat.new here.entry.caller batch.new replies.new stage.new result }
-    ensures goes { Relates seat.old seat.new (λ k after. DeedGoes k after result) }
+    ensures gone { HasGone DeedGoes seat.old seat.new here.entry.caller batch.new replies.new stage.new result }
 {
     match *stage {
         Stage::Idle => unreachable!(),

@@ -4,9 +4,9 @@ ghost use Rattle.std.specs.Prelude.{◌≡◌, ◌<◌, ℕ, Option, None, IfOk,
 ghost use Rattle.loader.specs.CatalogueView.{CatalogueView, sizes_for};
 ghost use Rattle.loader.specs.StoreState.{sizes_of};
 ghost use Rattle.store_steps.specs.Getting.{IsVerdict};
-ghost use Rattle.store_steps.specs.Knowing.{IsOn, Knows, Learns, Relates};
+ghost use Rattle.store_steps.specs.Knowing.{IsOn, Knows, Learns};
 ghost use Rattle.store_steps.specs.Seen.{Sight, holds};
-ghost use Rattle.store_steps.specs.Sights.{HasSight, SightBy};
+ghost use Rattle.store_steps.specs.Sights.{SessionLooks};
 ghost use Rattle.store_steps.specs.Standing.{IsFree};
 ghost use Rattle.store_steps.specs.Trying.{IsStill};
 
@@ -72,8 +72,7 @@ pub fn try_look<L: Look>(
     ensures stays { IfErr result (λ _. Learns seat.old seat.new IsStill) }
     ensures kept { IfErr result (λ _. look.new ≡ look.old) }
     ensures lent { IfOk result (λ _. L.lent look.old look.new) }
-    ensures told { IfOk result (λ told. Learns seat.old seat.new (HasSight (holds (L.sees look.old look.new told)) (L.point told))) }
-    ensures goes { IfOk result (λ told. Relates seat.old seat.new (SightBy (holds (L.sees look.old look.new told)) (L.point told))) }
+    ensures told { IfOk result (λ told. SessionLooks seat.old seat.new (holds (L.sees look.old look.new told)) (L.point told)) }
 {
     let mut held = try_hold_ready(here, seat)?;
     let node = held.value.replica_mut();
@@ -95,8 +94,7 @@ pub fn look_waiting<R: Wait, L: Look>(
     requires allowed { L.refusal look.old here.shared.catalogue.now ≡ None }
     ensures same { seat.new.shelf ≡ seat.old.shelf }
     ensures lent { L.lent look.old look.new }
-    ensures told { Learns seat.old seat.new (HasSight (holds (L.sees look.old look.new result)) (L.point result)) }
-    ensures goes { Relates seat.old seat.new (SightBy (holds (L.sees look.old look.new result)) (L.point result)) }
+    ensures told { SessionLooks seat.old seat.new (holds (L.sees look.old look.new result)) (L.point result) }
 {
     for _ in rt.forever() {
         match try_look(here, seat, look) {

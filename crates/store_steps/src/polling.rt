@@ -5,8 +5,8 @@ ghost use Rattle.std.specs.Prelude.{◌≡◌, suc, ◌<◌, ◌^◌, true, leng
 ghost use Rattle.verifier.specs.declared.refusal.Mode.TheVariants.{Update};
 ghost use Rattle.replica.specs.StoreMeaning.{is_operation};
 ghost use Rattle.replica.specs.Views.{RepliesView};
-ghost use Rattle.store_steps.specs.Knowing.{IsOn, Knows, Relates};
-ghost use Rattle.store_steps.specs.Polling.{BeginsBy, DeedsGo, HasBegun};
+ghost use Rattle.store_steps.specs.Knowing.{IsOn, Knows};
+ghost use Rattle.store_steps.specs.Polling.{DeedsGo, HasBegun};
 ghost use Rattle.store_steps.specs.Stages.{HasGone, IsPolled};
 ghost use Rattle.store_steps.specs.Views.{IsIdle};
 ghost use Rattle.store_steps.specs.declared.deeds.Stage.TheVariants.{Ready};
@@ -38,7 +38,6 @@ pub fn try_begin(
     ensures same { seat.new.shelf ≡ seat.old.shelf }
     ensures stays { IfNone result ((seat.new ≡ seat.old) × (batch.new ≡ batch.old) × (stage.new ≡ stage.old)) }
     ensures begun { IfSome result (λ _. (kept : RepliesView) → HasBegun seat.old seat.new here.entry.caller op.now batch.new kept stage.new) }
-    ensures goes { IfSome result (λ _. Relates seat.old seat.new (λ k after. BeginsBy k after op.now)) }
 {
     match try_post_and_turn(here, seat, op, batch) {
         None => None,
@@ -68,8 +67,7 @@ pub fn give_and_turn(
     requires ready { stage.old ≡ Ready }
     requires polled { IsPolled seat.old here.caller batch.old replies.now Ready }
     ensures same { seat.new.shelf ≡ seat.old.shelf }
-    ensures gone { HasGone seat.old seat.new here.entry.caller batch.new replies.now stage.new result }
-    ensures goes { Relates seat.old seat.new (λ k after. DeedsGo k after result) }
+    ensures gone { HasGone DeedsGo seat.old seat.new here.entry.caller batch.new replies.now stage.new result }
 {
     match try_hand_over_and_turn(here, seat, batch, replies) {
         None => Deed::Busy,

@@ -3,8 +3,6 @@
 ghost use Rattle.std.specs.Prelude.{◌≡◌, ◌<◌, true, IfNone, IfSome};
 ghost use Rattle.verifier.specs.declared.refusal.Mode.TheVariants.{Update};
 ghost use Rattle.replica.specs.StoreMeaning.{is_operation};
-ghost use Rattle.store_steps.specs.Knowing.{Relates};
-ghost use Rattle.store_steps.specs.Updating.{CompletesBy, PostsBy, TurnsBy};
 ghost use Rattle.store_steps.specs.Asking.{AwaitsNothing, AwaitsAnswer, SessionPosts, SessionTurns, SessionCompletes};
 
 use crate::batches::Room;
@@ -30,7 +28,6 @@ pub fn try_post(here: Here<'_>, seat: &mut Seat<Value>, op: &OpRef<'_>) -> Optio
     ensures same { seat.new.shelf ≡ seat.old.shelf }
     ensures stays { IfNone result (seat.new ≡ seat.old) }
     ensures posted { IfSome result (λ _. SessionPosts seat.old seat.new op.now) }
-    ensures goes { IfSome result (λ _. Relates seat.old seat.new (λ k after. PostsBy k after op.now)) }
 {
     let Some(mut held) = try_take_desk(here, seat) else {
         return None;
@@ -48,7 +45,6 @@ pub fn post<R: Wait>(rt: &R, here: Here<'_>, seat: &mut Seat<Value>, op: &OpRef<
     requires update { is_operation Update here.shared.catalogue.now op.now ≡ true }
     ensures same { seat.new.shelf ≡ seat.old.shelf }
     ensures posted { SessionPosts seat.old seat.new op.now }
-    ensures goes { Relates seat.old seat.new (λ k after. PostsBy k after op.now) }
 {
     if let Some(()) = try_post(here, seat, op) {
         return;
@@ -72,7 +68,6 @@ pub(crate) fn try_turn(here: Here<'_>, seat: &mut Seat<Value>, batch: &mut Batch
     ensures same { seat.new.shelf ≡ seat.old.shelf }
     ensures stays { IfNone result ((seat.new ≡ seat.old) × (batch.new ≡ batch.old)) }
     ensures turned { IfSome result (λ turn. SessionTurns seat.old seat.new batch.new turn) }
-    ensures goes { IfSome result (λ turn. Relates seat.old seat.new (λ k after. TurnsBy k after batch.new turn)) }
 {
     let Some(held) = try_take_desk(here, seat) else {
         return None;
@@ -92,7 +87,6 @@ pub(crate) fn turn<R: Wait>(
     requires asked { AwaitsAnswer seat.old here.caller here.shared }
     ensures same { seat.new.shelf ≡ seat.old.shelf }
     ensures turned { SessionTurns seat.old seat.new batch.new result }
-    ensures goes { Relates seat.old seat.new (λ k after. TurnsBy k after batch.new result) }
 {
     if let Some(turn) = try_turn(here, seat, batch) {
         return turn;
@@ -136,7 +130,6 @@ pub fn complete<R: Wait>(rt: &R, here: Here<'_>, seat: &mut Seat<Value>, room: &
     requires asked { AwaitsAnswer seat.old here.caller here.shared }
     ensures same { seat.new.shelf ≡ seat.old.shelf }
     ensures completed { SessionCompletes seat.old seat.new result }
-    ensures goes { Relates seat.old seat.new (λ k after. CompletesBy k after result) }
 {
     for _ in rt.forever() {
         match turn(rt, here, seat, &mut room.batch) {

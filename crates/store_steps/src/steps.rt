@@ -1,6 +1,6 @@
 // What a session does on the shelf.
 
-ghost use Rattle.std.specs.Prelude.{◌≡◌, ◌↔◌, ◌⊎◌, ◌+◌, ◌-◌, ◌<◌, ◌≤◌, true, false, min, length, drop, nat_lt, None, IsTrue, IfSome, IfNone, IfOk, IfErr};
+ghost use Rattle.std.specs.Prelude.{◌≡◌, ◌↔◌, ◌⊎◌, ◌+◌, ◌-◌, ◌<◌, ◌≤◌, true, false, min, length, drop, None, IsTrue, IfSome, IfNone, IfOk, IfErr};
 ghost use Rattle.loader.specs.CatalogueView.{sizes_for};
 ghost use Rattle.loader.specs.StoreState.{sizes_of};
 ghost use Rattle.oplog.specs.History.{AllFit};
@@ -10,14 +10,13 @@ ghost use Rattle.oplog.specs.declared.configuration.TheConstants.{ENDLESS};
 ghost use Rattle.replica.specs.StoreMeaning.{AreUpdates};
 ghost use Rattle.node.specs.Following.{Fits, IsNext, copied, exchanged, is_above, may_rebase, rebased, reclaimed, replayed, replayed_first, told};
 ghost use Rattle.accounts.specs.Moves.{unplaced};
-ghost use Rattle.store_steps.specs.Knowing.{HasLog, HasReplica, IsOn, Knows, Learns, Relates};
-ghost use Rattle.store_steps.specs.Standing.{Stands, IsFree, HasOthers, HasRaised, HasPlace, HasAppended, HasReplayed, HasReached};
+ghost use Rattle.store_steps.specs.Knowing.{HasLog, HasReplica, IsOn, Knows, Learns};
+ghost use Rattle.store_steps.specs.Standing.{Stands, IsFree, HasOthers, HasRaised, HasAppended, HasReplayed};
 ghost use Rattle.store_steps.specs.Trying.{IsStill};
-ghost use Rattle.store_steps.specs.Ready.{HoldsReady};
+ghost use Rattle.store_steps.specs.Ready.{HoldsReady, SessionFollows, SessionReaches};
 ghost use Rattle.ownlock.specs.Held.{held_place};
 ghost use Rattle.store_steps.specs.Rooms.{FreesRoom, IsBaseDue, IsHalfBefore, Owes, caught_up};
-ghost use Rattle.store_steps.specs.Due.{AppendsDue, HasDue, HasReplayedDue, IsDue, ReplaysDue};
-ghost use Rattle.store_steps.specs.Whole.{MakesRoom, AppendsAny, ReplaysAnywhere, FollowsBy};
+ghost use Rattle.store_steps.specs.Due.{IsDue, SessionAppends, SessionMakesRoom, SessionReplays};
 
 use crate::values::Value;
 use loader::Catalogue;
@@ -246,8 +245,7 @@ fn make_room(
     requires holds { Knows seat.old (λ k. HasLog k log.old node.old shared.catalogue.now) }
     ensures same { seat.new.shelf ≡ seat.old.shelf }
     ensures owes { Owes shared.entry.catalogue.now log.new node.new result }
-    ensures room { Learns seat.old seat.new (λ k after. HasPlace k after want log.old log.new (caught_up shared.entry.catalogue.now result node.new)) }
-    ensures goes { Relates seat.old seat.new (λ k after. MakesRoom want k after log.old log.new node.old (caught_up shared.entry.catalogue.now result node.new)) }
+    ensures room { SessionMakesRoom want seat.old seat.new log.old log.new node.old (caught_up shared.entry.catalogue.now result node.new) }
 {
     let Shared {
         shelf,
@@ -304,8 +302,7 @@ pub(crate) fn try_append_and_copy<'a>(
     ensures same { seat.new.shelf ≡ seat.old.shelf }
     ensures stays { IfNone result ((seat.new ≡ seat.old) × (node.new ≡ node.old)) }
     ensures next { IfSome result (λ due. IsNext shared.entry.catalogue.now node.new × (due.owed ≤ length node.new.hand.records)) }
-    ensures appended { IfSome result (λ due. Learns seat.old seat.new (HasDue shared.entry.catalogue.now due node.new records.now replies.new)) }
-    ensures goes { IfSome result (λ due. Relates seat.old seat.new (AppendsDue shared.entry.catalogue.now due node.old node.new records.now replies.new)) }
+    ensures appended { IfSome result (λ due. SessionAppends shared.entry.catalogue.now due seat.old seat.new node.old node.new records.now replies.new) }
 {
     let Some(mut held) = shared.shelf.try_take(seat, LEADER) else {
         return None;
@@ -333,8 +330,7 @@ pub(crate) fn replay_and_raise(
     requires next { IsNext shared.catalogue.now node.old × (due.now.owed ≤ length node.old.hand.records) }
     requires known { Knows seat.old (IsDue shared.catalogue.now due.now node.old) }
     ensures same { seat.new.shelf ≡ seat.old.shelf }
-    ensures replayed { Learns seat.old seat.new (HasReplayedDue shared.entry.catalogue.now due.now node.old node.new replies.old replies.new) }
-    ensures goes { Relates seat.old seat.new (ReplaysDue shared.entry.catalogue.now due.now node.old node.new replies.old replies.new) }
+    ensures replayed { SessionReplays shared.entry.catalogue.now due.now seat.old seat.new node.old node.new replies.old replies.new }
 {
     replay_owed(node, shared.catalogue, due.owed);
     replay_with(node, &due.appended, shared.catalogue, replies);
@@ -356,8 +352,7 @@ fn try_follow_log(
     requires holds { Knows seat.old (λ k. HasReplica k node.old catalogue.now) }
     ensures same { seat.new.shelf ≡ seat.old.shelf }
     ensures stays { IfNone result ((seat.new ≡ seat.old) × (node.new ≡ node.old)) }
-    ensures reached { IfSome result (λ _. Learns seat.old seat.new (λ k after. HasReached k after k.progress.completed node.new)) }
-    ensures goes { IfSome result (λ _. Relates seat.old seat.new (λ k after. FollowsBy true k after node.old node.new)) }
+    ensures reached { IfSome result (λ _. SessionFollows seat.old seat.new node.old node.new) }
 {
     let Some(held) = shelf.try_take(seat, LEADER) else {
         return None;
@@ -385,8 +380,7 @@ fn try_follow_if_behind(
     requires holds { Knows seat.old (λ k. HasReplica k node.old shared.catalogue.now × (done ≤ k.progress.completed)) }
     ensures same { seat.new.shelf ≡ seat.old.shelf }
     ensures stays { IfNone result ((seat.new ≡ seat.old) × (node.new ≡ node.old)) }
-    ensures reached { IfSome result (λ _. Learns seat.old seat.new (λ k after. HasReached k after done node.new)) }
-    ensures goes { IfSome result (λ _. Relates seat.old seat.new (λ k after. FollowsBy (nat_lt node.old.replica.tail done) k after node.old node.new)) }
+    ensures reached { IfSome result (λ _. SessionReaches done seat.old seat.new node.old node.new) }
 {
     if ready(&node.replica, done) {
         return Some(());

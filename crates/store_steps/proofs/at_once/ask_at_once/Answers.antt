@@ -7,7 +7,7 @@ use Rattle.store_steps.specs.AtDesk.{IsReady}
 use Rattle.store_steps.specs.AtOnce.{IsAlone}
 use Rattle.store_steps.specs.Requests.{HasTurned}
 use Rattle.store_steps.specs.Standing.{IsFree}
-use Rattle.store_steps.specs.Updating.{Begins, Combines, TurnsBy, UpdatesBy, Waits}
+use Rattle.store_steps.specs.Updating.{Begins, Combines, TurnsBy, Waits}
 use Rattle.store_steps.specs.Whole.{HandsOver}
 use Rattle.store_steps.proofs.AtOnce.{asks, still_waits}
 use Rattle.store_steps.proofs.Resumed.{asked_by, free_back, free_then, has_claimed, has_completed, resumed_combined, resumed_first, resumed_waited, shelf_then}
@@ -26,23 +26,16 @@ returns-in-Collects-clause-asked g c k is =
     let p = c.post_and_turn-at.ensures.turned k is in
     let free = free_back c.args.here.caller k p.asked (subst (λ z. IsFree c.args.here.caller z) e i.2) p.posted.back in
     let n = c.loop.invariant.1 p.asked p.after p.posted.request p.is free (asks k p.asked c.args.op.now (subst IsAlone e i.3) p.posted) p.turned p.turns in
+    let b = c.loop.room.batch in
     record {
       asked = p.asked;
       posted = p.posted;
+      posts = p.posts;
       after = n.now;
       is = n.is;
-      completed = has_completed p.asked n.waited n.now p.posted.request c.loop.room.batch c.in-Collects.reply n.resumed (subst (λ z. HasTurned n.waited n.now p.posted.request c.loop.room.batch z) c.in-Collects.is n.turned);
+      completed = has_completed p.asked n.waited n.now p.posted.request b c.in-Collects.reply n.resumed (subst (λ z. HasTurned n.waited n.now p.posted.request b z) c.in-Collects.is n.turned);
+      completes = record { waited = n.waited; rounds = n.rounds; batch = b; collects = subst (λ z. TurnsBy n.waited n.now b z) c.in-Collects.is n.turns };
     }
-
-pub returns-in-Collects-clause-goes : goal.returns-in-Collects-clause-goes
-returns-in-Collects-clause-goes g c k after is now =
-    let i = c.requires.idle in
-    let e = one_known c.args.seat.now i.0 k i.1 is in
-    let p = c.post_and_turn-at.ensures.turned k is in
-    let free = free_back c.args.here.caller k p.asked (subst (λ z. IsFree c.args.here.caller z) e i.2) p.posted.back in
-    let n = c.loop.invariant.1 p.asked p.after p.posted.request p.is free (asks k p.asked c.args.op.now (subst IsAlone e i.3) p.posted) p.turned p.turns in
-    subst (λ z. UpdatesBy k z c.args.op.now c.in-Collects.reply) (one_known c.loop.seat n.now after n.is now)
-    (record { asked = p.asked; posts = p.posts; completes = record { waited = n.waited; rounds = n.rounds; batch = c.loop.room.batch; collects = subst (λ z. TurnsBy n.waited n.now c.loop.room.batch z) c.in-Collects.is n.turns } })
 
 pub append_and_replay-requires-clause-claimed : goal.append_and_replay-requires-clause-claimed
 append_and_replay-requires-clause-claimed g c =
@@ -89,13 +82,12 @@ loop-preserved-in-Combines g c = (
       let a = c.append_and_replay.ensures.combined n.now n.is in
       let room = c.count_batch.ensures.room in
       let r = c.hand_over_and_turn-at.ensures.turned a.0 o a.1 (still_waits n.now a.0 o b kept n.waited h (asked_by asked n.waited o n.resumed.note w) a.2) in
-      let first = c.append_and_replay.ensures.goes n.now a.0 n.is a.1 in
       let last = subst (λ (z : RepliesView). HandsOver c.args.here.caller.node a.0 r.combined b z) room.1 (subst (λ (z : BatchView). HandsOver c.args.here.caller.node a.0 r.combined z c.count_batch.new.self.replies) room.0 r.gives) in
       record {
         waited = r.combined;
         resumed = resumed_combined c.args.here.caller asked n.waited n.now r.combined o b free w n.resumed h (combined_then n.now a.0 r.combined b kept a.2 r.has);
         rounds = Combines asked n.waited n.now r.combined b (answered_batch kept b) n.rounds (subst (λ z. TurnsBy n.waited n.now b z) c.in-Combines.is n.turns)
-            (combines_by c.args.here.caller.node n.now a.0 r.combined b kept first last a.2.extends r.has.extends a.2.stands (answered_batch kept b) refl (has_claimed n.waited n.now o b h).noted a.2.session);
+            (combines_by c.args.here.caller.node n.now a.0 r.combined b kept a.3 last a.2.extends r.has.extends a.2.stands (answered_batch kept b) refl (has_claimed n.waited n.now o b h).noted a.2.session);
         now = r.after;
         is = r.is;
         turned = r.turned;
@@ -130,6 +122,6 @@ loop-preserved g c = (
         now = t.0;
         is = t.1;
         turned = t.2;
-        turns = c.turn-at.ensures.goes n.now t.0 n.is t.1;
+        turns = t.3;
       },
 )

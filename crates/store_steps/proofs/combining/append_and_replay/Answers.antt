@@ -31,12 +31,7 @@ pub returns-in-Ok-clause-combined : goal.returns-in-Ok-clause-combined
 returns-in-Ok-clause-combined g c k is =
     let m = c.loop.invariant.1 k is in
     let t = c.in-Ok.ensures.combined m.0 m.1 in
-    (t.0, t.1, answered_since k m.0 t.0 c.args.batch.now c.try_combine.new.replies m.2 t.2)
-
-pub returns-in-Ok-clause-goes : goal.returns-in-Ok-clause-goes
-returns-in-Ok-clause-goes g c k after is now =
-    let m = c.loop.invariant.1 k is in
-    answers_since c.args.here.caller.node k m.0 after c.args.batch.now c.try_combine.new.replies m.2 (c.in-Ok.ensures.goes m.0 after m.1 now)
+    (t.0, t.1, answered_since k m.0 t.0 c.args.batch.now c.try_combine.new.replies m.2 t.2, answers_since c.args.here.caller.node k m.0 t.0 c.args.batch.now c.try_combine.new.replies m.2 t.3)
 
 pub loop-preserved : goal.loop-preserved
 loop-preserved g c = (

@@ -1,7 +1,6 @@
 use Rattle.std.proofs.Common.{◌≡◌, subst}
 use Rattle.ownlock.proofs.Export.{one_known}
 use Rattle.accounts.specs.Moves.{unplaced}
-use Rattle.store_steps.specs.Whole.{CombinesBy}
 use Rattle.store_steps.proofs.Stretches.{combines_by}
 use Rattle.store_steps.proofs.Taken.{free_on, shelf_on}
 use Rattle.store_steps.proofs.Tried.{combined_then}
@@ -15,18 +14,14 @@ hand_over-requires-clause-ready g c =
 
 pub returns-clause-combined : goal.returns-clause-combined
 returns-clause-combined g c k is =
-    let a = c.append_and_replay.ensures.combined k is in
-    let z = c.hand_over.ensures.combined a.0 a.1 in
-    (z.0, z.1, combined_then k a.0 z.0 c.args.batch.now c.append_and_replay.new.replies a.2 z.2)
-
-pub returns-clause-goes : goal.returns-clause-goes
-returns-clause-goes g c k after is now =
     let i = c.requires.claimed in
     let b = c.args.batch.now in
     let kept = c.append_and_replay.new.replies in
     let a = c.append_and_replay.ensures.combined k is in
-    let first = c.append_and_replay.ensures.goes k a.0 is a.1 in
-    let z = c.hand_over.ensures.combined a.0 a.1 in
-    let last = c.hand_over.ensures.handed a.0 z.0 a.1 z.1 in
-    subst (λ s. CombinesBy k s b c.hand_over.new.batch) (one_known c.hand_over.new.seat z.0 after z.1 now)
-    (combines_by c.args.here.caller.node k a.0 z.0 b kept first last a.2.extends z.2.extends a.2.stands c.hand_over.new.batch c.hand_over.ensures.answered (subst (λ z. z.note.batch ≡ unplaced b.records) (one_known c.args.seat.now i.0 k i.1 is) i.2.1.noted) a.2.session)
+    let z = c.hand_over.ensures.handed a.0 a.1 in
+    let noted = subst (λ z. z.note.batch ≡ unplaced b.records) (one_known c.args.seat.now i.0 k i.1 is) i.2.1.noted in (
+      z.0,
+      z.1,
+      combined_then k a.0 z.0 b kept a.2 z.2,
+      combines_by c.args.here.caller.node k a.0 z.0 b kept a.3 z.3 a.2.extends z.2.extends a.2.stands c.hand_over.new.batch c.hand_over.ensures.answered noted a.2.session,
+    )

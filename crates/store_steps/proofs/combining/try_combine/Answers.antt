@@ -7,7 +7,6 @@ use Rattle.store_steps.specs.Combining.{HasClaimed}
 use Rattle.store_steps.specs.Lending.{with_replica}
 use Rattle.store_steps.specs.Due.{brought}
 use Rattle.store_steps.specs.Standing.{Agrees, HasAppended, IsFree}
-use Rattle.store_steps.specs.Whole.{AnswersBy}
 use Rattle.store_steps.proofs.Stretches.{answers_by}
 use Rattle.store_steps.proofs.Combined.{from_k, ready, session_is}
 use Rattle.store_steps.proofs.Finished.{back, holds_on, may_put_replica, put_back}
@@ -69,47 +68,28 @@ returns-clause-combined c k is =
     let h = holds_on t.0 a.0 w a.2.goes b.holds in
     let r = c.replay_and_raise.ensures.replayed a.0 a.1 in
     let held = r.2.goes.held ∙ (a.2.goes.held ∙ (b.held ∙ ap (λ z. (z, w) ∷ []) (sym c.in-Some.ensures.place))) in
-    let p = c.put-2.ensures.put r.0 r.1 in
-    let f = back r.0 w (holds_on a.0 r.0 w r.2.goes h) c.replay_and_raise.new.seat.sessions r.1 c.replay_and_raise.new.node r.2.agrees r.2.within c.in-Some.held.place held p.0 p.1.0 p.1.1 _ (adds_on r.0 _ _ _ _ p.3) in
-    let new = c.replay_and_raise.new.replies in
-    let y = c.args.batch.now in (
-      _,
-      p.2,
-      record {
-        session = session_is t.0 a.0 r.0 rs old v c.replay_and_raise.new.node new done r.2 _ f y refl claimed.some claimed.ascend k (1 + c.args.here.caller.node) w b;
-        held = f.held;
-        note = ap (λ (n : SessionNote). record n { batch = [] }) (f.note ∙ (r.2.note ∙ done.note)) ∙ ap (λ (n : SessionNote). record n { batch = [] }) b.note;
-        extends = from_k t.0 a.0 r.0 rs old v c.replay_and_raise.new.node new done r.2 _ f y refl claimed.some claimed.ascend k (1 + c.args.here.caller.node) w b;
-        ready = ready t.0 a.0 r.0 rs old v c.replay_and_raise.new.node new done r.2 _ f y refl claimed.some claimed.ascend;
-        stands = f.stands;
-      },
-    )
-
-pub returns-clause-goes : goal.returns-clause-goes
-returns-clause-goes c k after is now =
-    let i = c.requires.claimed in
-    let w = c.in-Some.held.value in
-    let e = one_known c.args.seat.now i.0 k i.1 is in
-    let free = subst (λ z. IsFree c.args.here.caller z) e i.2.0 in
-    let t = c.in-Some.ensures.taken k is in
-    let b = took_replica k t.0 c.args.here.caller w free t.1 in
-    let a = c.in-Some-try_append_and_copy.ensures.appended t.0 t.2 in
     let n = c.replica_mut-node.result.now in
-    let v = brought c.args.here.shared.catalogue.now c.in-Some-try_append_and_copy.due c.try_append_and_copy.new.node in
     let m = c.replay_and_raise.new.node in
-    let old = c.try_append_and_copy.new.replies in
     let new = c.replay_and_raise.new.replies in
-    let h = holds_on t.0 a.0 w a.2.goes b.holds in
-    let r = c.replay_and_raise.ensures.replayed a.0 a.1 in
-    let held = r.2.goes.held ∙ (a.2.goes.held ∙ (b.held ∙ ap (λ z. (z, w) ∷ []) (sym c.in-Some.ensures.place))) in
+    let y = c.args.batch.now in
     let p = c.put-2.ensures.put r.0 r.1 in
     let f = back r.0 w (holds_on a.0 r.0 w r.2.goes h) c.replay_and_raise.new.seat.sessions r.1 m r.2.agrees r.2.within c.in-Some.held.place held p.0 p.1.0 p.1.1 _ (adds_on r.0 _ _ _ _ p.3) in
     let q = put_back c.replay_and_raise.new.seat.sessions (with_replica w m) r.0 c.in-Some.held.place p.0 (run_of c.put-2.new.seat.sessions) in
-    let first = c.in-Some-try_append_and_copy.ensures.goes t.0 a.0 t.2 a.1 c.args.batch.now (sym c.records.ensures.records) in
-    let then = c.replay_and_raise.ensures.goes a.0 r.0 a.1 r.1 first.back first.back_is in
-    subst (λ s. AnswersBy c.args.here.caller.node k s c.args.batch.now new) (one_known c.put-2.new.seat q after p.2 now)
-    (answers_by c.args.here.caller.node k t.0 a.0 r.0 q c.args.batch.now n v m old new b.extends (b.agrees n c.replica_mut-node.ensures.replica) b.stands first then a.2.goes.extends r.2.goes.extends r.2.agrees f.extends f.stands r.2.within
-    w c.replica_mut-node.ensures.replica b.steps c.in-Some.held.place c.in-Some.ensures.place (refl, adds_on r.0 _ _ _ _ p.3))
+    let first = a.3 y (sym c.records.ensures.records) in
+    let then = r.3 first.back first.back_is in (
+      q,
+      p.2,
+      record {
+        session = session_is t.0 a.0 r.0 rs old v m new done r.2 _ f y refl claimed.some claimed.ascend k (1 + c.args.here.caller.node) w b;
+        held = f.held;
+        note = ap (λ (n : SessionNote). record n { batch = [] }) (f.note ∙ (r.2.note ∙ done.note)) ∙ ap (λ (n : SessionNote). record n { batch = [] }) b.note;
+        extends = from_k t.0 a.0 r.0 rs old v m new done r.2 _ f y refl claimed.some claimed.ascend k (1 + c.args.here.caller.node) w b;
+        ready = ready t.0 a.0 r.0 rs old v m new done r.2 _ f y refl claimed.some claimed.ascend;
+        stands = f.stands;
+      },
+      answers_by c.args.here.caller.node k t.0 a.0 r.0 q y n v m old new b.extends (b.agrees n c.replica_mut-node.ensures.replica) b.stands first then a.2.goes.extends r.2.goes.extends r.2.agrees f.extends f.stands r.2.within w c.replica_mut-node.ensures.replica b.steps
+          c.in-Some.held.place c.in-Some.ensures.place (refl, adds_on r.0 _ _ _ _ p.3),
+    )
 
 -- ---- the replica is held
 

@@ -1,9 +1,7 @@
-use Rattle.ownlock.proofs.Export.{adds_on, one_known}
-use Rattle.std.proofs.Common.{subst}
+use Rattle.ownlock.proofs.Export.{adds_on}
 use Rattle.store_steps.specs.AtDesk.{IsReady}
 use Rattle.store_steps.specs.Knowing.{IsOn}
 use Rattle.store_steps.specs.Standing.{IsFree, Stands}
-use Rattle.store_steps.specs.Whole.{HandsOver}
 use Rattle.store_steps.proofs.Combined.{ready_on}
 use Rattle.store_steps.proofs.Taken.{known_as}
 use Rattle.store_steps.proofs.TakenDesk.{is_at}
@@ -25,17 +23,10 @@ put-requires-clause-may c =
     let t = c.in-Some.ensures.taken i.0 i.1 in
     (t.0, t.1, (puts_answers c.args.here.caller i.0 t.0 _ _ c.args.batch.now c.args.replies.now t.2 i.2.1 i.2.3 c.reply.new.batch c.desk_mut.result.now c.reply.new.desk c.desk_mut.ensures.desk c.reply.ensures.answered c.reply.ensures.replied c.try_take_desk.new.seat t.1).may)
 
-pub returns-clause-combined : goal.returns-clause-combined
-returns-clause-combined c k is =
-    let i = known_as c.args.seat.now (λ z. IsFree c.args.here.caller z × IsReady z c.args.batch.now c.args.replies.now × IsOn c.args.here.shared z × Stands z) c.requires.ready k is in
-    let t = c.in-Some.ensures.taken k is in
-    let f = c.put.ensures.put t.0 t.1 in
-    (_, f.2, (gives_there c.args.here.caller k t.0 _ _ c.args.batch.now c.args.replies.now t.2 i.1 i.3 c.reply.new.batch c.desk_mut.result.now c.reply.new.desk c.desk_mut.ensures.desk c.reply.ensures.answered c.reply.ensures.replied c.try_take_desk.new.seat t.1 f.0 f.1.0 f.1.1 _ (adds_on t.0 _ _ _ _ f.3)).0)
-
 pub returns-clause-handed : goal.returns-clause-handed
-returns-clause-handed c k after is now =
+returns-clause-handed c k is =
     let i = known_as c.args.seat.now (λ z. IsFree c.args.here.caller z × IsReady z c.args.batch.now c.args.replies.now × IsOn c.args.here.shared z × Stands z) c.requires.ready k is in
     let t = c.in-Some.ensures.taken k is in
     let f = c.put.ensures.put t.0 t.1 in
-    subst (λ z. HandsOver c.args.here.caller.node k z c.args.batch.now c.args.replies.now) (one_known c.put.new.seat _ after f.2 now)
-    (gives_there c.args.here.caller k t.0 _ _ c.args.batch.now c.args.replies.now t.2 i.1 i.3 c.reply.new.batch c.desk_mut.result.now c.reply.new.desk c.desk_mut.ensures.desk c.reply.ensures.answered c.reply.ensures.replied c.try_take_desk.new.seat t.1 f.0 f.1.0 f.1.1 _ (adds_on t.0 _ _ _ _ f.3)).1
+    let g = gives_there c.args.here.caller k t.0 _ _ c.args.batch.now c.args.replies.now t.2 i.1 i.3 c.reply.new.batch c.desk_mut.result.now c.reply.new.desk c.desk_mut.ensures.desk c.reply.ensures.answered c.reply.ensures.replied c.try_take_desk.new.seat t.1 f.0 f.1.0 f.1.1 _ (adds_on t.0 _ _ _ _ f.3) in
+    (_, f.2, g.0, g.1)

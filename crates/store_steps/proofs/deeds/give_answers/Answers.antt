@@ -1,11 +1,9 @@
-use Rattle.std.proofs.Common.{[], ap, sym, subst, ◌∙◌}
-use Rattle.ownlock.proofs.Export.{one_known}
+use Rattle.std.proofs.Common.{[], refl, sym, subst}
 use Rattle.store_steps.specs.declared.deeds.Deed.TheVariants.{Busy}
 use Rattle.store_steps.specs.declared.deeds.Stage.TheVariants.{Ready}
 use Rattle.store_steps.specs.Stages.{HasGone}
 use Rattle.store_steps.specs.Doing.{Nothing}
-use Rattle.store_steps.specs.Standing.{SessionKnown}
-use Rattle.store_steps.specs.Updating.{Gives, Tries}
+use Rattle.store_steps.specs.Updating.{DeedGoes, Gives, Tries}
 use Rattle.store_steps.proofs.Doing.{did_none}
 use Rattle.store_steps.proofs.Gone.{gave_gone, on_known, stays_gone}
 use Rattle.store_steps.proofs.deeds.give_answers.Goals as goal
@@ -19,19 +17,12 @@ pub returns-in_default-clause-gone : goal.returns-in_default-clause-gone
 returns-in_default-clause-gone c =
     let v = c.requires.polled in
     let e = c.in_default.ensures.stays in
-    subst (λ z. HasGone c.args.seat.now c.try_hand_over.new.seat c.args.here.caller z c.args.replies.now c.args.stage.now Busy) (sym e.1)
-    (subst (λ z. HasGone c.args.seat.now c.try_hand_over.new.seat c.args.here.caller c.args.batch.now c.args.replies.now z Busy) (sym c.requires.ready)
-    (stays_gone c.args.seat.now c.try_hand_over.new.seat c.args.here.caller c.args.batch.now c.args.replies.now v.0 v.1 v.2 e.0 Ready v))
+    subst (λ z. HasGone DeedGoes c.args.seat.now c.try_hand_over.new.seat c.args.here.caller z c.args.replies.now c.args.stage.now Busy) (sym e.1)
+    (subst (λ z. HasGone DeedGoes c.args.seat.now c.try_hand_over.new.seat c.args.here.caller c.args.batch.now c.args.replies.now z Busy) (sym c.requires.ready)
+    (stays_gone DeedGoes c.args.seat.now c.try_hand_over.new.seat c.args.here.caller c.args.batch.now c.args.replies.now v.0 v.1 v.2 e.0 Ready v (Tries [] Nothing (did_none v.0 v.0 refl refl))))
 
 pub returns-clause-gone : goal.returns-clause-gone
 returns-clause-gone c =
     let v = c.requires.polled in
-    let t = c.in-Some.ensures.combined v.0 v.2.is in
-    gave_gone c.args.seat.now c.try_hand_over.new.seat c.args.here.caller c.try_hand_over.new.batch c.args.replies.now v.0 v.1 v.2 t.0 t.1 t.2
-
-pub returns-in_default-clause-goes : goal.returns-in_default-clause-goes
-returns-in_default-clause-goes c k after is now =
-    Tries [] Nothing (did_none k after (ap (λ (z : SessionKnown). z.steps) (one_known c.try_hand_over.new.seat after k now (ap (λ s. s.sessions) c.in_default.ensures.stays.0 ∙ is))) (ap (λ (z : SessionKnown). z.run) (one_known c.try_hand_over.new.seat after k now (ap (λ s. s.sessions) c.in_default.ensures.stays.0 ∙ is))))
-
-pub returns-clause-goes : goal.returns-clause-goes
-returns-clause-goes c k after is now = Gives c.args.here.caller.node c.args.batch.now c.args.replies.now (c.in-Some.ensures.handed k after is now)
+    let t = c.in-Some.ensures.handed v.0 v.2.is in
+    gave_gone DeedGoes c.args.seat.now c.try_hand_over.new.seat c.args.here.caller c.try_hand_over.new.batch c.args.replies.now v.0 v.1 v.2 t.0 t.1 t.2 (Gives c.args.here.caller.node c.args.batch.now c.args.replies.now t.3)

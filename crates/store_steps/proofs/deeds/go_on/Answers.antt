@@ -16,6 +16,3 @@ give_answers-requires-clause-polled c = subst (λ z. IsPolled c.args.seat.now c.
 
 pub returns-in-Asked-clause-gone : goal.returns-in-Asked-clause-gone
 returns-in-Asked-clause-gone c = c.take_turn.ensures.gone c.args.replies.now
-
-pub returns-in-Asked-clause-goes : goal.returns-in-Asked-clause-goes
-returns-in-Asked-clause-goes c = c.take_turn.ensures.goes

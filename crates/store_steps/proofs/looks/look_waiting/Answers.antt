@@ -1,7 +1,7 @@
 use Rattle.std.proofs.Common.{refl, subst, ◌∙◌}
 use Rattle.ownlock.proofs.Export.{one_known}
 use Rattle.store_steps.specs.Seen.{holds}
-use Rattle.store_steps.specs.Sights.{HasSight, SightBy}
+use Rattle.store_steps.specs.Sights.{SessionLooks}
 use Rattle.store_steps.specs.Standing.{IsFree}
 use Rattle.store_steps.proofs.Looked.{sight_since, sights_since}
 use Rattle.store_steps.proofs.Taken.{free_on, shelf_on}
@@ -28,21 +28,14 @@ try_look-requires-clause-idle g c =
 pub returns-in-Ok-clause-told : goal.returns-in-Ok-clause-told
 returns-in-Ok-clause-told g c k is =
     let m = c.loop.invariant.1 k is in
-    let t = c.in-Ok.ensures.told m.0 m.1 in
-    let told = c.in-Ok.told in (
+    let told = c.in-Ok.told in
+    let t = (subst (λ z. SessionLooks c.loop.seat c.try_look.new.seat (holds (g.L.Look.sees z c.try_look.new.look told)) (g.L.Look.point told)) c.loop.invariant.2 c.in-Ok.ensures.told) m.0 m.1 in
+    let sees = holds (g.L.Look.sees c.args.look.now c.try_look.new.look told) in (
       t.0,
       t.1,
-      sight_since k m.0 t.0 m.2 (holds (g.L.Look.sees c.args.look.now c.try_look.new.look told)) (g.L.Look.point told)
-          (subst (λ z. HasSight (holds (g.L.Look.sees z c.try_look.new.look told)) (g.L.Look.point told) m.0 t.0) c.loop.invariant.2 t.2),
+      sight_since k m.0 t.0 m.2 sees (g.L.Look.point told) t.2,
+      sights_since k m.0 t.0 m.2 sees (g.L.Look.point told) t.2.1.0 t.3,
     )
-
-pub returns-in-Ok-clause-goes : goal.returns-in-Ok-clause-goes
-returns-in-Ok-clause-goes g c k after is now =
-    let m = c.loop.invariant.1 k is in
-    let t = c.in-Ok.ensures.told m.0 m.1 in
-    let told = c.in-Ok.told in
-    sights_since k m.0 after m.2 (holds (g.L.Look.sees c.args.look.now c.try_look.new.look told)) (g.L.Look.point told) t.2.1.0
-    (subst (λ z. SightBy (holds (g.L.Look.sees z c.try_look.new.look told)) (g.L.Look.point told) m.0 after) c.loop.invariant.2 (c.in-Ok.ensures.goes m.0 after m.1 now))
 
 pub loop-preserved : goal.loop-preserved
 loop-preserved g c = (

@@ -37,10 +37,10 @@ pub returns-clause-combined : goal.returns-clause-combined
 returns-clause-combined g c =
     let own = slice_index_or c.post_each.new.members 0 c.index-members-0.result in
     let there = member_at c.post_each.new.members 0 c.index-members-0.result (spots_below c.args.members.now c.post_each.new.members c.post_each.ensures.same 0 (omega (arith, c.requires.may.some, c.requires.may.count))) c.index-members-0.is in
-    subst (λ (z : BatchView × RepliesView). CombinesEach c.args.members.now (set c.post_each.new.members 0 (record own { seat = c.append_and_replay.new.seat })) c.args.calls.now z.0 z.1) (λ i. (sym c.count_batch.ensures.room.0 i, sym c.count_batch.ensures.room.1 i)) (combines_each c.args.shared c.args.members.now c.post_each.new.members c.args.calls.now c.post_each.new.room.combining.batch c.post_each.ensures.same (c.requires.may.some, c.requires.may.count) c.requires.may.idle c.post_each.ensures.posted own there c.append_and_replay.new.seat c.append_and_replay.new.replies c.append_and_replay.ensures.combined c.append_and_replay.ensures.goes)
+    subst (λ (z : BatchView × RepliesView). CombinesEach c.args.members.now (set c.post_each.new.members 0 (record own { seat = c.append_and_replay.new.seat })) c.args.calls.now z.0 z.1) (λ i. (sym c.count_batch.ensures.room.0 i, sym c.count_batch.ensures.room.1 i)) (combines_each c.args.shared c.args.members.now c.post_each.new.members c.args.calls.now c.post_each.new.room.combining.batch c.post_each.ensures.same (c.requires.may.some, c.requires.may.count) c.requires.may.idle c.post_each.ensures.posted own there c.append_and_replay.new.seat c.append_and_replay.new.replies c.append_and_replay.ensures.combined)
 
 pub returns-clause-ready : goal.returns-clause-ready
 returns-clause-ready g c =
     let own = slice_index_or c.post_each.new.members 0 c.index-members-0.result in
     let there = member_at c.post_each.new.members 0 c.index-members-0.result (spots_below c.args.members.now c.post_each.new.members c.post_each.ensures.same 0 (omega (arith, c.requires.may.some, c.requires.may.count))) c.index-members-0.is in
-    subst (λ (z : BatchView × RepliesView). MayGive c.args.shared (set c.post_each.new.members 0 (record own { seat = c.append_and_replay.new.seat })) z.0 z.1) (λ i. (sym c.count_batch.ensures.room.0 i, sym c.count_batch.ensures.room.1 i)) (may_give c.args.shared c.args.members.now c.post_each.new.members c.args.calls.now c.post_each.new.room.combining.batch c.post_each.ensures.same (c.requires.may.some, c.requires.may.count) c.requires.may.idle c.post_each.ensures.posted own there c.append_and_replay.new.seat c.append_and_replay.new.replies c.append_and_replay.ensures.combined c.append_and_replay.ensures.goes c.requires.ascend)
+    subst (λ (z : BatchView × RepliesView). MayGive c.args.shared (set c.post_each.new.members 0 (record own { seat = c.append_and_replay.new.seat })) z.0 z.1) (λ i. (sym c.count_batch.ensures.room.0 i, sym c.count_batch.ensures.room.1 i)) (may_give c.args.shared c.args.members.now c.post_each.new.members c.args.calls.now c.post_each.new.room.combining.batch c.post_each.ensures.same (c.requires.may.some, c.requires.may.count) c.requires.may.idle c.post_each.ensures.posted own there c.append_and_replay.new.seat c.append_and_replay.new.replies c.append_and_replay.ensures.combined c.requires.ascend)

@@ -1,15 +1,10 @@
-use Rattle.std.proofs.Common.{[], ap, sym, subst, ◌∙◌}
-use Rattle.ownlock.proofs.Export.{one_known}
-use Rattle.store_steps.specs.AtOnce.{StillWaits}
+use Rattle.std.proofs.Common.{ap, sym, subst}
 use Rattle.store_steps.specs.declared.deeds.Deed.TheVariants.{Busy, Went, Collected}
 use Rattle.store_steps.specs.declared.deeds.Stage.TheVariants.{Idle, Asked, Claimed, Ready}
-use Rattle.store_steps.specs.Doing.{Nothing}
+use Rattle.store_steps.specs.Polling.{DeedsGo}
 use Rattle.store_steps.specs.Requests.{HasTurned}
-use Rattle.store_steps.specs.declared.desks.Turn.TheVariants.{Collects, Combines, Waits}
 use Rattle.store_steps.specs.Stages.{HasGone}
-use Rattle.store_steps.specs.Standing.{SessionKnown}
-use Rattle.store_steps.specs.Updating.{ClaimsIt, Gives, Looks, Then, Tries, TurnsBy}
-use Rattle.store_steps.proofs.Doing.{did_none}
+use Rattle.store_steps.specs.Updating.{ClaimsIt, Gives, Looks, Rests, TurnsBy}
 use Rattle.store_steps.proofs.Gone.{claims_gone, collects_gone, on_known, stays_gone, waits_gone}
 use Rattle.store_steps.proofs.Begun.{asking_still, gone_then, one_deed, seat_of}
 use Rattle.store_steps.proofs.polling.give_and_turn.Goals as goal
@@ -26,14 +21,9 @@ returns-in-None-clause-gone c =
     let v = c.requires.polled in
     let e = c.in-None.ensures.stays in
     let new = c.try_hand_over_and_turn.new.seat in
-    subst (λ z. HasGone c.args.seat.now new c.args.here.caller z c.args.replies.now c.args.stage.now Busy) (sym e.1)
-    (subst (λ z. HasGone c.args.seat.now new c.args.here.caller c.args.batch.now c.args.replies.now z Busy) (sym c.requires.ready)
-    (stays_gone c.args.seat.now new c.args.here.caller c.args.batch.now c.args.replies.now v.0 v.1 v.2 e.0 Ready v))
-
-pub returns-in-None-clause-goes : goal.returns-in-None-clause-goes
-returns-in-None-clause-goes c k after is now =
-    let same = one_known c.try_hand_over_and_turn.new.seat after k now (ap (λ s. s.sessions) c.in-None.ensures.stays.0 ∙ is) in
-    one_deed k after (Tries [] Nothing (did_none k after (ap (λ (z : SessionKnown). z.steps) same) (ap (λ (z : SessionKnown). z.run) same)))
+    subst (λ z. HasGone DeedsGo c.args.seat.now new c.args.here.caller z c.args.replies.now c.args.stage.now Busy) (sym e.1)
+    (subst (λ z. HasGone DeedsGo c.args.seat.now new c.args.here.caller c.args.batch.now c.args.replies.now z Busy) (sym c.requires.ready)
+    (stays_gone DeedsGo c.args.seat.now new c.args.here.caller c.args.batch.now c.args.replies.now v.0 v.1 v.2 e.0 Ready v (Rests v.0)))
 
 -- ---- the answers are handed over
 
@@ -45,9 +35,10 @@ returns-in-Some-Waits-clause-gone c =
     let b = c.try_hand_over_and_turn.new.batch in
     let t = c.in-Some-Waits.ensures.turned v.0 v.1 v.2.is (v.2.pending, v.2.few) in
     let h = subst (λ z. HasTurned t.combined t.after v.1 b z) c.in-Some-Waits.field-0-is t.turned in
+    let turns = subst (λ z. TurnsBy t.combined t.after b z) c.in-Some-Waits.field-0-is t.turns in
     let a = asking_still old new c.args.here.caller v.0 t.combined v.1 v.2 t.has in
-    gone_then old new c.args.here.caller v.0 t.combined v.1 v.2 t.has b c.args.replies.now Asked Busy
-    (waits_gone (seat_of old t.combined) new c.args.here.caller b c.args.replies.now t.combined v.1 a t.after t.is (ap (λ n. n.batch) t.has.note) h)
+    gone_then old new c.args.here.caller v.0 t.combined v.1 v.2 t.has b c.args.replies.now Asked Busy (Gives c.args.here.caller.node c.args.batch.now c.args.replies.now t.gives)
+    (waits_gone DeedsGo (seat_of old t.combined) new c.args.here.caller b c.args.replies.now t.combined v.1 a t.after t.is (ap (λ n. n.batch) t.has.note) h (one_deed t.combined t.after (Looks b turns)))
 
 pub returns-in-Some-Combines-clause-gone : goal.returns-in-Some-Combines-clause-gone
 returns-in-Some-Combines-clause-gone c =
@@ -57,9 +48,10 @@ returns-in-Some-Combines-clause-gone c =
     let b = c.try_hand_over_and_turn.new.batch in
     let t = c.in-Some-Combines.ensures.turned v.0 v.1 v.2.is (v.2.pending, v.2.few) in
     let h = subst (λ z. HasTurned t.combined t.after v.1 b z) c.in-Some-Combines.field-0-is t.turned in
+    let turns = subst (λ z. TurnsBy t.combined t.after b z) c.in-Some-Combines.field-0-is t.turns in
     let a = asking_still old new c.args.here.caller v.0 t.combined v.1 v.2 t.has in
-    gone_then old new c.args.here.caller v.0 t.combined v.1 v.2 t.has b c.args.replies.now Claimed Went
-    (claims_gone (seat_of old t.combined) new c.args.here.caller b c.args.replies.now t.combined v.1 a t.after t.is h)
+    gone_then old new c.args.here.caller v.0 t.combined v.1 v.2 t.has b c.args.replies.now Claimed Went (Gives c.args.here.caller.node c.args.batch.now c.args.replies.now t.gives)
+    (claims_gone DeedsGo (seat_of old t.combined) new c.args.here.caller b c.args.replies.now t.combined v.1 a t.after t.is h (one_deed t.combined t.after (ClaimsIt b turns)))
 
 pub returns-in-Some-Collects-clause-gone : goal.returns-in-Some-Collects-clause-gone
 returns-in-Some-Collects-clause-gone c =
@@ -69,33 +61,7 @@ returns-in-Some-Collects-clause-gone c =
     let b = c.try_hand_over_and_turn.new.batch in
     let t = c.in-Some-Collects.ensures.turned v.0 v.1 v.2.is (v.2.pending, v.2.few) in
     let h = subst (λ z. HasTurned t.combined t.after v.1 b z) c.in-Some-Collects.field-0-is t.turned in
+    let turns = subst (λ z. TurnsBy t.combined t.after b z) c.in-Some-Collects.field-0-is t.turns in
     let a = asking_still old new c.args.here.caller v.0 t.combined v.1 v.2 t.has in
-    gone_then old new c.args.here.caller v.0 t.combined v.1 v.2 t.has b c.args.replies.now Idle (Collected c.in-Some-Collects.reply)
-    (collects_gone (seat_of old t.combined) new c.args.here.caller b c.args.replies.now t.combined v.1 a t.after c.in-Some-Collects.reply t.is (ap (λ n. n.batch) t.has.note) h)
-
-pub returns-in-Some-Waits-clause-goes : goal.returns-in-Some-Waits-clause-goes
-returns-in-Some-Waits-clause-goes c k after is now =
-    let v = c.requires.polled in
-    let b = c.try_hand_over_and_turn.new.batch in
-    let waits = subst (λ z. StillWaits z v.1) (one_known c.args.seat.now v.0 k v.2.is is) (v.2.pending, v.2.few) in
-    let t = c.in-Some-Waits.ensures.turned k v.1 is waits in
-    let turns = subst (λ z. TurnsBy t.combined z b Waits) (one_known c.try_hand_over_and_turn.new.seat t.after after t.is now) (subst (λ z. TurnsBy t.combined t.after b z) c.in-Some-Waits.field-0-is t.turns) in
-    Then k t.combined after (one_deed k t.combined (Gives c.args.here.caller.node c.args.batch.now c.args.replies.now t.gives)) (Looks b turns)
-
-pub returns-in-Some-Combines-clause-goes : goal.returns-in-Some-Combines-clause-goes
-returns-in-Some-Combines-clause-goes c k after is now =
-    let v = c.requires.polled in
-    let b = c.try_hand_over_and_turn.new.batch in
-    let waits = subst (λ z. StillWaits z v.1) (one_known c.args.seat.now v.0 k v.2.is is) (v.2.pending, v.2.few) in
-    let t = c.in-Some-Combines.ensures.turned k v.1 is waits in
-    let turns = subst (λ z. TurnsBy t.combined z b Combines) (one_known c.try_hand_over_and_turn.new.seat t.after after t.is now) (subst (λ z. TurnsBy t.combined t.after b z) c.in-Some-Combines.field-0-is t.turns) in
-    Then k t.combined after (one_deed k t.combined (Gives c.args.here.caller.node c.args.batch.now c.args.replies.now t.gives)) (ClaimsIt b turns)
-
-pub returns-in-Some-Collects-clause-goes : goal.returns-in-Some-Collects-clause-goes
-returns-in-Some-Collects-clause-goes c k after is now =
-    let v = c.requires.polled in
-    let b = c.try_hand_over_and_turn.new.batch in
-    let waits = subst (λ z. StillWaits z v.1) (one_known c.args.seat.now v.0 k v.2.is is) (v.2.pending, v.2.few) in
-    let t = c.in-Some-Collects.ensures.turned k v.1 is waits in
-    let turns = subst (λ z. TurnsBy t.combined z b (Collects c.in-Some-Collects.reply)) (one_known c.try_hand_over_and_turn.new.seat t.after after t.is now) (subst (λ z. TurnsBy t.combined t.after b z) c.in-Some-Collects.field-0-is t.turns) in
-    (t.combined, one_deed k t.combined (Gives c.args.here.caller.node c.args.batch.now c.args.replies.now t.gives), (b, turns))
+    gone_then old new c.args.here.caller v.0 t.combined v.1 v.2 t.has b c.args.replies.now Idle (Collected c.in-Some-Collects.reply) (Gives c.args.here.caller.node c.args.batch.now c.args.replies.now t.gives)
+    (collects_gone DeedsGo (seat_of old t.combined) new c.args.here.caller b c.args.replies.now t.combined v.1 a t.after c.in-Some-Collects.reply t.is (ap (λ n. n.batch) t.has.note) h (t.combined, Rests t.combined, (b, turns)))

@@ -1,10 +1,8 @@
 use Rattle.std.proofs.Common.{suc, ◌<◌, ◌^◌, length, subst}
-use Rattle.ownlock.proofs.Export.{one_known}
 use Rattle.store_steps.specs.AtOnce.{FoundNoAnswer}
 use Rattle.store_steps.specs.Requests.{HasTurned}
-use Rattle.store_steps.specs.declared.desks.Turn.TheVariants.{Combines, Waits}
 use Rattle.store_steps.specs.Standing.{SessionKnown}
-use Rattle.store_steps.specs.Updating.{ClaimsIt, Looks, TurnsBy}
+use Rattle.store_steps.specs.Updating.{Looks, TurnsBy}
 use Rattle.store_steps.proofs.Gone.{on_known}
 use Rattle.store_steps.proofs.Begun.{begun_combining, begun_waiting, one_deed}
 use Rattle.store_steps.proofs.Taken.{known_as}
@@ -26,7 +24,8 @@ returns-in-Some-Waits-clause-begun c kept =
     let p = c.in-Some-Waits.ensures.turned i.known i.is in
     let b = c.try_post_and_turn.new.batch in
     let h = subst (λ z. HasTurned p.asked p.after p.posted.request b z) c.in-Some-Waits.field-0-is p.turned in
-    begun_waiting c.args.seat.now c.try_post_and_turn.new.seat c.args.here.caller i few p.asked p.after c.args.op.now p.posted p.is b kept h
+    let turns = subst (λ z. TurnsBy p.asked p.after b z) c.in-Some-Waits.field-0-is p.turns in
+    begun_waiting c.args.seat.now c.try_post_and_turn.new.seat c.args.here.caller i few p.asked p.after c.args.op.now p.posted p.posts p.is b kept h (one_deed p.asked p.after (Looks b turns))
 
 pub returns-in-Some-Combines-clause-begun : goal.returns-in-Some-Combines-clause-begun
 returns-in-Some-Combines-clause-begun c kept =
@@ -35,18 +34,5 @@ returns-in-Some-Combines-clause-begun c kept =
     let p = c.in-Some-Combines.ensures.turned i.known i.is in
     let b = c.try_post_and_turn.new.batch in
     let h = subst (λ z. HasTurned p.asked p.after p.posted.request b z) c.in-Some-Combines.field-0-is p.turned in
-    begun_combining c.args.seat.now c.try_post_and_turn.new.seat c.args.here.caller i few p.asked p.after c.args.op.now p.posted p.is b kept h
-
-pub returns-in-Some-Waits-clause-goes : goal.returns-in-Some-Waits-clause-goes
-returns-in-Some-Waits-clause-goes c k after is now =
-    let p = c.in-Some-Waits.ensures.turned k is in
-    let b = c.try_post_and_turn.new.batch in
-    let t = subst (λ z. TurnsBy p.asked p.after b z) c.in-Some-Waits.field-0-is p.turns in
-    (p.asked, p.posts, one_deed p.asked after (Looks b (subst (λ z. TurnsBy p.asked z b Waits) (one_known c.try_post_and_turn.new.seat p.after after p.is now) t)))
-
-pub returns-in-Some-Combines-clause-goes : goal.returns-in-Some-Combines-clause-goes
-returns-in-Some-Combines-clause-goes c k after is now =
-    let p = c.in-Some-Combines.ensures.turned k is in
-    let b = c.try_post_and_turn.new.batch in
-    let t = subst (λ z. TurnsBy p.asked p.after b z) c.in-Some-Combines.field-0-is p.turns in
-    (p.asked, p.posts, one_deed p.asked after (ClaimsIt b (subst (λ z. TurnsBy p.asked z b Combines) (one_known c.try_post_and_turn.new.seat p.after after p.is now) t)))
+    let turns = subst (λ z. TurnsBy p.asked p.after b z) c.in-Some-Combines.field-0-is p.turns in
+    begun_combining c.args.seat.now c.try_post_and_turn.new.seat c.args.here.caller i few p.asked p.after c.args.op.now p.posted p.posts p.is b kept h turns

@@ -37,8 +37,8 @@ pub returns-clause-completed : goal.returns-clause-completed
 returns-clause-completed c =
     let room = c.combine_first.new.room.combining in
     let out = subst (λ z. AreOut c.combine_first.new.members room.batch room.replies z) c.in-Some.ensures.ready c.combine_first.ensures.out in
-    completes_after c.args.members.now c.combine_first.new.members c.try_give_each.new.members room.batch c.try_give_each.new.batch room.replies room.replies c.combine_first.new.stage c.try_give_each.new.replies c.combine_first.ensures.same c.try_give_each.ensures.same.0 c.combine_first.ensures.out
-    c.combine_first.ensures.waits (gives_each c.combine_first.new.members c.try_give_each.new.members room.batch c.try_give_each.new.batch room.replies c.try_give_each.new.replies out c.in-Some-try_give_each.ensures.gives)
+    completes_after c.args.members.now c.combine_first.new.members c.try_give_each.new.members room.batch c.try_give_each.new.batch room.replies room.replies c.combine_first.new.stage c.try_give_each.new.replies c.combine_first.ensures.same c.try_give_each.ensures.same.0 c.combine_first.ensures.waits
+    (gives_each c.combine_first.new.members c.try_give_each.new.members room.batch c.try_give_each.new.batch room.replies c.try_give_each.new.replies out c.in-Some-try_give_each.ensures.gives)
 
 pub returns-clause-held : goal.returns-clause-held
 returns-clause-held c =

@@ -49,4 +49,4 @@ returns-clause-waits c =
     let there = member_at c.args.members.now 0 c.index-members-0.result c.requires.some c.index-members-0.is in
     let room = c.args.room.now.combining in
     subst (λ (z : BatchView × RepliesView). WaitsEach c.args.members.now (set_first c.args.members.now room.batch room.replies c.requires.out own there c.try_combine.new.seat c.try_combine.ensures.same c.try_combine.new.replies) z.0 z.1 Ready) (λ i. (sym c.count_batch.ensures.room.0 i, sym c.count_batch.ensures.room.1 i))
-    (ran_waits c.args.members.now room.batch room.replies c.requires.out own there c.try_combine.new.seat c.try_combine.ensures.same c.try_combine.new.replies c.in-Ok.ensures.combined c.in-Ok.ensures.goes)
+    (ran_waits c.args.members.now room.batch room.replies c.requires.out own there c.try_combine.new.seat c.try_combine.ensures.same c.try_combine.new.replies c.in-Ok.ensures.combined)

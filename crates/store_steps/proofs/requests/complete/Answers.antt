@@ -20,12 +20,12 @@ pub returns-in-Collects-clause-completed : goal.returns-in-Collects-clause-compl
 returns-in-Collects-clause-completed g c k o is asked =
     let m = c.loop.invariant.1 k is in
     let t = c.turn.ensures.turned m.0 o m.1 (asked_by k m.0 o m.2.note asked) in
-    (t.0, t.1, has_completed k m.0 t.0 o c.turn.new.batch c.in-Collects.reply m.2 (subst (λ z. HasTurned m.0 t.0 o c.turn.new.batch z) c.in-Collects.is t.2))
-
-pub returns-in-Collects-clause-goes : goal.returns-in-Collects-clause-goes
-returns-in-Collects-clause-goes g c k after is now =
-    let m = c.loop.invariant.1 k is in
-    record { waited = m.0; rounds = m.3; batch = c.turn.new.batch; collects = subst (λ z. TurnsBy m.0 after c.turn.new.batch z) c.in-Collects.is (c.turn.ensures.goes m.0 after m.1 now) }
+    let b = c.turn.new.batch in (
+      t.0,
+      t.1,
+      has_completed k m.0 t.0 o b c.in-Collects.reply m.2 (subst (λ z. HasTurned m.0 t.0 o b z) c.in-Collects.is t.2),
+      record { waited = m.0; rounds = m.3; batch = b; collects = subst (λ z. TurnsBy m.0 t.0 b z) c.in-Collects.is t.3 },
+    )
 
 pub combine-requires-clause-claimed : goal.combine-requires-clause-claimed
 combine-requires-clause-claimed g c =
@@ -49,7 +49,7 @@ loop-preserved-in-Combines g c = (
         n.0,
         n.1,
         resumed_combined c.args.here.caller k m.0 t.0 n.0 i.1 c.turn.new.batch (subst (λ z. IsFree c.args.here.caller z) e i.3) asked m.2 (subst (λ z. HasTurned m.0 t.0 i.1 c.turn.new.batch z) c.in-Combines.is t.2) n.2,
-        Combines k m.0 t.0 n.0 c.turn.new.batch c.combine.new.batch m.3 (subst (λ z. TurnsBy m.0 t.0 c.turn.new.batch z) c.in-Combines.is (c.turn.ensures.goes m.0 t.0 m.1 t.1)) (c.combine.ensures.goes t.0 n.0 t.1 n.1),
+        Combines k m.0 t.0 n.0 c.turn.new.batch c.combine.new.batch m.3 (subst (λ z. TurnsBy m.0 t.0 c.turn.new.batch z) c.in-Combines.is t.3) n.3,
       ),
 )
 
@@ -65,6 +65,6 @@ loop-preserved g c = (
         t.0,
         t.1,
         resumed_waited c.args.here.caller k m.0 t.0 i.1 c.turn.new.batch (subst (λ z. IsFree c.args.here.caller z) e i.3) m.2 (subst (λ z. HasTurned m.0 t.0 i.1 c.turn.new.batch z) c.in-Waits.is t.2),
-        Waits k m.0 t.0 c.turn.new.batch m.3 (subst (λ z. TurnsBy m.0 t.0 c.turn.new.batch z) c.in-Waits.is (c.turn.ensures.goes m.0 t.0 m.1 t.1)),
+        Waits k m.0 t.0 c.turn.new.batch m.3 (subst (λ z. TurnsBy m.0 t.0 c.turn.new.batch z) c.in-Waits.is t.3),
       ),
 )

@@ -1,10 +1,7 @@
-use Rattle.ownlock.proofs.Export.{adds_on, one_known}
-use Rattle.std.proofs.Common.{refl, subst}
+use Rattle.ownlock.proofs.Export.{adds_on}
 use Rattle.store_steps.specs.Knowing.{IsOn}
-use Rattle.store_steps.specs.Updating.{PostsBy}
 use Rattle.store_steps.proofs.Taken.{known_as}
 use Rattle.store_steps.proofs.Turning.{may_post, puts_posted}
-use Rattle.store_steps.proofs.Visiting.{posts_by}
 use Rattle.store_steps.proofs.PutBack.{posts_there}
 use Rattle.store_steps.proofs.requests.try_post.Goals as goal
 
@@ -29,10 +26,5 @@ returns-clause-posted c k is =
     let on = known_as c.args.seat.now (IsOn c.args.here.shared) (i.0, i.1, i.4) k is in
     let t = c.in-Some.ensures.taken k is in
     let f = c.put.ensures.put t.0 t.1 in
-    (_, f.2, (posts_there c.args.here.caller k t.0 _ _ c.args.op.now t.2 c.desk_mut.result.now c.post.new.desk c.desk_mut.ensures.desk c.post.ensures.posted c.try_take_desk.new.seat t.1 _ on.catalogue_is c.requires.update f.0 f.1.0 f.1.1 _ (adds_on t.0 _ _ _ _ f.3)).0)
-
-pub returns-clause-goes : goal.returns-clause-goes
-returns-clause-goes c k after is now =
-    let t = c.in-Some.ensures.taken k is in
-    let f = c.put.ensures.put t.0 t.1 in
-    subst (λ z. PostsBy k z c.args.op.now) (one_known c.put.new.seat _ after f.2 now) (posts_by c.args.here.caller k t.0 _ _ t.2 c.desk_mut.result.now c.post.new.desk c.desk_mut.ensures.desk _ (refl, adds_on t.0 _ _ _ _ f.3) c.args.op.now c.post.ensures.posted)
+    let p = posts_there c.args.here.caller k t.0 _ _ c.args.op.now t.2 c.desk_mut.result.now c.post.new.desk c.desk_mut.ensures.desk c.post.ensures.posted c.try_take_desk.new.seat t.1 _ on.catalogue_is c.requires.update f.0 f.1.0 f.1.1 _ (adds_on t.0 _ _ _ _ f.3) in
+    (_, f.2, p.0, p.1)

@@ -1,7 +1,3 @@
-use Rattle.ownlock.proofs.Export.{one_known}
-use Rattle.std.proofs.Common.{subst}
-use Rattle.store_steps.specs.AtDesk.{HasAsked}
-use Rattle.store_steps.specs.Updating.{TurnsBy}
 use Rattle.store_steps.proofs.requests.try_turn.Goals as goal
 
 pub try_take_desk-requires-clause-idle : goal.try_take_desk-requires-clause-idle
@@ -14,11 +10,4 @@ pub returns-clause-turned : goal.returns-clause-turned
 returns-clause-turned c k o is asked =
     let t = c.in-Some.ensures.taken k is in
     let f = c.turn_and_put.ensures.turned k t.0 o t.1 t.2 asked in
-    (f.0, f.1, f.2)
-
-pub returns-clause-goes : goal.returns-clause-goes
-returns-clause-goes c k after is now =
-    let i = c.requires.asked in
-    let t = c.in-Some.ensures.taken k is in
-    let f = c.turn_and_put.ensures.turned k t.0 i.1 t.1 t.2 (subst (λ z. HasAsked z i.1) (one_known c.args.seat.now i.0 k i.2 is) i.4) in
-    subst (λ z. TurnsBy k z c.turn_and_put.new.batch c.turn_and_put.result) (one_known c.turn_and_put.new.seat f.0 after f.1 now) f.3
+    (f.0, f.1, f.2, f.3)

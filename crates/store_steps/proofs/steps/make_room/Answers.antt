@@ -70,7 +70,11 @@ returns-then-is_base_due-clause-room c k is =
     let rose = c.raise_to.ensures.raised i.0 i.1 in let here = c.tail.ensures.tail in let b = c.bring_base in
     let room = base_room i.0 _ _ _ i.2 r.new.node r.ensures.behind r.ensures.above c.args.want c.requires.few d.window.0 (d.due c.if-is_base_due.true) m.new.node m.result m.ensures.stays m.ensures.follows m.ensures.sizes
     rose.0 _ rose.2 (omega (arith, here)) b.new.log b.new.node b.result b.ensures.log b.ensures.within b.ensures.copied b.ensures.exchanged in
-    (rose.0, rose.1, subst (λ q. HasPlace q rose.0 c.args.want c.args.log.now b.new.log (caught_up c.args.shared.catalogue.now b.result b.new.node)) (one_known c.args.seat.now i.0 k i.1 is) room)
+    let goes = base_goes i.0 _ _ _ i.2 r.new.node r.ensures.behind r.ensures.above c.args.want c.requires.few d.window.0 (d.due c.if-is_base_due.true) m.new.node m.result m.ensures.stays m.ensures.follows m.ensures.sizes
+    rose.0 _ rose.2 (omega (arith, here)) b.new.log b.new.node b.result b.ensures.log b.ensures.within b.ensures.copied b.ensures.exchanged (d.reason c.if-is_base_due.true) in
+    let there = caught_up c.args.shared.catalogue.now b.result b.new.node in
+    let e = one_known c.args.seat.now i.0 k i.1 is in
+    (rose.0, rose.1, subst (λ q. HasPlace q rose.0 c.args.want c.args.log.now b.new.log there) e room, subst (λ q. MakesRoom c.args.want q rose.0 c.args.log.now b.new.log c.args.node.now there) e goes)
 
 pub returns-else-is_base_due-clause-owes : goal.returns-else-is_base_due-clause-owes
 returns-else-is_base_due-clause-owes c =
@@ -81,22 +85,7 @@ pub returns-else-is_base_due-clause-room : goal.returns-else-is_base_due-clause-
 returns-else-is_base_due-clause-room c k is =
     let i = c.requires.holds in let r = c.rebase_if_behind in
     let room = none_room i.0 _ _ _ i.2 r.new.node r.ensures.behind r.ensures.above c.copy.new.node c.copy.ensures.node c.args.want (c.is_base_due.ensures.room c.if-is_base_due.false) in
-    (k, is, subst (λ q. HasPlace q q c.args.want c.args.log.now c.args.log.now (caught_up c.args.shared.catalogue.now 0 c.copy.new.node)) (one_known c.args.seat.now i.0 k i.1 is) room)
-
-pub returns-then-is_base_due-clause-goes : goal.returns-then-is_base_due-clause-goes
-returns-then-is_base_due-clause-goes c k after is now =
-    let i = c.requires.holds in let r = c.rebase_if_behind in let d = c.is_base_due.ensures in let m = c.follow_for_room in
-    let rose = c.raise_to.ensures.raised i.0 i.1 in let here = c.tail.ensures.tail in let b = c.bring_base in
-    let goes = base_goes i.0 _ _ _ i.2 r.new.node r.ensures.behind r.ensures.above c.args.want c.requires.few d.window.0 (d.due c.if-is_base_due.true) m.new.node m.result m.ensures.stays m.ensures.follows m.ensures.sizes
-    rose.0 _ rose.2 (omega (arith, here)) b.new.log b.new.node b.result b.ensures.log b.ensures.within b.ensures.copied b.ensures.exchanged (d.reason c.if-is_base_due.true) in
-    let there = caught_up c.args.shared.catalogue.now b.result b.new.node in
-    subst (λ q. MakesRoom c.args.want q after c.args.log.now b.new.log c.args.node.now there) (one_known c.args.seat.now i.0 k i.1 is)
-    (subst (λ q. MakesRoom c.args.want i.0 q c.args.log.now b.new.log c.args.node.now there) (one_known c.raise_to.new.seat rose.0 after rose.1 now) goes)
-
-pub returns-else-is_base_due-clause-goes : goal.returns-else-is_base_due-clause-goes
-returns-else-is_base_due-clause-goes c k after is now =
-    let i = c.requires.holds in let r = c.rebase_if_behind in
     let goes = none_goes i.0 _ _ _ i.2 r.new.node r.ensures.behind r.ensures.above c.copy.new.node c.copy.ensures.node c.args.want (c.is_base_due.ensures.room c.if-is_base_due.false) in
     let there = caught_up c.args.shared.catalogue.now 0 c.copy.new.node in
-    subst (λ q. MakesRoom c.args.want k q c.args.log.now c.args.log.now c.args.node.now there) (one_known c.args.seat.now k after is now)
-    (subst (λ q. MakesRoom c.args.want q q c.args.log.now c.args.log.now c.args.node.now there) (one_known c.args.seat.now i.0 k i.1 is) goes)
+    let e = one_known c.args.seat.now i.0 k i.1 is in
+    (k, is, subst (λ q. HasPlace q q c.args.want c.args.log.now c.args.log.now there) e room, subst (λ q. MakesRoom c.args.want q q c.args.log.now c.args.log.now c.args.node.now there) e goes)

@@ -1,11 +1,8 @@
-use Rattle.std.proofs.Common.{◌≡◌, ap, sym, subst, ◌∙◌, arith}
-use Rattle.ownlock.proofs.Export.{one_known}
+use Rattle.std.proofs.Common.{ap, sym, subst, ◌∙◌, arith}
 use Rattle.loader.specs.StoreState.{sizes_of}
 use Rattle.node.specs.Following.{IsNext, replayed, replies_after, with_more}
 use Rattle.replica.specs.Replaying.{KeepsOutcomes}
 use Rattle.store_steps.specs.Due.{IsDue, brought}
-use Rattle.store_steps.specs.Standing.{HasOthers, Stands}
-use Rattle.store_steps.specs.Whole.{ReplaysBy}
 use Rattle.store_steps.proofs.Taken.{known_as, well_formed}
 use Rattle.store_steps.proofs.Played.{is_next, replayed_all, has_replayed, raised_as}
 use Rattle.store_steps.proofs.Stretches.{replays_by}
@@ -42,18 +39,11 @@ returns-clause-replayed c k is =
     let sizes = c.replay_with.ensures.sizes ∙ ap (λ n. sizes_of n.replica.state) there in
     let kept = subst (λ n. KeepsOutcomes cat n.replica.state n.replica.tail n.hand.records c.args.replies.now c.replay_with.new.replies) there c.replay_with.ensures.kept in
     let up = raised_as k r.0 _ c.replay_with.new.node.replica.tail r.2 (omega (arith, here)) in
-    (r.0, r.1, has_replayed k r.0 (brought cat c.args.due.now c.args.node.now) c.replay_with.new.node cat c.args.replies.now c.replay_with.new.replies has.2 has.0 (c.replay_with.ensures.node ∙ ap (replayed cat) there) sizes kept up)
-
-pub returns-clause-goes : goal.returns-clause-goes
-returns-clause-goes c k after is then log log_is =
-    let cat = c.args.shared.catalogue.now in
     let now = brought cat c.args.due.now c.args.node.now in
-    let has = known_as c.args.seat.now (IsDue cat c.args.due.now c.args.node.now) c.requires.known k is in
-    let there = ap (with_more c.args.due.now.appended) c.replay_owed.ensures.node in
-    let r = c.raise_to.ensures.raised k is in
-    let here = c.tail-replayed.ensures.tail in
-    let up = raised_as k r.0 _ c.replay_with.new.node.replica.tail r.2 (omega (arith, here)) in
-    subst (λ z. ReplaysBy k z log now c.replay_with.new.node c.args.replies.now c.replay_with.new.replies) (one_known c.raise_to.new.seat r.0 after r.1 then)
-    (replays_by k r.0 log now c.replay_with.new.node c.args.replies.now c.replay_with.new.replies log_is (ap (λ z. z.begin) has.0.hand)
-    (c.replay_with.ensures.node ∙ (ap (replayed cat) there ∙ ap (λ z. replayed z now) (sym has.2)))
-    (c.replay_with.ensures.replies ∙ (ap (λ n. replies_after cat n c.args.replies.now) there ∙ ap (λ z. replies_after z now c.args.replies.now) (sym has.2))) up)
+    let is_node = c.replay_with.ensures.node ∙ ap (replayed cat) there in
+    let is_replies = c.replay_with.ensures.replies ∙ ap (λ n. replies_after cat n c.args.replies.now) there in (
+      r.0,
+      r.1,
+      has_replayed k r.0 now c.replay_with.new.node cat c.args.replies.now c.replay_with.new.replies has.2 has.0 is_node sizes kept up,
+      λ log log_is. replays_by k r.0 log now c.replay_with.new.node c.args.replies.now c.replay_with.new.replies log_is (ap (λ z. z.begin) has.0.hand) (is_node ∙ ap (λ z. replayed z now) (sym has.2)) (is_replies ∙ ap (λ z. replies_after z now c.args.replies.now) (sym has.2)) up,
+    )

@@ -1,13 +1,11 @@
-use Rattle.ownlock.proofs.Export.{adds_on, one_known}
+use Rattle.ownlock.proofs.Export.{adds_on}
 use Rattle.std.proofs.Common.{◌≡◌, ap, length, refl, take, sym, subst, ◌∙◌}
 use Rattle.std.proofs.lemmas.List.{length-replicate}
 use Rattle.accounts.specs.Moves.{unplaced}
-use Rattle.store_steps.specs.Knowing.{HasReplica, Learns, Relates}
+use Rattle.store_steps.specs.Knowing.{HasReplica}
 use Rattle.node.specs.Following.{copied, room_for}
-use Rattle.store_steps.specs.Standing.{HasPlace}
-use Rattle.store_steps.specs.Due.{brought}
+use Rattle.store_steps.specs.Due.{SessionMakesRoom, brought}
 use Rattle.store_steps.specs.Rooms.{caught_up}
-use Rattle.store_steps.specs.Whole.{AppendsBy, MakesRoom}
 use Rattle.store_steps.proofs.Taken.{holds_log, known_as, may_take_log, took_log}
 use Rattle.store_steps.proofs.Fitting.{appended_fit}
 use Rattle.store_steps.proofs.Appended.{may, put_appended, back_appended, back_log}
@@ -38,7 +36,7 @@ pub append_only-requires-clause-room : goal.append_only-requires-clause-room
 append_only-requires-clause-room c =
     let i = c.requires.holds in
     let t = c.in-Some.ensures.taken i.0 i.1 in
-    let m = (subst (λ w. Learns c.try_take.new.seat c.make_room-owed.new.seat (λ k after. HasPlace k after w c.log_mut-log.result.now c.make_room-owed.new.log (caught_up c.args.shared.catalogue.now c.make_room-owed.result c.make_room-owed.new.node))) c.len-wanted.ensures.len c.make_room-owed.ensures.room) t.0 t.2 in
+    let m = (subst (λ w. SessionMakesRoom w c.try_take.new.seat c.make_room-owed.new.seat c.log_mut-log.result.now c.make_room-owed.new.log c.args.node.now (caught_up c.args.shared.catalogue.now c.make_room-owed.result c.make_room-owed.new.node)) c.len-wanted.ensures.len c.make_room-owed.ensures.room) t.0 t.2 in
     m.2.room
 
 pub append_only-requires-clause-fit : goal.append_only-requires-clause-fit
@@ -46,7 +44,7 @@ append_only-requires-clause-fit c =
     let i = c.requires.holds in
     let t = c.in-Some.ensures.taken i.0 i.1 in
     let b = took_log i.0 t.0 c.args.node.now c.in-Some.held.value c.args.shared.catalogue.now i.2.0 t.1 in
-    let m = (subst (λ w. Learns c.try_take.new.seat c.make_room-owed.new.seat (λ k after. HasPlace k after w c.log_mut-log.result.now c.make_room-owed.new.log (caught_up c.args.shared.catalogue.now c.make_room-owed.result c.make_room-owed.new.node))) c.len-wanted.ensures.len c.make_room-owed.ensures.room) t.0 t.2 in
+    let m = (subst (λ w. SessionMakesRoom w c.try_take.new.seat c.make_room-owed.new.seat c.log_mut-log.result.now c.make_room-owed.new.log c.args.node.now (caught_up c.args.shared.catalogue.now c.make_room-owed.result c.make_room-owed.new.node)) c.len-wanted.ensures.len c.make_room-owed.ensures.room) t.0 t.2 in
     appended_fit i.0 t.0 m.0 c.args.node.now c.log_mut-log.result.now c.make_room-owed.new.log _ c.in-Some.held.value c.args.records.now i.2.0.stands i.2.1 b m.2
 
 pub put-requires-clause-may : goal.put-requires-clause-may
@@ -55,7 +53,7 @@ put-requires-clause-may c =
     let t = c.in-Some.ensures.taken i.0 i.1 in
     let b = took_log i.0 t.0 n x c.args.shared.catalogue.now i.2.0 t.1 in
     let o = c.make_room-owed in let h = o.new.log in let v = caught_up c.args.shared.catalogue.now o.result o.new.node in let a = c.append_only.ensures in
-    let m = (subst (λ w. Learns c.try_take.new.seat c.make_room-owed.new.seat (λ k after. HasPlace k after w c.log_mut-log.result.now c.make_room-owed.new.log (caught_up c.args.shared.catalogue.now c.make_room-owed.result c.make_room-owed.new.node))) c.len-wanted.ensures.len c.make_room-owed.ensures.room) t.0 t.2 in (
+    let m = (subst (λ w. SessionMakesRoom w c.try_take.new.seat c.make_room-owed.new.seat c.log_mut-log.result.now c.make_room-owed.new.log c.args.node.now (caught_up c.args.shared.catalogue.now c.make_room-owed.result c.make_room-owed.new.node)) c.len-wanted.ensures.len c.make_room-owed.ensures.room) t.0 t.2 in (
       m.0,
       m.1,
       put_appended i.0 t.0 m.0 n c.log_mut-log.result.now h v (copied c.append_only.new.log v) c.args.records.now c.append_only.new.replies i.2.1 o.new.seat.sessions m.1 x c.log_mut-log.ensures.log b m.2 c.append_only.new.log
@@ -67,34 +65,21 @@ returns-clause-next c = (c.make_room-owed.ensures.owes.next, c.make_room-owed.en
 
 pub returns-clause-appended : goal.returns-clause-appended
 returns-clause-appended c k is =
-    let n = c.args.node.now in let x = c.in-Some.held.value in
-    let has = known_as c.args.seat.now (λ z. HasReplica z n c.args.shared.catalogue.now × (z.note.batch ≡ unplaced c.args.records.now)) c.requires.holds k is in
-    let t = c.in-Some.ensures.taken k is in let b = took_log k t.0 n x c.args.shared.catalogue.now has.0 t.1 in
-    let o = c.make_room-owed in let h = o.new.log in let v = caught_up c.args.shared.catalogue.now o.result o.new.node in let a = c.append_only.ensures in
-    let count : length c.append_only.new.replies.outcomes ≡ room_for c.args.records.now h = ap (λ z. length z.outcomes) a.replies ∙ length-replicate (room_for c.args.records.now h) _ in
-    let m = (subst (λ w. Learns c.try_take.new.seat c.make_room-owed.new.seat (λ k after. HasPlace k after w c.log_mut-log.result.now c.make_room-owed.new.log (caught_up c.args.shared.catalogue.now c.make_room-owed.result c.make_room-owed.new.node))) c.len-wanted.ensures.len c.make_room-owed.ensures.room) t.0 t.2 in let p = c.put.ensures.put m.0 m.1 in
-    let back = as_copied c.args.shared.catalogue.now h c.append_only.new.log o.new.node (brought c.args.shared.catalogue.now (record { owed = o.result; appended = c.first-appended.result }) o.new.node) o.result c.args.records.now _ o.ensures.owes a.log (c.first-appended.ensures.first ∙ ap (λ z. take z c.args.records.now) (c.len-count.ensures.count ∙ count)) refl in (
+    let n = c.args.node.now in let x = c.in-Some.held.value in let f = c.log_mut-log.result.now in let cat = c.args.shared.catalogue.now in let records = c.args.records.now in
+    let has = known_as c.args.seat.now (λ z. HasReplica z n cat × (z.note.batch ≡ unplaced records)) c.requires.holds k is in
+    let t = c.in-Some.ensures.taken k is in let b = took_log k t.0 n x cat has.0 t.1 in
+    let o = c.make_room-owed in let h = o.new.log in let v = caught_up cat o.result o.new.node in let a = c.append_only.ensures in
+    let due = brought cat (record { owed = o.result; appended = c.first-appended.result }) o.new.node in
+    let kept = c.append_only.new.replies in
+    let count : length kept.outcomes ≡ room_for records h = ap (λ z. length z.outcomes) a.replies ∙ length-replicate (room_for records h) _ in
+    let m = (subst (λ w. SessionMakesRoom w c.try_take.new.seat c.make_room-owed.new.seat c.log_mut-log.result.now c.make_room-owed.new.log c.args.node.now (caught_up c.args.shared.catalogue.now c.make_room-owed.result c.make_room-owed.new.node)) c.len-wanted.ensures.len c.make_room-owed.ensures.room) t.0 t.2 in let p = c.put.ensures.put m.0 m.1 in
+    let there = as_copied cat h c.append_only.new.log o.new.node due o.result records _ o.ensures.owes a.log (c.first-appended.ensures.first ∙ ap (λ z. take z records) (c.len-count.ensures.count ∙ count)) refl in
+    let on = adds_on m.0 _ _ _ _ p.3 in
+    let done = back_appended k t.0 m.0 n f h v due records kept has.1 o.new.seat.sessions m.1 x c.log_mut-log.ensures.log b m.2 c.append_only.new.log (a.log, there, a.replies, a.within) _ c.in-Some.ensures.place p.0 p.1.0 p.1.1 _ on in
+    let back = back_log k t.0 m.0 n f h v due records kept has.1 o.new.seat.sessions m.1 x c.log_mut-log.ensures.log b m.2 c.append_only.new.log (a.log, there, a.replies, a.within) _ c.in-Some.ensures.place p.0 p.1.0 p.1.1 _ on in (
       _,
       p.2,
-      back_appended k t.0 m.0 n c.log_mut-log.result.now h v (brought c.args.shared.catalogue.now (record { owed = o.result; appended = c.first-appended.result }) o.new.node) c.args.records.now c.append_only.new.replies has.1 o.new.seat.sessions m.1 x c.log_mut-log.ensures.log b m.2 c.append_only.new.log
-          (a.log, back, a.replies, a.within) _ c.in-Some.ensures.place p.0 p.1.0 p.1.1 _ (adds_on m.0 _ _ _ _ p.3),
+      done,
+      λ batch same. appends_by k t.0 m.0 _ f h c.append_only.new.log n v due records kept b.extends (b.log f c.log_mut-log.ensures.log) m.3 (may t.0 m.0 f h v records m.2) a.log there a.replies back.0 back.1.completed done.stands x c.log_mut-log.ensures.log b.steps _ c.in-Some.ensures.place
+          (refl, on) batch same,
     )
-
-pub returns-clause-goes : goal.returns-clause-goes
-returns-clause-goes c k after is now batch same =
-    let n = c.args.node.now in let x = c.in-Some.held.value in let f = c.log_mut-log.result.now in
-    let has = known_as c.args.seat.now (λ z. HasReplica z n c.args.shared.catalogue.now × (z.note.batch ≡ unplaced c.args.records.now)) c.requires.holds k is in
-    let t = c.in-Some.ensures.taken k is in let b = took_log k t.0 n x c.args.shared.catalogue.now has.0 t.1 in
-    let o = c.make_room-owed in let h = o.new.log in let v = caught_up c.args.shared.catalogue.now o.result o.new.node in let a = c.append_only.ensures in
-    let count : length c.append_only.new.replies.outcomes ≡ room_for c.args.records.now h = ap (λ z. length z.outcomes) a.replies ∙ length-replicate (room_for c.args.records.now h) _ in
-    let m = (subst (λ w. Learns c.try_take.new.seat c.make_room-owed.new.seat (λ k after. HasPlace k after w c.log_mut-log.result.now c.make_room-owed.new.log (caught_up c.args.shared.catalogue.now c.make_room-owed.result c.make_room-owed.new.node))) c.len-wanted.ensures.len c.make_room-owed.ensures.room) t.0 t.2 in let p = c.put.ensures.put m.0 m.1 in
-    let there = as_copied c.args.shared.catalogue.now h c.append_only.new.log o.new.node (brought c.args.shared.catalogue.now (record { owed = o.result; appended = c.first-appended.result }) o.new.node) o.result c.args.records.now _ o.ensures.owes a.log (c.first-appended.ensures.first ∙ ap (λ z. take z c.args.records.now) (c.len-count.ensures.count ∙ count)) refl in
-    let done = back_appended k t.0 m.0 n f h v (brought c.args.shared.catalogue.now (record { owed = o.result; appended = c.first-appended.result }) o.new.node) c.args.records.now c.append_only.new.replies has.1 o.new.seat.sessions m.1 x c.log_mut-log.ensures.log b m.2 c.append_only.new.log
-    (a.log, there, a.replies, a.within) _ c.in-Some.ensures.place p.0 p.1.0 p.1.1 _ (adds_on m.0 _ _ _ _ p.3) in
-    let back = back_log k t.0 m.0 n f h v (brought c.args.shared.catalogue.now (record { owed = o.result; appended = c.first-appended.result }) o.new.node) c.args.records.now c.append_only.new.replies has.1 o.new.seat.sessions m.1 x c.log_mut-log.ensures.log b m.2 c.append_only.new.log
-    (a.log, there, a.replies, a.within) _ c.in-Some.ensures.place p.0 p.1.0 p.1.1 _ (adds_on m.0 _ _ _ _ p.3) in
-    let room = (subst (λ w. Relates c.try_take.new.seat c.make_room-owed.new.seat (λ k after. MakesRoom w k after c.log_mut-log.result.now c.make_room-owed.new.log c.args.node.now (caught_up c.args.shared.catalogue.now c.make_room-owed.result c.make_room-owed.new.node))) c.len-wanted.ensures.len c.make_room-owed.ensures.goes) t.0 m.0 t.2 m.1 in
-    subst (λ z. AppendsBy k z batch n (brought c.args.shared.catalogue.now (record { owed = o.result; appended = c.first-appended.result }) o.new.node) c.append_only.new.replies) (one_known c.put.new.seat _ after p.2 now)
-    (appends_by k t.0 m.0 _ f h c.append_only.new.log n v (brought c.args.shared.catalogue.now (record { owed = o.result; appended = c.first-appended.result }) o.new.node) c.args.records.now c.append_only.new.replies b.extends (b.log f c.log_mut-log.ensures.log) room
-    (may t.0 m.0 f h v c.args.records.now m.2) a.log there a.replies back.0 back.1.completed done.stands
-    x c.log_mut-log.ensures.log b.steps _ c.in-Some.ensures.place (refl, adds_on m.0 _ _ _ _ p.3) batch same)

@@ -1,5 +1,4 @@
 use Rattle.std.proofs.Common.{◌<◌, ◌≤◌, subst, sym, arith}
-use Rattle.std.specs.Prelude.{nat_lt}
 use Rattle.std.proofs.lemmas.Bool.{le-ltb, lt-ltb}
 use Rattle.ownlock.proofs.Export.{one_known}
 use Rattle.store_steps.specs.Standing.{Agrees, Stands}
@@ -15,27 +14,26 @@ pub returns-then-ready-clause-reached : goal.returns-then-ready-clause-reached
 returns-then-ready-clause-reached c k is =
     let i = c.requires.holds in
     let e = one_known c.args.seat.now i.0 k i.1 is in
-    let far = c.ready.ensures.reached.0 c.if-ready.true in
-    (k, is, is_there k c.args.node.now c.args.done (subst (λ z. Agrees z.progress c.args.node.now) e i.2.0.agrees) (subst (λ z. Stands z) e i.2.0.stands) (omega (arith, far)))
+    let n = c.args.node.now in
+    let agrees = subst (λ z. Agrees z.progress n) e i.2.0.agrees in
+    let stands = subst (λ z. Stands z) e i.2.0.stands in
+    let far = c.ready.ensures.reached.0 c.if-ready.true in (
+      k,
+      is,
+      is_there k n c.args.done agrees stands (omega (arith, far)),
+      subst (λ lacks. FollowsBy lacks k k n n) (sym (le-ltb n.replica.tail c.args.done (omega (arith, far)))) (follows_none k n agrees stands),
+    )
 
 pub returns-clause-reached : goal.returns-clause-reached
 returns-clause-reached c k is =
     let i = c.requires.holds in
     let e = one_known c.args.seat.now i.0 k i.1 is in
-    let r = c.in-Some.ensures.reached k is in
-    (r.0, r.1, far_enough k r.0 c.try_follow_log.new.node c.args.done k.progress.completed (subst (λ z. c.args.done ≤ z.progress.completed) e i.2.1) r.2)
-
-pub returns-then-ready-clause-goes : goal.returns-then-ready-clause-goes
-returns-then-ready-clause-goes c k after is now =
-    let i = c.requires.holds in
-    let e = one_known c.args.seat.now i.0 k i.1 is in
-    let far = c.ready.ensures.reached.0 c.if-ready.true in
-    subst (λ z. FollowsBy (nat_lt c.args.node.now.replica.tail c.args.done) k z c.args.node.now c.args.node.now) (one_known c.args.seat.now k after is now)
-    (subst (λ lacks. FollowsBy lacks k k c.args.node.now c.args.node.now) (sym (le-ltb c.args.node.now.replica.tail c.args.done (omega (arith, far))))
-    (follows_none k c.args.node.now (subst (λ z. Agrees z.progress c.args.node.now) e i.2.0.agrees) (subst (λ z. Stands z) e i.2.0.stands)))
-
-pub returns-clause-goes : goal.returns-clause-goes
-returns-clause-goes c k after is now =
+    let n = c.args.node.now in
     let far = c.ready.ensures.reached in let not_ready = c.if-ready.false in
-    let low : c.args.node.now.replica.tail < c.args.done = grind (arith, far.1, not_ready) in
-    subst (λ lacks. FollowsBy lacks k after c.args.node.now c.try_follow_log.new.node) (sym (lt-ltb c.args.node.now.replica.tail c.args.done low)) (c.in-Some.ensures.goes k after is now)
+    let low : n.replica.tail < c.args.done = grind (arith, far.1, not_ready) in
+    let r = c.in-Some.ensures.reached k is in (
+      r.0,
+      r.1,
+      far_enough k r.0 c.try_follow_log.new.node c.args.done k.progress.completed (subst (λ z. c.args.done ≤ z.progress.completed) e i.2.1) r.2,
+      subst (λ lacks. FollowsBy lacks k r.0 n c.try_follow_log.new.node) (sym (lt-ltb n.replica.tail c.args.done low)) r.3,
+    )

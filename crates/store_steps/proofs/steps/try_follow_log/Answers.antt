@@ -1,11 +1,10 @@
-use Rattle.ownlock.proofs.Export.{adds_on, one_known}
-use Rattle.std.proofs.Common.{refl, ap, sym, subst, ◌∙◌, arith, true}
+use Rattle.ownlock.proofs.Export.{adds_on}
+use Rattle.std.proofs.Common.{refl, ap, sym, subst, ◌∙◌, arith}
 use Rattle.loader.specs.CatalogueView.{sizes_for}
 use Rattle.node.specs.Following.{replayed, copied}
 use Rattle.replica.specs.StoreMeaning.{AreUpdates}
 use Rattle.oplog.specs.Logs.{records_from}
 use Rattle.store_steps.specs.Knowing.{HasReplica}
-use Rattle.store_steps.specs.Whole.{FollowsBy}
 use Rattle.store_steps.proofs.Taken.{known_as, may_take_log, took_log}
 use Rattle.store_steps.proofs.Followed.{above, fits, kept_up, updates}
 use Rattle.store_steps.proofs.Played.{followed_all, raised_as}
@@ -86,20 +85,9 @@ returns-clause-reached c k is =
     let s = same_back k t.0 n x b c.try_take.new.seat.sessions t.2 _ c.in-Some.ensures.place p.0 p.1.0 p.1.1 _ (adds_on t.0 _ _ _ _ p.3) in
     let r = c.raise_to.ensures.raised _ p.2 in
     let here = c.tail-followed.ensures.tail in
-    (r.0, r.1, followed k t.0 n x b v _ r.0 s all (raised_as _ r.0 _ v.replica.tail r.2 (omega (arith, here))))
-
-pub returns-clause-goes : goal.returns-clause-goes
-returns-clause-goes c k after is now =
-    let n = c.args.node.now in let x = c.in-Some.held.value in
-    let h = c.log-log.result.now in let y = c.rebase_if_behind.new.node in let v = c.follow.new.node in
-    let has = known_as c.args.seat.now (λ z. HasReplica z n c.args.catalogue.now) c.requires.holds k is in
-    let t = c.in-Some.ensures.taken k is in let b = took_log k t.0 n x c.args.catalogue.now has t.1 in
-    let log_is = b.log h c.log-log.ensures.log in
-    let same = sym (log_catalogue k t.0 n x b c.args.catalogue.now has.catalogue) in
-    let p = c.put.ensures.put t.0 t.2 in
-    let s = same_back k t.0 n x b c.try_take.new.seat.sessions t.2 _ c.in-Some.ensures.place p.0 p.1.0 p.1.1 _ (adds_on t.0 _ _ _ _ p.3) in
-    let r = c.raise_to.ensures.raised _ p.2 in
-    let here = c.tail-followed.ensures.tail in
-    subst (λ z. FollowsBy true k z n v) (one_known c.raise_to.new.seat r.0 after r.1 now)
-    (follows_by k t.0 _ r.0 h n y v b.extends log_is b.follows c.rebase_if_behind.ensures.behind c.rebase_if_behind.ensures.above (c.follow.ensures.node ∙ ap (λ d. replayed d (copied h y)) same) s.on
-    (raised_as _ r.0 _ v.replica.tail r.2 (omega (arith, here))) x c.log-log.ensures.log b.steps _ c.in-Some.ensures.place (refl, adds_on t.0 _ _ _ _ p.3))
+    let up = raised_as _ r.0 _ v.replica.tail r.2 (omega (arith, here)) in (
+      r.0,
+      r.1,
+      followed k t.0 n x b v _ r.0 s all up,
+      follows_by k t.0 _ r.0 h n y v b.extends log_is b.follows c.rebase_if_behind.ensures.behind c.rebase_if_behind.ensures.above (c.follow.ensures.node ∙ ap (λ d. replayed d (copied h y)) same) s.on up x c.log-log.ensures.log b.steps _ c.in-Some.ensures.place (refl, adds_on t.0 _ _ _ _ p.3),
+    )

@@ -6,11 +6,11 @@ use Rattle.store_steps.specs.Polling.{BeginsBy, HasAskedFor}
 use Rattle.store_steps.specs.Stages.{IsPolled}
 use Rattle.store_steps.specs.declared.deeds.Stage.{Stage}
 use Rattle.store_steps.specs.Standing.{StoreSeat}
-use Rattle.store_steps.specs.Views.{SessionView, session_view}
+use Rattle.store_steps.specs.Views.{SessionView, known_of, session_view}
 use Rattle.store.specs.Sessions.{HasRoom, IsOf}
 use Rattle.store_steps.proofs.Export.{seen_as}
-use Rattle.store.proofs.Between.{goes_on, goes_still, idle_at, known_at, on_at, room_on, well_at}
-use Rattle.store.proofs.Invoked.{goes_seen, may_ask}
+use Rattle.store.proofs.Between.{goes_on, goes_still, idle_at, on_at, room_on, well_at}
+use Rattle.store.proofs.Invoked.{may_ask}
 use Rattle.store.proofs.polled.Polled.begin.Goals as goal
 
 pub try_begin-requires-clause-on : goal.try_begin-requires-clause-on
@@ -69,8 +69,4 @@ pub returns-clause-asked : goal.returns-clause-asked
 returns-clause-asked c = subst (λ (z : SessionView). HasAskedFor z (session_view c.try_begin.new.seat) c.args.op.now) c.self.view_is (c.in-Some.ensures.begun c.self.inside.replies).asked
 
 pub returns-clause-goes : goal.returns-clause-goes
-returns-clause-goes c =
-    let s = c.self.inside in
-    let i = idle_at s.seat s.caller s.batch s.replies s.stage c.self.invariant.0 (ap (λ (z : SessionView). z.note.pending) c.self.view_is ∙ c.requires.idle) in
-    let f = known_at c.try_begin.new.seat s.caller c.try_begin.new.batch s.replies c.try_begin.new.stage (c.in-Some.ensures.begun s.replies).polled in
-    goes_seen (λ x y. BeginsBy x y c.args.op.now) s.seat c.try_begin.new.seat c.args.self.now i.known f.0 i.is i.free.held c.self.view_is f.1 f.3 (c.in-Some.ensures.goes i.known f.0 i.is f.1)
+returns-clause-goes c = subst (λ (z : SessionView). BeginsBy (known_of z) (known_of (session_view c.try_begin.new.seat)) c.args.op.now) c.self.view_is (c.in-Some.ensures.begun c.self.inside.replies).goes

@@ -1,12 +1,11 @@
 use Rattle.std.proofs.Common.{sym, ap, subst, ◌∙◌}
 use Rattle.std.proofs.lemmas.Option.{same_Some}
 use Rattle.store_steps.specs.Stages.{HasDone, IsPolled}
-use Rattle.store_steps.specs.Views.{SessionView, session_view}
+use Rattle.store_steps.specs.Views.{SessionView, known_of, session_view}
 use Rattle.store.specs.Sessions.{IsOf}
-use Rattle.store.proofs.Between.{goes_on, known_at, on_at, out_at, room_on}
+use Rattle.store.proofs.Between.{goes_on, on_at, out_at, room_on}
 use Rattle.store_steps.specs.Polling.{DeedsGo}
 use Rattle.store_steps.proofs.Export.{go_deeds}
-use Rattle.store.proofs.Invoked.{goes_seen}
 use Rattle.store.proofs.polled.Polled.deed.Goals as goal
 
 -- ---- the answers are handed over, and are had in the same hold
@@ -42,10 +41,7 @@ returns-in-Ready-clause-done c o is =
 
 pub returns-in-Ready-clause-goes : goal.returns-in-Ready-clause-goes
 returns-in-Ready-clause-goes c =
-    let s = c.self.inside in
-    let k = known_at s.seat s.caller s.batch s.replies s.stage c.self.invariant.0 in
-    let f = known_at c.give_and_turn.new.seat s.caller c.give_and_turn.new.batch s.replies c.give_and_turn.new.stage c.give_and_turn.ensures.gone.polled in
-    goes_seen (λ x y. DeedsGo x y c.give_and_turn.result) s.seat c.give_and_turn.new.seat c.args.self.now k.0 f.0 k.1 k.3 c.self.view_is f.1 f.3 (c.give_and_turn.ensures.goes k.0 f.0 k.1 f.1)
+    subst (λ (z : SessionView). DeedsGo (known_of z) (known_of (session_view c.give_and_turn.new.seat)) c.give_and_turn.result) c.self.view_is c.give_and_turn.ensures.gone.goes
 
 -- ---- any other deed
 
@@ -83,7 +79,5 @@ returns-clause-done c o is =
 
 pub returns-clause-goes : goal.returns-clause-goes
 returns-clause-goes c =
-    let s = c.self.inside in
-    let k = known_at s.seat s.caller s.batch s.replies s.stage c.self.invariant.0 in
-    let f = known_at c.go_on.new.seat s.caller c.go_on.new.batch c.go_on.new.replies c.go_on.new.stage c.go_on.ensures.gone.polled in
-    goes_seen (λ x y. DeedsGo x y c.go_on.result) s.seat c.go_on.new.seat c.args.self.now k.0 f.0 k.1 k.3 c.self.view_is f.1 f.3 (go_deeds k.0 f.0 c.go_on.result (c.go_on.ensures.goes k.0 f.0 k.1 f.1))
+    let new = known_of (session_view c.go_on.new.seat) in
+    subst (λ (z : SessionView). DeedsGo (known_of z) new c.go_on.result) c.self.view_is (go_deeds (known_of (session_view c.self.inside.seat)) new c.go_on.result c.go_on.ensures.gone.goes)

@@ -5,10 +5,9 @@ use Rattle.store_steps.specs.Stages.{IsPolled}
 use Rattle.store.specs.Polled.{HasPostedFor}
 use Rattle.store_steps.specs.Views.{SessionView, session_view}
 use Rattle.store.specs.Sessions.{HasRoom, IsOf}
-use Rattle.store_steps.proofs.Export.{on_known}
+use Rattle.store_steps.proofs.Export.{goes_seen, on_known}
 use Rattle.store.proofs.Between.{goes_on, goes_still, idle_at, on_at, post_grown, post_session, post_told, post_well, posted_at, room_on, well_at}
 use Rattle.store_steps.specs.Updating.{PostsBy}
-use Rattle.store.proofs.Invoked.{goes_seen}
 use Rattle.store.proofs.polled.Polled.post.Goals as goal
 
 pub try_post-requires-clause-idle : goal.try_post-requires-clause-idle
@@ -76,4 +75,4 @@ returns-clause-goes c =
     let none = ap (λ (z : SessionView). z.note.pending) c.self.view_is ∙ c.requires.idle in
     let i = idle_at s.seat s.caller s.batch s.replies s.stage c.self.invariant.0 none in
     let p = c.in-Some.ensures.posted i.known i.is in
-    goes_seen (λ x y. PostsBy x y c.args.op.now) s.seat c.try_post.new.seat c.args.self.now i.known p.0 i.is i.free.held c.self.view_is p.1 p.2.back.held (c.in-Some.ensures.goes i.known p.0 i.is p.1)
+    goes_seen (λ x y. PostsBy x y c.args.op.now) s.seat c.try_post.new.seat c.args.self.now i.known p.0 i.is i.free.held c.self.view_is p.1 p.2.back.held p.3

@@ -1,7 +1,5 @@
 use Rattle.store_steps.specs.Seen.{holds}
-use Rattle.store_steps.specs.Sights.{SightBy}
-use Rattle.store.proofs.Invoked.{goes_seen}
-use Rattle.store.proofs.Looked.{HasLooked, has_looked, idle_now, idle_seen, may_look}
+use Rattle.store.proofs.Looked.{HasLooked, has_looked, idle_now, idle_seen, may_look, sight_seen}
 use Rattle.store.proofs.polled.Polled.try_see.Goals as goal
 
 pub try_look-requires-clause-idle : goal.try_look-requires-clause-idle
@@ -10,12 +8,12 @@ try_look-requires-clause-idle g c =
     let e = c.shared.ensures in
     may_look s.seat s.caller s.batch s.replies s.stage c.self.invariant.0 c.args.self.now c.self.view_is c.requires.idle c.shared.result c.args.store.now c.requires.own e.places e.nodes e.catalogue
 
-pub returns-clause-goes : goal.returns-clause-goes
-returns-clause-goes g c =
+pub returns-clause-told : goal.returns-clause-told
+returns-clause-told g c none =
     let s = c.self.inside in
     let i = idle_now s.seat s.caller s.batch s.replies s.stage c.self.invariant.0 c.args.self.now c.self.view_is c.requires.idle in
     let t = c.in-Ok.ensures.told i.known i.is in
-    goes_seen (SightBy (holds (g.L.Look.sees c.args.look.now c.try_look.new.look c.in-Ok.told)) (g.L.Look.point c.in-Ok.told)) s.seat c.try_look.new.seat c.args.self.now i.known t.0 i.is i.free.held c.self.view_is t.1 t.2.0.held (c.in-Ok.ensures.goes i.known t.0 i.is t.1)
+    sight_seen s.seat c.try_look.new.seat i.known t.0 i.is t.1 c.args.self.now c.self.view_is i.free.held (holds (g.L.Look.sees c.args.look.now c.try_look.new.look c.in-Ok.told)) (g.L.Look.point c.in-Ok.told) t.2 t.3
 
 looked : (g : _) (c : goal.In-Ok g) → HasLooked c.args.store.now c.args.self.now c.try_look.new.seat c.self.inside.caller c.self.inside.batch c.self.inside.replies c.self.inside.stage c.self.inside.room
 looked g c =

@@ -3,10 +3,10 @@ use Rattle.loader.specs.CatalogueView.{CatalogueView}
 use Rattle.oplog.specs.declared.configuration.Sizes.{Sizes}
 use Rattle.oplog.specs.declared.configuration.TheConstants.{MAX_NODES}
 use Rattle.store.specs.Sessions.{TellsUpdate}
-use Rattle.store_steps.proofs.Export.{seen_as}
+use Rattle.store_steps.proofs.Export.{goes_seen, seen_as}
 use Rattle.store_steps.specs.Views.{SessionView, session_view}
 use Rattle.store_steps.specs.Updating.{UpdatesBy}
-use Rattle.store.proofs.Invoked.{goes_on, goes_seen, has_asked, has_grown, invoked, is_idle, may_ask, tells_update}
+use Rattle.store.proofs.Invoked.{goes_on, has_asked, has_grown, invoked, is_idle, may_ask, tells_update}
 use Rattle.store.proofs.session.Session.perform.Goals as goal
 
 -- ---- by four takes
@@ -60,7 +60,7 @@ returns-then-at_once g c =
         c.ask_at_once-given.result,
         c.answer_of.ensures.said,
         goes_seen (λ k f. UpdatesBy k f op c.ask_at_once-given.result) c.self.inside.seat seat c.args.self.now k a.after c.self.invariant.0.is c.self.invariant.0.free.held c.self.view_is a.is v.held
-            ((c.ask_at_once-given.ensures.goes k a.after c.self.invariant.0.is a.is)),
+            (record { asked = a.asked; posts = a.posts; completes = a.completes }),
       );
     }
 
@@ -104,6 +104,6 @@ returns g c =
         c.complete-reply.result,
         c.answer_of-2.ensures.said,
         goes_seen (λ k f. UpdatesBy k f op c.complete-reply.result) c.self.inside.seat seat c.args.self.now k f.0 c.self.invariant.0.is c.self.invariant.0.free.held c.self.view_is f.1 v.held
-            (record { asked = p.0; posts = (c.post.ensures.goes k p.0 c.self.invariant.0.is p.1); completes = c.complete-reply.ensures.goes p.0 f.0 p.1 f.1 }),
+            (record { asked = p.0; posts = p.3; completes = f.3 }),
       );
     }
