@@ -1,6 +1,5 @@
 -- Memory at which something lies is room, once that is given up.
-use Rattle.std.proofs.Common.{ℕ, [], ◌∷◌}
-use Rattle.embed.proofs.Steps.{ent, full_share, fat, Val, ‵, ◌⊛◌, some, ◌$◌, !, qed, done, keep, use1, split, pick, Logic, sem, One, part_out, Ura, layout, RattleType, block_ptr, lies_at, room_at}
+use Rattle.embed.proofs.Steps.{ℕ, [], ◌∷◌, ent, full_share, fat, Val, ‵, ◌⊛◌, some, ◌$◌, !, qed, done, keep, use1, split, pick, Logic, sem, One, part_out, Ura, layout, RattleType, block_ptr, lies_at, room_at}
 
 module _ {M : Type 1} {𝓤 : Ura M} (𝓛 : Logic 𝓤) where
   -- what lies there goes, and its memory is room

@@ -1,26 +1,15 @@
 -- A function of two pointers that lends the values there to one call: what it is, and its walk.
-use Rattle.embed.proofs.Steps.{[], ◌∷◌, ◌++◌, refl, ap, proved, full_share, id⊢, ex, ex_i, sep, emp, fact, fact_i, ftrue, flft, vunit, tables, WpFn, ‵, raw, ◌⊛◌, some, later, prop, ◌$◌, ◌∵◌, !, qed, done, move, keep, drop, use0, use1, use2, use3, split, join, fsplit, feq_i, feq_l, pick, await, regoal, suffices, group, sem, enter, of_opd, unit_lit, addr, stop, no_more, and_then, returns, alloc_all, pass_all, free_all, look_at, get, through, sets, lands_as, lft_end, unit, yes, ref_back, mem, Ptr, RawPtr, block_ptr, lies_at, in_a_block, rawptr_vals, rawptr_Tells, mut_vals, plain, nothing, heard, only, calls_at, lasts, on_entry, triple_of, Stays, walk_of, stay_dropped, Goes-dropped, ends_at, framed, Logic, Ura, RattleType, layout}
-use mir.Syntax.{Fn, Callee, local, ty_unit, ty_ptr, ty_ref, erased, mut, value_local, seq, assign, place, rv_opd, copy, addr_of, deref, call, opd_unit, return}
-use base.Logic.{SProp}
-use prog.Wp.{Closed}
-use prog.Model.{Model}
-use contract.Running.{Running}
-use denote.Memory.{pointee}
-use denote.Signature.{mut_ref_to}
-use denote.Triple.Clauses.{Ended, Clauses, closing}
-use denote.Triple.Spec.{Meets}
+use Rattle.embed.proofs.Steps.{[], ◌∷◌, ◌++◌, refl, ent, full_share, id⊢, ex, ex_i, sep, emp, fact, fact_i, ftrue, flft, vptr, tables, WpFn, ‵, raw, ◌⊛◌, some, later, prop, ◌$◌, ◌∵◌, !, qed, done, move, keep, drop, use0, use1, use2, use3, split, join, fsplit, pick, await, regoal, suffices, Logic, sem, enter, of_opd, unit_lit, addr, stop, no_more, and_then, returns, alloc_all, pass_all, free_all, look_at, get, through, sets, lands_as, lft_end, unit, yes, ref_back, Ptr, RawPtr, block_ptr, lies_at, in_a_block, rawptr_vals, rawptr_Tells, mut_vals, plain, nothing, heard, lasts, on_entry, triple_of, framed, Ura, RattleType, layout, Fn, Callee, local, ty_unit, ty_ptr, ty_ref, erased, mut, value_local, seq, assign, place, rv_opd, copy, addr_of, deref, call, opd_unit, return, SProp, via, comm∗, emp∗, Closed, Model, Running, updating, now, frame, pointee, mut_ref_to, Ended, Clauses, closing, Meets, enters}
+use Rattle.embed.proofs.Calling.{of_unit, unit_then, calls, ends_plain, hands, meets}
 use Rattle.embed.proofs.Lending.{lend, loan}
 
 -- its signature
 abbrev pub of_pointers : Ended
-of_pointers = record { signature = record { lifetimes = 0; outlives = []; params = plain (λ κs. RawPtr) ∷ plain (λ κs. RawPtr) ∷ []; result = plain (λ κs. unit) }; kept = (yes, (yes, tt)) }
+of_pointers = of_unit {n = 0} [] (plain (λ κs. RawPtr) ∷ plain (λ κs. RawPtr) ∷ []) (yes, (yes, tt))
 
 -- that of the call
 abbrev pub of_loans : RattleType → RattleType → Ended
-of_loans S R = record {
-  signature = record { lifetimes = 2; outlives = []; params = mut_ref_to (0 ∷ []) tt (plain (λ κs. S)) ∷ mut_ref_to (1 ∷ []) tt (plain (λ κs. R)) ∷ []; result = plain (λ κs. unit) };
-  kept = (yes, (yes, tt));
-}
+of_loans S R = of_unit {n = 2} [] (mut_ref_to (0 ∷ []) tt (plain (λ κs. S)) ∷ mut_ref_to (1 ∷ []) tt (plain (λ κs. R)) ∷ []) (yes, (yes, tt))
 
 -- `callee(&mut *(first as *mut S), &mut *(second as *mut R));`
 abbrev pub lending_both : RattleType → RattleType → Callee → Fn
@@ -37,79 +26,70 @@ lending_both S R callee = record {
       (seq (call callee (copy (place 5 []) ∷ copy (place 7 []) ∷ []) (place 3 [])) (seq (assign (place 0 []) (rv_opd opd_unit)) return)))));
 }
 
-abbrev stayed : Stays of_pointers.signature.params of_pointers.kept
-stayed = (stay_dropped _ yes, (stay_dropped _ yes, tt))
-
 module _ {M : Type 1} {𝓤 : Ura M} (𝓛 : Logic 𝓤) (S R : RattleType) where
-  -- the call is given two values that are at its pointers, and leaves this there
-  abbrev pub leaves_both : (Ptr → Ptr → S.Denot × R.Denot → SProp 𝓤) → Clauses 𝓤 of_pointers
-  leaves_both left κs a = record {
-    ghost = S.Denot × R.Denot;
-    requires = λ both. sep 𝓤 (sem 𝓛 (lies_at S full_share a.0 both.0)) (sem 𝓛 (lies_at R full_share a.1.0 both.1));
-    ensures = λ both r e. left a.0 a.1.0 both;
-  }
-
-  -- the call says this of both values and of their last ones
-  abbrev pub tells_both : (S.Denot → S.Denot → R.Denot → R.Denot → Type 0) → Clauses 𝓤 (of_loans S R)
-  tells_both told κs a = record { ghost = Unit {0}; requires = λ g. emp 𝓤; ensures = λ g r e. fact 𝓤 (told a.0.now e.0.now a.1.0.now e.1.0.now) }
-
   -- two values are there, and this is so of them
   abbrev pub both_there : (S.Denot → S.Denot → R.Denot → R.Denot → Type 0) → Ptr → Ptr → S.Denot × R.Denot → SProp 𝓤
   both_there told first second both =
       ex 𝓤 (λ (x : S.Denot). ex 𝓤 (λ (left : R.Denot). sep 𝓤 (sem 𝓛 (lies_at S full_share first x)) (sep 𝓤 (sem 𝓛 (lies_at R full_share second left)) (fact 𝓤 (told both.0 x both.1 left)))))
 
-  module _ (𝓜 : Model 𝓤 𝓛.H) (𝓡 : Running 𝓤 𝓛.H 𝓜) (told : S.Denot → S.Denot → R.Denot → R.Denot → Type 0) (name callee : Callee) where
-    pub lends_both : Closed 𝓤 𝓛.H (tables 𝓤 𝓛.H 𝓜 𝓡 𝓡.env).C (tables 𝓤 𝓛.H 𝓜 𝓡 𝓡.env).Λ name (lending_both S R callee)
-        → Meets 𝓛 (of_loans S R).signature ((tables 𝓤 𝓛.H 𝓜 𝓡 𝓡.env).C callee) (closing 𝓛 (of_loans S R) (tells_both told))
-        → Meets 𝓛 of_pointers.signature ((tables 𝓤 𝓛.H 𝓜 𝓡 𝓡.env).C name) (closing 𝓛 of_pointers (leaves_both (both_there told)))
-    lends_both closed met =
-        let c = leaves_both (both_there told) in let W = walk_of 𝓛 of_pointers stayed c in let 𝓣 = tables 𝓤 𝓛.H 𝓜 𝓡 𝓡.env in
-        let goes = Goes-dropped 𝓛 0 (plain (λ _. RawPtr)) yes (λ κs x w. refl) in
-        proved 𝓛 of_pointers stayed c 𝓜 𝓡 (goes, (goes, tt))
-        name (lending_both S R callee) closed
-        (λ κs. (rawptr_vals, (rawptr_vals, tt))) (λ κs. (rawptr_Tells, (rawptr_Tells, tt))) (λ κs qs bounds a both are.
-        let y : Ptr → Ptr → W.Ghost = λ p r. ((κs, qs, bounds, (p, (r, tt)), (rawptr_vals p, (rawptr_vals r, tt))), both) in
-        let G = triple_of 𝓛 (of_loans S R).signature (closing 𝓛 (of_loans S R) (tells_both told)) in
-        qed 𝓛 (raw (on_entry 𝓛 of_pointers.signature κs qs a (y a.0 a.1.0).0.4) ∷ (‵ (lies_at S full_share a.0 both.0) ⊛ ‵ (lies_at R full_share a.1.0 both.1)) ∷ []) ∵ drop ! $ split ! $ move ! (1 ∷ []) $
-        in_a_block ! a.1.0 (λ r. lies_at R full_share r both.1) (id⊢ 𝓤 _) (λ b' o' is'. move ! (1 ∷ []) $
-        in_a_block ! a.0 (λ p. lies_at S full_share p both.0) (id⊢ 𝓤 _) (λ b o is.
-        regoal ! (λ p. prop (WpFn 𝓤 𝓛.H 𝓣.C 𝓣.Λ (lending_both S R callee) (rawptr_vals p ++ (rawptr_vals a.1.0 ++ [])) (W.post (y p a.1.0)))) is refl $
-        regoal ! (λ r. prop (WpFn 𝓤 𝓛.H 𝓣.C 𝓣.Λ (lending_both S R callee) (rawptr_vals (block_ptr b o) ++ (rawptr_vals r ++ [])) (W.post (y (block_ptr b o) r)))) is' refl $
-        enter ! _ _ _ _ _ $ alloc_all ! (λ l. pass_all ! refl ((tt, tt), ((tt, tt), tt)) $
-        -- [the first; the second; the locals]
-        sets ! (of_opd ! (get ! refl)) refl (tt, tt) $
-        sets ! (addr ! (through ! refl (stop !))) refl (tt, tt) $
-        sets ! (of_opd ! (get ! refl)) refl (tt, tt) $
-        sets ! (addr ! (through ! refl (stop !))) refl (tt, tt) $
-        lend ! tt S 0 both.0 b o (λ κ γ.
-        -- [the loan of the first; the lender's part of it; the token of α; the second; the locals]
-        move ! (3 ∷ []) $ lend ! tt R 1 both.1 b' o' (λ ι δ.
-        -- [the loan of the second; the lender's part of it; the token of β; the loan of the first; the lender's part of it; the token of α; the locals]
-        let r = loan S b o γ both.0 in
-        let r' = loan R b' o' δ both.1 in
-        let z : G.Ghost = (((κ ∷ [], (ι ∷ [], tt)), (full_share, (full_share, tt)), tt, (r, (r', tt)), (mut_vals r, (mut_vals r', tt))), tt) in
+  -- the function is given a value that is at the first pointer, and this, which has the one at the second
+  abbrev pub leaves_both : (Ptr → S.Denot × R.Denot → SProp 𝓤) → (S.Denot → S.Denot → R.Denot → R.Denot → Type 0) → Clauses 𝓤 of_pointers
+  leaves_both asked told κs a = record { ghost = S.Denot × R.Denot; requires = λ both. sep 𝓤 (sem 𝓛 (lies_at S full_share a.0 both.0)) (asked a.1.0 both); ensures = λ both r e. both_there told a.0 a.1.0 both }
+
+  -- the call asks this of both values, and says this of them and of their last ones
+  abbrev pub tells_both : (S.Denot → R.Denot → SProp 𝓤) → (S.Denot → S.Denot → R.Denot → R.Denot → Type 0) → Clauses 𝓤 (of_loans S R)
+  tells_both needs told κs a = record { ghost = Unit {0}; requires = λ g. needs a.0.now a.1.0.now; ensures = λ g r e. fact 𝓤 (told a.0.now e.0.now a.1.0.now e.1.0.now) }
+
+  module _ (𝓜 : Model 𝓤 𝓛.H) (𝓡 : Running 𝓤 𝓛.H 𝓜) (told : S.Denot → S.Denot → R.Denot → R.Denot → Type 0) (name callee : Callee)
+      (closed : Closed 𝓤 𝓛.H (tables 𝓤 𝓛.H 𝓜 𝓡 𝓡.env).C (tables 𝓤 𝓛.H 𝓜 𝓡 𝓡.env).Λ name (lending_both S R callee)) where
+    lends_for : (asked : Ptr → S.Denot × R.Denot → SProp 𝓤) (needs : S.Denot → R.Denot → SProp 𝓤) → ((at : Ptr) (both : S.Denot × R.Denot) → ent 𝓤 (asked at both) (sep 𝓤 (sem 𝓛 (lies_at R full_share at both.1)) (needs both.0 both.1)))
+        → Meets 𝓛 (of_loans S R).signature ((tables 𝓤 𝓛.H 𝓜 𝓡 𝓡.env).C callee) (closing 𝓛 (of_loans S R) (tells_both needs told))
+        → Meets 𝓛 of_pointers.signature ((tables 𝓤 𝓛.H 𝓜 𝓡 𝓡.env).C name) (closing 𝓛 of_pointers (leaves_both asked told))
+    lends_for asked needs asks met =
+        let c = leaves_both asked told in let 𝓣 = tables 𝓤 𝓛.H 𝓜 𝓡 𝓡.env in let F = triple_of 𝓛 of_pointers.signature (closing 𝓛 of_pointers c) in
+        let G = triple_of 𝓛 (of_loans S R).signature (closing 𝓛 (of_loans S R) (tells_both needs told)) in let f = lending_both S R callee in
+        meets 𝓛 of_pointers c 𝓜 𝓡 name f closed (λ κs. (rawptr_vals, (rawptr_vals, tt))) (λ κs. (rawptr_Tells, (rawptr_Tells, tt))) (λ κs qs bounds a both are.
+        let y : Ptr → Ptr → F.Ghost = λ p r. ((κs, qs, bounds, (p, (r, tt)), (rawptr_vals p, (rawptr_vals r, tt))), both) in
+        qed 𝓛 (raw (on_entry 𝓛 of_pointers.signature κs qs a (y a.0 a.1.0).0.4) ∷ (‵ (lies_at S full_share a.0 both.0) ⊛ raw (asked a.1.0 both)) ∷ []) ∵ drop ! $ split ! $ move ! (1 ∷ []) $
+        use1 𝓛 (‵ (lies_at R full_share a.1.0 both.1) ⊛ raw (needs both.0 both.1)) (asks a.1.0 both) $ split ! $
+        in_a_block ! a.1.0 (λ r. lies_at R full_share r both.1) (id⊢ 𝓤 _) (λ b' o' is'. move ! (2 ∷ []) $ in_a_block ! a.0 (λ p. lies_at S full_share p both.0) (id⊢ 𝓤 _) (λ b o is.
+        regoal ! (λ p. prop (WpFn 𝓤 𝓛.H 𝓣.C 𝓣.Λ f (rawptr_vals p ++ (rawptr_vals a.1.0 ++ [])) (F.post (y p a.1.0)))) is refl $
+        regoal ! (λ r. prop (WpFn 𝓤 𝓛.H 𝓣.C 𝓣.Λ f (rawptr_vals (block_ptr b o) ++ (rawptr_vals r ++ [])) (F.post (y (block_ptr b o) r)))) is' refl $
+        let Q = F.post (y (block_ptr b o) (block_ptr b' o')) in let vs = vptr b o ∷ vptr b' o' ∷ [] in
+        -- the code: both pointers are followed, and the call is made
+        suffices ! (𝓣.C callee vs (unit_then 𝓛 Q)) (qed 𝓛 (raw (𝓣.C callee vs (unit_then 𝓛 Q)) ∷ []) ∵ enter ! _ _ _ _ _ $ alloc_all ! (λ l. pass_all ! refl ((tt, tt), ((tt, tt), tt)) $
+        sets ! (of_opd ! (get ! refl)) refl (tt, tt) $ sets ! (addr ! (through ! refl (stop !))) refl (tt, tt) $ sets ! (of_opd ! (get ! refl)) refl (tt, tt) $ sets ! (addr ! (through ! refl (stop !))) refl (tt, tt) $
+        calls ! (framed 𝓤 𝓛.H 𝓜 𝓣) vs Q (and_then ! (get ! refl) (and_then ! (get ! refl) (no_more !))) $ lands_as ! refl refl (tt, tt) $ sets ! (of_opd ! (unit_lit !)) refl (tt, tt) $ returns ! (look_at ! 0 refl) $ free_all ! refl $ done !)) $
+        suffices ! _ (enters 𝓤 𝓛.H 𝓜 𝓣 callee _ _) $ updating ! $ lend ! tt S 0 both.0 b o (λ α γ. move ! (3 ∷ []) $ lend ! tt R 1 both.1 b' o' (λ β δ.
+        -- [the loan of the second; the lender's part of it; the token of β; the loan of the first; the lender's part of it; the token of α; what the call needs]
+        let r = loan S b o γ both.0 in let r' = loan R b' o' δ both.1 in let z : G.Ghost = (((α ∷ [], (β ∷ [], tt)), (full_share, (full_share, tt)), tt, (r, (r', tt)), (mut_vals r, (mut_vals r', tt))), tt) in
         nothing ! $ move ! (1 ∷ 0 ∷ []) $ join ! $ move ! (3 ∷ 0 ∷ []) $ join ! $
-        -- [both loans; the lender's part of the second; the token of β; the lender's part of the first; the token of α; the locals]
-        nothing ! $ move ! (3 ∷ 0 ∷ []) $ join ! $ move ! (4 ∷ 0 ∷ []) $ join ! $ move ! (0 ∷ 1 ∷ []) $ join ! $
-        nothing ! $ move ! (1 ∷ 0 ∷ []) $ use2 𝓛 (raw (G.pre z)) (id⊢ 𝓤 _) $
-        calls_at ! (framed 𝓤 𝓛.H 𝓜 𝓣) G met z
-        (and_then ! (get ! refl) (and_then ! (get ! refl) (no_more !))) (λ v.
-        use1 𝓛 (later (some (λ (u : Unit {0}). ((‵ (flft (κ ∷ []) full_share) ⊛ ‵ (flft (ι ∷ []) full_share) ⊛ ‵ ftrue) ⊛ ‵ (unit.own_val u (v ∷ []))) ⊛
+        -- [both loans; the lender's part of the second; the token of β; the lender's part of the first; the token of α; what the call needs]
+        nothing ! $ move ! (3 ∷ 0 ∷ []) $ join ! $ move ! (4 ∷ 0 ∷ []) $ join ! $ move ! (0 ∷ 1 ∷ []) $ join ! $ move ! (0 ∷ 3 ∷ []) $ use2 𝓛 (raw (G.pre z)) (id⊢ 𝓤 _) $
+        now ! $ hands ! (framed 𝓤 𝓛.H 𝓜 𝓣 callee) G z (met z) (λ v.
+        use1 𝓛 (later (some (λ (u : Unit {0}). ((‵ (flft (α ∷ []) full_share) ⊛ ‵ (flft (β ∷ []) full_share) ⊛ ‵ ftrue) ⊛ ‵ (unit.own_val u (v ∷ []))) ⊛
         some (λ (last : S.Denot × (R.Denot × Unit {0})). ‵ (lasts (of_loans S R) z.0.0 z.0.3 last) ⊛ raw (fact 𝓤 (told both.0 last.0 both.1 last.1.0)))))) (id⊢ 𝓤 _) $
-        await ! tt $ pick ! (λ u. split ! $ split ! $ split ! $ lft_end ! tt $ move ! (1 ∷ []) $ split ! $ lft_end ! tt $
-        -- [β is over; nothing; α is over; the result; what the call says; the lender's part of the second; that of the first; the locals]
-        move ! (3 ∷ []) $ feq_l ! (λ is_unit.
-        lands_as ! (ap only is_unit) refl (tt, tt) $
-        sets ! (of_opd ! (unit_lit !)) refl (tt, tt) $
-        move ! (3 ∷ []) $ pick ! (λ last. split ! $ move ! (1 ∷ []) $ heard ! (told both.0 last.0 both.1 last.1.0) (λ is_told. fsplit ! $ fsplit ! $ move ! (2 ∷ []) $ fsplit ! $ fsplit ! $
-        -- [the second's last value; its borrow; nothing; the first's last value; its borrow; β is over; nothing; α is over; the lender's part of the second; that of the first; the locals]
-        move ! (5 ∷ 8 ∷ 0 ∷ []) $ use3 𝓛 (later (‵ (lies_at R full_share (block_ptr b' o') last.1.0))) (ref_back 𝓛 R (ι ∷ []) δ last.1.0 b' o') $ await ! tt $
-        -- [the second; its borrow; nothing; the first's last value; its borrow; nothing; α is over; the lender's part of the first; the locals]
-        move ! (6 ∷ 7 ∷ 3 ∷ []) $ use3 𝓛 (later (‵ (lies_at S full_share (block_ptr b o) last.0))) (ref_back 𝓛 S (κ ∷ []) γ last.0 b o) $ await ! tt $
-        returns ! (look_at ! 0 refl) $ free_all ! refl $ keep ! (1 ∷ 0 ∷ []) $
-        use0 𝓛 (raw (fact 𝓤 (told both.0 last.0 both.1 last.1.0))) (fact_i 𝓤 (told both.0 last.0 both.1 last.1.0) (emp 𝓤) is_told) $ move ! (1 ∷ 0 ∷ []) $ join ! $ move ! (1 ∷ 0 ∷ []) $ join ! $
+        updating ! $ await ! tt $ pick ! (λ u. split ! $ split ! $ split ! $ lft_end ! tt $ move ! (1 ∷ []) $ split ! $ lft_end ! tt $
+        -- [β is over; nothing; α is over; the result; what the call says; the lender's part of the second; that of the first]
+        move ! (4 ∷ []) $ pick ! (λ last. split ! $ move ! (1 ∷ []) $ heard ! (told both.0 last.0 both.1 last.1.0) (λ is_told. fsplit ! $ fsplit ! $ move ! (2 ∷ []) $ fsplit ! $ fsplit ! $
+        -- [the second's last value; its borrow; nothing; the first's last value; its borrow; β is over; nothing; α is over; the result; the lender's part of the second; that of the first]
+        move ! (5 ∷ 9 ∷ 0 ∷ []) $ use3 𝓛 (later (‵ (lies_at R full_share (block_ptr b' o') last.1.0))) (ref_back 𝓛 R (β ∷ []) δ last.1.0 b' o') $ await ! tt $
+        -- [the second; its borrow; nothing; the first's last value; its borrow; nothing; α is over; the result; the lender's part of the first]
+        move ! (6 ∷ 8 ∷ 3 ∷ []) $ use3 𝓛 (later (‵ (lies_at S full_share (block_ptr b o) last.0))) (ref_back 𝓛 S (α ∷ []) γ last.0 b o) $ await ! tt $ now ! $
+        -- [the first; the second; its borrow; nothing; the first's borrow; nothing; the result]
+        move ! (6 ∷ []) $ frame ! $ keep ! (0 ∷ 1 ∷ []) $
+        use0 𝓛 (raw (fact 𝓤 (told both.0 last.0 both.1 last.1.0))) (fact_i 𝓤 (told both.0 last.0 both.1 last.1.0) (emp 𝓤) is_told) $ move ! (2 ∷ 0 ∷ []) $ join ! $ move ! (1 ∷ 0 ∷ []) $ join ! $
         let Left = λ (x : S.Denot) (left : R.Denot). sep 𝓤 (sem 𝓛 (lies_at S full_share (block_ptr b o) x)) (sep 𝓤 (sem 𝓛 (lies_at R full_share (block_ptr b' o') left)) (fact 𝓤 (told both.0 x both.1 left))) in
         use1 𝓛 (raw (ex 𝓤 (λ (left : R.Denot). Left last.0 left))) (ex_i 𝓤 (λ (left : R.Denot). Left last.0 left) last.1.0) $
         use1 𝓛 (raw (ex 𝓤 (λ (x : S.Denot). ex 𝓤 (λ (left : R.Denot). Left x left)))) (ex_i 𝓤 (λ (x : S.Denot). ex 𝓤 (λ (left : R.Denot). Left x left)) last.0) $
-        suffices ! _ (ends_at 𝓛 of_pointers stayed c (y (block_ptr b o) (block_ptr b' o')) vunit tt (tt, (tt, tt)) (tt, (tt, tt))) $
-        feq_i ! _ (vunit ∷ []) _ refl $ nothing ! $ nothing ! $ join ! $ nothing ! $ join ! $ nothing ! $ group ! 3 $ done !)))))))))))
+        nothing ! $ suffices ! _ (ends_plain 𝓛 [] of_pointers.signature.params of_pointers.kept c (y (block_ptr b o) (block_ptr b' o')) (tt, (tt, tt)) (tt, (tt, tt)) (tt, (tt, tt))) $ done !)))))))))
+
+    -- the call asks nothing
+    pub lends_both : Meets 𝓛 (of_loans S R).signature ((tables 𝓤 𝓛.H 𝓜 𝓡 𝓡.env).C callee) (closing 𝓛 (of_loans S R) (tells_both (λ x left. emp 𝓤) told))
+        → Meets 𝓛 of_pointers.signature ((tables 𝓤 𝓛.H 𝓜 𝓡 𝓡.env).C name) (closing 𝓛 of_pointers (leaves_both (λ at both. sem 𝓛 (lies_at R full_share at both.1)) told))
+    lends_both = lends_for (λ at both. sem 𝓛 (lies_at R full_share at both.1)) (λ x left. emp 𝓤) (λ at both. via 𝓤 (sep 𝓤 (emp 𝓤) (sem 𝓛 (lies_at R full_share at both.1))) (emp∗ 𝓤 _) (comm∗ 𝓤 (emp 𝓤) (sem 𝓛 (lies_at R full_share at both.1))))
+
+    -- the call asks that this is so of both
+    pub lends_own : (own : S.Denot → R.Denot → Type 0) → Meets 𝓛 (of_loans S R).signature ((tables 𝓤 𝓛.H 𝓜 𝓡 𝓡.env).C callee) (closing 𝓛 (of_loans S R) (tells_both (λ x left. fact 𝓤 (own x left)) told))
+        → Meets 𝓛 of_pointers.signature ((tables 𝓤 𝓛.H 𝓜 𝓡 𝓡.env).C name) (closing 𝓛 of_pointers (leaves_both (λ at both. sep 𝓤 (sem 𝓛 (lies_at R full_share at both.1)) (fact 𝓤 (own both.0 both.1))) told))
+    lends_own own = lends_for (λ at both. sep 𝓤 (sem 𝓛 (lies_at R full_share at both.1)) (fact 𝓤 (own both.0 both.1))) (λ x left. fact 𝓤 (own x left)) (λ at both. id⊢ 𝓤 _)

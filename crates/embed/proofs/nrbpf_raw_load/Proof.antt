@@ -1,59 +1,28 @@
 -- `nrbpf_raw_load` writes the handle that `load_text` gives into the room.
-use Rattle.embed.proofs.Steps.{[], ◌∷◌, ◌++◌, u8, SliceRefOf, ShrSlice, shr_slice_vals, shr_slice_Tells, refl, proved, full_share, id⊢, ex, ex_i, ex_e, snd∗, sep, emp, fact, fact_i, ftrue, named, vunit, tables, WpFn, ‵, raw, ◌⊛◌, some, later, prop, ◌$◌, ◌∵◌, !, qed, done, move, drop, use0, use1, use2, split, join, feq_i, pick, await, regoal, suffices, group, sem, enter, of_opd, unit_lit, init, stop, no_more, and_then, assigns, returns, alloc_all, pass_all, free_all, look_at, get, through, sets, lands_as, part_in, RefOf, yes, Ptr, RawPtr, block_ptr, lies_at, room_at, in_a_block, rawptr_vals, rawptr_Tells, ShrRef, shr_vals, shr_Tells, named_lft, plain, nothing, heard, val, tells, calls_at, ensured, lasts, alive, triple_of, Stays, walk_of, stay_dropped, Goes-dropped, ends_at, framed}
-use Rattle.embed.proofs.Lending.{is_typed}
+use Rattle.embed.proofs.Steps.{[], ◌∷◌, ◌++◌, refl, id⊢, named, tables, raw, ◌$◌, ◌∵◌, !, qed, done, enter, of_opd, unit_lit, init, stop, no_more, and_then, assigns, returns, alloc_all, pass_all, free_all, look_at, get, through, sets, lands_as, rawptr_vals, rawptr_Tells, shr_vals, shr_Tells, named_lft, u8, shr_slice_vals, shr_slice_Tells, framed, layout}
+use Rattle.embed.proofs.Calling.{alloc_vals, alloc_tells, alloc_typed, meets, written, written_then, calls_for}
+use Rattle.embed.proofs.Putting.{puts}
 use Rattle.host_calls.specs.Loadings.{IsLoaded}
 use Rattle.host_calls.specs.contracts.handles.StateHandle.{the_row as R}
 use Rattle.host_calls.proofs.handles.StateHandle.TheLaws as laws
 use Rattle.host_calls.specs.contracts.handles.Opening.{the_row as O}
-use Rattle.std.specs.contracts.alloc.Global.{the_row as A, the_type as global}
-use Rattle.std.proofs.alloc.Global.TheLaws as global_laws
 use Rattle.embed.specs.contracts.nrbpf_raw_load as f
 use Rattle.embed.proofs.nrbpf_raw_load.Statement.{statement}
 use Rattle.embed.proofs.nrbpf_raw_load.Code as code
 use Rattle.host_calls.specs.contracts.loading.load_text as g
 use Rattle.host_calls.proofs.loading.load_text.Met.{met}
 
-abbrev stayed : Stays f.ended.signature.params f.ended.kept
-stayed = (stay_dropped _ yes, (stay_dropped _ yes, (stay_dropped _ yes, (stay_dropped _ yes, tt))))
-
 pub nrbpf_raw_load_spec : {M : Type 1} → statement M
 nrbpf_raw_load_spec 𝓤 𝓛 𝓜 𝓡 wired =
-    let c = f.clauses 𝓛 𝓜.mem 𝓡.returns in let W = walk_of 𝓛 f.ended stayed c in let 𝓣 = tables 𝓤 𝓛.H 𝓜 𝓡 𝓡.env in
-    let vals = λ (x : A.Denot). val global global_laws.the_laws x ∷ [] in
-    proved 𝓛 f.ended stayed c 𝓜 𝓡
-    (Goes-dropped 𝓛 3 (plain (λ _. A)) yes (λ κs x w. refl), (Goes-dropped 𝓛 3 (RefOf (0 ∷ []) tt (plain (λ κs. O (named_lft 3 1 tt κs))) (λ κs. tt)) yes (λ κs x w. refl), (Goes-dropped 𝓛 3 (SliceRefOf (2 ∷ []) tt (plain (λ _. u8)) (λ κs. tt)) yes (λ κs x w. refl), (Goes-dropped 𝓛 3 (plain (λ _. RawPtr)) yes (λ κs x w. refl), tt))))
-    f.Key.name code.function (code.unfolded 𝓤 𝓛.H 𝓜 𝓡 wired)
-    (λ κs. (vals, (shr_vals, (shr_slice_vals, (rawptr_vals, tt)))))
-    (λ κs. (tells global global_laws.the_laws, (shr_Tells (named 0) κs.0 (O (named_lft 3 1 tt κs)), (shr_slice_Tells (named 2) κs.1.1.0 u8, (rawptr_Tells, tt))))) (λ κs qs bounds a none are.
-    let text = a.1.1.0 in
-    let y : Ptr → W.Ghost = λ p. ((κs, qs, bounds, (a.0, (a.1.0, (text, (p, tt)))), (vals a.0, (shr_vals a.1.0, (shr_slice_vals text, (rawptr_vals p, tt))))), none) in
-    let G = triple_of 𝓛 g.signature (g.spec 𝓛 𝓜.mem 𝓡.returns) in
-    let z : G.Ghost = ((κs, qs, bounds, (a.0, (a.1.0, (text, tt))), (vals a.0, (shr_vals a.1.0, (shr_slice_vals text, tt)))), tt) in
-    qed 𝓛 ((raw (alive 𝓛 f.signature κs qs) ⊛ (‵ (A.own_val a.0 (vals a.0)) ⊛ (‵ ((ShrRef (named 0) κs.0 (O (named_lft 3 1 tt κs))).own_val a.1.0 (shr_vals a.1.0)) ⊛ (‵ ((ShrSlice (named 2) κs.1.1.0 u8).own_val text (shr_slice_vals text)) ⊛ (‵ (RawPtr.own_val a.1.1.1.0 (rawptr_vals a.1.1.1.0)) ⊛ ‵ ftrue)))))
-    ∷ ‵ (room_at R a.1.1.1.0) ∷ []) ∵ move ! (1 ∷ []) $
-    in_a_block ! a.1.1.1.0 (λ p. room_at R p) (id⊢ 𝓤 _) (λ b o at.
-    regoal ! (λ p. prop (WpFn 𝓤 𝓛.H 𝓣.C 𝓣.Λ code.function (vals a.0 ++ (shr_vals a.1.0 ++ (shr_slice_vals text ++ (rawptr_vals p ++ [])))) (W.post (y p)))) at refl $
-    move ! (1 ∷ []) $ split ! $ move ! (1 ∷ []) $ split ! $ move ! (1 ∷ []) $ split ! $ move ! (1 ∷ []) $ split ! $ move ! (1 ∷ []) $ drop ! $
-    -- [what the text owns; what the reference owns; what the allocator owns; the tokens; the room]
-    enter ! _ _ _ _ _ $ alloc_all ! (λ l. pass_all ! refl ((((global_laws.the_row_laws).lawful 𝓛).typed a.0 _ are.0).0, ((tt, tt), ((tt, (tt, (record { fits = are.1.1.0.0.1.0 }, tt))), ((tt, tt), tt)))) $
-    sets ! (of_opd ! (get ! refl)) refl (tt, tt) $
-    nothing ! $ move ! (1 ∷ 0 ∷ []) $ join ! $ move ! (1 ∷ 0 ∷ []) $ join ! $ move ! (1 ∷ 0 ∷ []) $ join ! $ move ! (1 ∷ 0 ∷ []) $ join ! $
-    nothing ! $ move ! (1 ∷ 0 ∷ []) $ use2 𝓛 (raw (G.pre z)) (id⊢ 𝓤 _) $
-    calls_at ! (framed 𝓤 𝓛.H 𝓜 (tables 𝓤 𝓛.H 𝓜 𝓡 𝓡.env)) G (met 𝓤 𝓛 𝓜 𝓡 (code.calls-host_calls::loading::load_text 𝓡.env wired)) z
-    (and_then ! (get ! refl) (and_then ! (get ! refl) (and_then ! (get ! refl) (no_more !)))) (λ v.
-    use1 𝓛 (later (some (λ (given : R.Denot). (raw (alive 𝓛 g.signature κs qs) ⊛ ‵ (R.own_val given (v ∷ []))) ⊛ raw (ensured 𝓛 g.ended (g.clauses 𝓛 𝓜.mem 𝓡.returns) κs z.0.3 tt given)))) (id⊢ 𝓤 _) $
-    await ! tt $ pick ! (λ given. split ! $ move ! (1 ∷ []) $
-    use1 𝓛 (raw (fact 𝓤 (IsLoaded a.1.0.now text.now given))) (ex_e 𝓤 _ (λ last. snd∗ 𝓤 (sem 𝓛 (lasts g.ended κs z.0.3 last)) (fact 𝓤 (IsLoaded a.1.0.now text.now given)))) $ heard ! (IsLoaded a.1.0.now text.now given) (λ loaded. split ! $ move ! (1 ∷ []) $
-    -- [what the handle owns; the tokens; the room; the locals]
-    is_typed ! R ((laws.the_row_laws).lawful 𝓛) given (v ∷ []) (λ typed.
-    lands_as ! refl refl typed.0 $
-    assigns ! (of_opd ! (get ! refl)) (through ! refl (stop !)) (init ! 2 refl typed.0) $
-    sets ! (of_opd ! (unit_lit !)) refl (tt, tt) $
-    returns ! (look_at ! 0 refl) $ free_all ! refl $ move ! (2 ∷ 0 ∷ []) $
-    use2 𝓛 (‵ (lies_at R full_share (block_ptr b o) given)) (part_in 𝓛 R refl full_share given b o v) $
-    use0 𝓛 (raw (fact 𝓤 (IsLoaded a.1.0.now text.now given))) (fact_i 𝓤 (IsLoaded a.1.0.now text.now given) (emp 𝓤) loaded) $ move ! (1 ∷ 0 ∷ []) $
-    let Left = λ (x : R.Denot). sep 𝓤 (sem 𝓛 (lies_at R full_share (block_ptr b o) x)) (fact 𝓤 (IsLoaded a.1.0.now text.now x)) in
-    use2 𝓛 (raw (ex 𝓤 Left)) (ex_i 𝓤 Left given) $
-    suffices ! _ (ends_at 𝓛 f.ended stayed c (y (block_ptr b o)) vunit tt (tt, (tt, (tt, (tt, tt)))) (tt, (tt, (tt, (tt, tt))))) $
-    -- [what is left; the tokens]
-    feq_i ! _ (vunit ∷ []) _ refl $ nothing ! $ nothing ! $ join ! $ nothing ! $ join ! $ nothing ! $ join ! $ nothing ! $ join ! $ move ! (3 ∷ 0 ∷ 1 ∷ []) $ group ! 3 $ done !)))))))
+    let c = f.clauses 𝓛 𝓜.mem 𝓡.returns in
+    meets 𝓛 f.ended c 𝓜 𝓡 f.Key.name code.function (code.unfolded 𝓤 𝓛.H 𝓜 𝓡 wired) (λ κs. (alloc_vals, (shr_vals, (shr_slice_vals, (rawptr_vals, tt)))))
+    (λ κs. (alloc_tells, (shr_Tells (named 0) κs.0 (O (named_lft 3 1 tt κs)), (shr_slice_Tells (named 2) κs.1.1.0 u8, (rawptr_Tells, tt))))) (λ κs qs bounds a none are.
+    let us = alloc_vals a.0 ++ (shr_vals a.1.0 ++ (shr_slice_vals a.1.1.0 ++ [])) in
+    puts 𝓛 𝓜 𝓡 R refl ((laws.the_row_laws).lawful 𝓛) f.signature.outlives f.signature.params f.ended.kept c g.signature.params g.ended.kept (g.clauses 𝓛 𝓜.mem 𝓡.returns) g.Key.name code.function
+    (met 𝓤 𝓛 𝓜 𝓡 (code.calls-host_calls::loading::load_text 𝓡.env wired)) κs qs bounds (λ p. (a.0, (a.1.0, (a.1.1.0, (p, tt))))) (λ p. (alloc_vals a.0, (shr_vals a.1.0, (shr_slice_vals a.1.1.0, (rawptr_vals p, tt))))) (λ p. none) a.1.1.1.0
+    (a.0, (a.1.0, (a.1.1.0, tt))) (alloc_vals a.0, (shr_vals a.1.0, (shr_slice_vals a.1.1.0, tt))) tt (IsLoaded a.1.0.now a.1.1.0.now) (id⊢ 𝓤 _) (λ h e. id⊢ 𝓤 _) 3 refl
+    (λ p. (tt, (tt, (tt, (tt, tt))))) (λ p. (tt, (tt, (tt, (tt, tt))))) (λ p. (tt, (tt, (tt, (tt, tt))))) (λ p. id⊢ 𝓤 _) (λ b o Q.
+    qed 𝓛 (raw ((tables 𝓤 𝓛.H 𝓜 𝓡 𝓡.env).C g.Key.name us (written_then 𝓛 (layout R) b o Q)) ∷ []) ∵ enter ! _ _ _ _ _ $
+    alloc_all ! (λ l. pass_all ! refl ((alloc_typed 𝓛 a.0 are.0).0, ((tt, tt), ((tt, (tt, (record { fits = are.1.1.0.0.1.0 }, tt))), ((tt, tt), tt)))) $ sets ! (of_opd ! (get ! refl)) refl (tt, tt) $
+    calls_for ! (framed 𝓤 𝓛.H 𝓜 (tables 𝓤 𝓛.H 𝓜 𝓡 𝓡.env)) us (layout R) b o Q (and_then ! (get ! refl) (and_then ! (get ! refl) (and_then ! (get ! refl) (no_more !)))) (λ v typed. lands_as ! refl refl typed $
+    assigns ! (of_opd ! (get ! refl)) (through ! refl (stop !)) (init ! 0 refl typed) $ written ! (layout R) b o v Q $ sets ! (of_opd ! (unit_lit !)) refl (tt, tt) $ returns ! (look_at ! 0 refl) $ free_all ! refl $ done !))))

@@ -1,6 +1,7 @@
 -- `nrbpf_raw_part` lends the text to `part`, and passes the room for its bytes on.
-use Rattle.embed.proofs.Steps.{[], ◌∷◌, ◌++◌, ℕ, List, refl, ap, proved, full_share, id⊢, ex, ex_i, sep, emp, fact, fact_i, ftrue, flft, named, vunit, tables, WpFn, ‵, raw, ◌⊛◌, some, later, prop, ◌$◌, ◌∵◌, !, qed, done, move, keep, drop, use0, use1, use2, use3, split, join, fsplit, feq_i, feq_l, pick, await, regoal, suffices, group, sem, enter, of_opd, unit_lit, addr, stop, no_more, and_then, returns, alloc_all, pass_all, free_all, look_at, get, get_in, look_in_at, through, sets, lands_as, lft_end, unit, yes, ref_back, Ptr, RawPtr, block_ptr, lies_at, in_a_block, rawptr_vals, rawptr_Tells, mut_vals, plain, nothing, heard, only, calls_at, lasts, alive, triple_of, Stays, walk_of, stay_dropped, Goes-dropped, gave_slice, Goes-gave_slice, ends_at, framed, whole, sub, agg, from, fld, hop, u8, MutSlice, mut_slice_vals, mut_slice_Tells}
-use Rattle.embed.proofs.Lending.{lend, loan}
+use Rattle.embed.proofs.Steps.{[], ◌∷◌, refl, tables, vptr, raw, ◌$◌, ◌∵◌, !, qed, done, enter, alloc_all, pass_all, sets, of_opd, get, addr, through, stop, framed, and_then, no_more, lands_as, unit_lit, returns, look_at, free_all, named, u8, mut_slice_vals, mut_slice_Tells, from, fld, hop, look_in_at, sub, whole, agg, get_in}
+use Rattle.embed.proofs.Calling.{calls, unit_then}
+use Rattle.embed.proofs.Lending.{goes_on, rest}
 use Rattle.host_calls.specs.States.{GivesPart}
 use Rattle.host_calls.specs.contracts.handles.TextHandle.{the_row as R}
 use Rattle.embed.specs.contracts.nrbpf_raw_part as f
@@ -9,63 +10,13 @@ use Rattle.embed.proofs.nrbpf_raw_part.Code as code
 use Rattle.host_calls.specs.contracts.states.part as g
 use Rattle.host_calls.proofs.states.part.Met.{met}
 
-abbrev stayed : Stays f.ended.signature.params f.ended.kept
-stayed = (stay_dropped _ yes, (gave_slice (0 ∷ []) tt (plain (λ _. u8)), tt))
-
 pub nrbpf_raw_part_spec : {M : Type 1} → statement M
 nrbpf_raw_part_spec 𝓤 𝓛 𝓜 𝓡 wired =
-    let c = f.clauses 𝓛 𝓜.mem 𝓡.returns in let W = walk_of 𝓛 f.ended stayed c in let 𝓣 = tables 𝓤 𝓛.H 𝓜 𝓡 𝓡.env in
-    proved 𝓛 f.ended stayed c 𝓜 𝓡
-    (Goes-dropped 𝓛 1 (plain (λ _. RawPtr)) yes (λ κs x w. refl), (Goes-gave_slice 𝓛 1 0 tt (plain (λ _. u8)), tt))
-    f.Key.name code.function (code.unfolded 𝓤 𝓛.H 𝓜 𝓡 wired)
-    (λ κs. (rawptr_vals, (mut_slice_vals, tt)))
-    (λ κs. (rawptr_Tells, (mut_slice_Tells (named 0) κs.0 u8, tt))) (λ κs qs bounds a text are.
-    let out = a.1.0 in
-    let y : Ptr → W.Ghost = λ p. ((κs, qs, bounds, (p, a.1), (rawptr_vals p, (mut_slice_vals out, tt))), text) in
-    let G = triple_of 𝓛 g.signature (g.spec 𝓛 𝓜.mem 𝓡.returns) in
-    qed 𝓛 ((raw (alive 𝓛 f.signature κs qs) ⊛ (‵ (RawPtr.own_val a.0 (rawptr_vals a.0)) ⊛ (‵ ((MutSlice (named 0) κs.0 u8).own_val out (mut_slice_vals out)) ⊛ ‵ ftrue)))
-    ∷ ‵ (lies_at R full_share a.0 text) ∷ []) ∵
-    split ! $ move ! (1 ∷ []) $ split ! $ drop ! $ split ! $ move ! (1 ∷ []) $ drop ! $
-    -- [what the other parameter owns; the tokens; the handle]
-    move ! (2 ∷ []) $
-    in_a_block ! a.0 (λ p. lies_at R full_share p text) (id⊢ 𝓤 _) (λ b o e.
-    regoal ! (λ p. prop (WpFn 𝓤 𝓛.H 𝓣.C 𝓣.Λ code.function (rawptr_vals p ++ (mut_slice_vals out ++ [])) (W.post (y p)))) e refl $
-    enter ! _ _ _ _ _ $ alloc_all ! (λ l. pass_all ! refl ((tt, tt), ((tt, (tt, (record { fits = are.1.0.0.1.0 }, tt))), tt)) $
-    -- [the handle; what the other owns; the tokens; the locals]
-    sets ! (of_opd ! (get ! refl)) refl (tt, tt) $
-    sets ! (addr ! (through ! refl (stop !))) refl (tt, tt) $
-    sets ! (addr ! (from ! (fld ! refl (hop ! (look_in_at ! 2 (sub ! 0 refl (whole !))) (stop !))))) refl (tt, tt) $
-    sets ! (agg ! (and_then ! (get ! refl) (and_then ! (get_in ! (fld ! refl (stop !)) (sub ! 1 refl (whole !))) (no_more !)))) refl (tt, (tt, (record { fits = are.1.0.0.1.0 }, tt))) $
-    lend ! tt R 0 text b o (λ α γ.
-    -- [the loan; the lender's part; the token of α; what the other owns; the tokens; the locals]
-    let r = loan R b o γ text in
-    let z : G.Ghost = (((α ∷ [], κs), (full_share, qs), bounds, (r, a.1), (mut_vals r, (mut_slice_vals out, tt))), tt) in
-    nothing ! $ move ! (4 ∷ 0 ∷ []) $ join ! $ move ! (1 ∷ 0 ∷ []) $ join ! $
-    -- [what is passed; the lender's part; the token of α; the tokens; the locals]
-    move ! (3 ∷ []) $ use1 𝓛 (‵ (flft κs.0 qs.0) ⊛ ‵ ftrue) (id⊢ 𝓤 _) $ move ! (3 ∷ 0 ∷ []) $ join ! $ join ! $
-    nothing ! $ move ! (1 ∷ 0 ∷ []) $ use2 𝓛 (raw (G.pre z)) (id⊢ 𝓤 _) $
-    calls_at ! (framed 𝓤 𝓛.H 𝓜 (tables 𝓤 𝓛.H 𝓜 𝓡 𝓡.env)) G (met 𝓤 𝓛 𝓜 𝓡 (code.calls-host_calls::states::part 𝓡.env wired)) z
-    (and_then ! (get ! refl) (and_then ! (get ! refl) (no_more !))) (λ v.
-    use1 𝓛 (later (some (λ (u : Unit {0}). ((‵ (flft (α ∷ []) full_share) ⊛ (‵ (flft κs.0 qs.0) ⊛ ‵ ftrue)) ⊛ ‵ (unit.own_val u (v ∷ []))) ⊛
-    some (λ (last : R.Denot × (List ℕ × Unit {0})). ‵ (lasts g.ended z.0.0 z.0.3 last) ⊛ raw (fact 𝓤 (GivesPart text last.0 last.1.0)))))) (id⊢ 𝓤 _) $
-    await ! tt $ pick ! (λ u. split ! $ split ! $ split ! $ lft_end ! tt $ move ! (2 ∷ []) $ feq_l ! (λ is_unit.
-    lands_as ! (ap only is_unit) refl (tt, tt) $
-    sets ! (of_opd ! (unit_lit !)) refl (tt, tt) $
-    -- [α is over; the tokens; what the call says; the lender's part; the locals]
-    move ! (2 ∷ []) $ pick ! (λ last. split ! $ move ! (1 ∷ []) $ heard ! (GivesPart text last.0 last.1.0) (λ told. fsplit ! $ fsplit ! $
-    -- [the loan's last value; its borrow; the slice's last value; α is over; the tokens; the lender's part; the locals]
-    move ! (3 ∷ 5 ∷ 0 ∷ []) $ use3 𝓛 (later (‵ (lies_at R full_share (block_ptr b o) last.0))) (ref_back 𝓛 R (α ∷ []) γ last.0 b o) $ await ! tt $
-    -- [the handle; its borrow; the slice's last value; the tokens; the locals]
-    move ! (2 ∷ []) $
-    fsplit ! $ fsplit ! $ fsplit ! $ move ! (1 ∷ []) $ feq_l ! (λ same.
-    -- [the slice's last value, with its borrow; nothing; the handle; its borrow; the tokens; the locals]
-    returns ! (look_at ! 0 refl) $ free_all ! refl $ keep ! (3 ∷ 0 ∷ 1 ∷ 5 ∷ []) $
-    use0 𝓛 (raw (fact 𝓤 (GivesPart text last.0 last.1.0))) (fact_i 𝓤 (GivesPart text last.0 last.1.0) (emp 𝓤) told) $ move ! (1 ∷ 0 ∷ []) $
-    let Left = λ (x : R.Denot). sep 𝓤 (sem 𝓛 (lies_at R full_share (block_ptr b o) x)) (fact 𝓤 (GivesPart text x last.1.0)) in
-    use2 𝓛 (raw (ex 𝓤 Left)) (ex_i 𝓤 Left last.0) $
-    -- [what is left; the slice's last value, with its borrow; the tokens]
-    suffices ! _ (ends_at 𝓛 f.ended stayed c (y (block_ptr b o)) vunit tt (tt, (last.1.0, tt)) (tt, (same, tt))) $
-    nothing ! $ move ! (2 ∷ 3 ∷ []) $ join ! $ join ! $ nothing ! $ join ! $
-    -- [what is had of the parameters; what is left; the tokens]
-    move ! (2 ∷ []) $ use1 𝓛 (raw (alive 𝓛 f.signature κs qs)) (id⊢ 𝓤 _) $ move ! (1 ∷ 2 ∷ []) $
-    feq_i ! _ (vunit ∷ []) _ refl $ move ! (3 ∷ 1 ∷ 0 ∷ []) $ group ! 3 $ done !))))))))))
+    goes_on f.signature.outlives (rest f.signature.params) f.ended.kept.1 𝓛 R 𝓜 𝓡 (λ κs a e value last. GivesPart value last e.0.now) f.Key.name g.Key.name code.function
+    (code.unfolded 𝓤 𝓛.H 𝓜 𝓡 wired) (met 𝓤 𝓛 𝓜 𝓡 (code.calls-host_calls::states::part 𝓡.env wired))
+    (λ κs. (mut_slice_vals, tt)) (λ κs. (mut_slice_Tells (named 0) κs.0 u8, tt)) (λ κs a are b o Q.
+    qed 𝓛 (raw ((tables 𝓤 𝓛.H 𝓜 𝓡 𝓡.env).C g.Key.name (vptr b o ∷ mut_slice_vals a.0) (unit_then 𝓛 Q)) ∷ []) ∵ enter ! _ _ _ _ _ $ alloc_all ! (λ l. pass_all ! refl ((tt, tt), ((tt, (tt, (record { fits = are.0.0.1.0 }, tt))), tt)) $
+    sets ! (of_opd ! (get ! refl)) refl (tt, tt) $ sets ! (addr ! (through ! refl (stop !))) refl (tt, tt) $
+    sets ! (addr ! (from ! (fld ! refl (hop ! (look_in_at ! 2 (sub ! 0 refl (whole !))) (stop !))))) refl (tt, tt) $ sets ! (agg ! (and_then ! (get ! refl) (and_then ! (get_in ! (fld ! refl (stop !)) (sub ! 1 refl (whole !))) (no_more !)))) refl (tt, (tt, (record { fits = are.0.0.1.0 }, tt))) $
+    calls ! (framed 𝓤 𝓛.H 𝓜 (tables 𝓤 𝓛.H 𝓜 𝓡 𝓡.env)) (vptr b o ∷ mut_slice_vals a.0) Q (and_then ! (get ! refl) (and_then ! (get ! refl) (no_more !))) $
+    lands_as ! refl refl (tt, tt) $ sets ! (of_opd ! (unit_lit !)) refl (tt, tt) $ returns ! (look_at ! 0 refl) $ free_all ! refl $ done !))
