@@ -18,7 +18,7 @@ use replica::StoreRefused;
 use verifier::Mode;
 
 /// Why a step may not be taken now: the first of its conditions that fails.
-#[derive(Clone, Copy, Debug, PartialEq, Eq)]
+#[derive(Clone, Copy)]
 pub enum Blocked {
     /// The store has no such node.
     NoNode {

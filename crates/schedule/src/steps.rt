@@ -120,7 +120,7 @@ impl Step {
 }
 
 /// What a step answers.
-#[derive(Clone, Copy, Debug, PartialEq, Eq)]
+#[derive(Clone, Copy, PartialEq, Eq)]
 pub enum StepAnswer {
     /// The step was taken.
     Done,
