@@ -11,6 +11,7 @@ ghost use Rattle.replica.specs.StoreMeaning.{store_meaning};
 ghost use Rattle.replica.specs.Refusals.{IsRoomFor, IsRefusedAs, early_refusal, install_refusal};
 ghost use Rattle.verifier.specs.declared.refusal.Mode.TheVariants.{Update, Read};
 ghost use Rattle.schedule.specs.declared.parts.Opening.{Opening as TheOpening};
+ghost use Rattle.node.specs.declared.parts.NodeBatch.TheVariants.{Absent};
 ghost use Rattle.node.specs.Following.{Fits, has_next, with_next};
 ghost use Rattle.node.specs.Steps.{Appends, Replays, Finishes, Reclaims, Rebases, Replies as TheReplies};
 ghost use Rattle.schedule.specs.Worlds.{opened_node};
@@ -96,6 +97,16 @@ fn no_reads(alloc: Global, count: usize) -> Result<Vec<ReadRoom>, AllocError>
     Ok(reads)
 }
 
+// The rooms of a node, in which there is no batch, and at so many slots no read.
+fn open_rooms(alloc: Global, slots: usize) -> Result<(BatchRoom, Vec<ReadRoom>), AllocError>
+    ensures batch { IfOk result (λ t. t.0 ≡ Absent) }
+    ensures reads { IfOk result (λ t. t.1.items ≡ replicate slots None) }
+{
+    let batch = BatchRoom::open(alloc)?;
+    let reads = no_reads(alloc, slots)?;
+    Ok((batch, reads))
+}
+
 // The replica of a node of a new store, which opens on this state, if any is handed in.
 fn open_own(
     alloc: Global,
@@ -136,8 +147,7 @@ impl Node {
         let slots = opening.config.slots as usize;
         let own = open_own(alloc, opening, state)?;
         let desk = Desk::open(alloc, number, slots)?;
-        let batch = BatchRoom::open(alloc)?;
-        let reads = no_reads(alloc, slots)?;
+        let (batch, reads) = open_rooms(alloc, slots)?;
         Ok(Node {
             own,
             desk,

@@ -4,6 +4,7 @@ ghost use Rattle.std.specs.Prelude.{◌≡◌, ◌≢◌, ◌↔◌, ◌<◌, �
 ghost use Rattle.loader.specs.CatalogueView.{IsCatalogue, MayOpenOn, OpensOn, with_long_places};
 ghost use Rattle.oplog.specs.Limits.{sizes_in, AreSizes, IsConfig};
 ghost use Rattle.oplog.specs.declared.configuration.OpenError.TheVariants.{OtherState, OutOfLimits};
+ghost use Rattle.replica.specs.Refusals.{IsRoomFor};
 ghost use Rattle.schedule.specs.Worlds.{new_log, opened_node, opened_nodes, opening_of, opening_on};
 ghost use Rattle.schedule.specs.Steps.{node_of, took, world_of};
 ghost use Rattle.schedule.specs.Blocking.{blocked, IsTakenUnless};
@@ -47,7 +48,7 @@ impl Model for World {
 }
 
 // The nodes of a new store, which opens on this state, if any is handed in.
-#[tactic(auto, using(crate::proofs::Runs::nodes_next, crate::proofs::Runs::nodes_count))]
+#[tactic(auto, using(crate::proofs::Runs::nodes_count))]
 fn open_nodes(
     alloc: Global,
     opening: &Opening,
@@ -81,6 +82,26 @@ fn open_log(
         long: opening.catalogue.longest_part(),
     };
     LogState::open(alloc, base, room, opening.config.limit as usize)
+}
+
+// The log and the nodes of a new store, and the room for a program. The opening is lent: it need not be dropped where a part fails.
+fn open_parts(
+    alloc: Global,
+    opening: &Opening,
+    state: Option<&StoreState>,
+) -> Result<(LogState, Vec<Node>, Installed), AllocError>
+    requires config { AreSizes opening.now.config }
+    requires opens { OpensOn opening.now.catalogue state }
+    ensures log { IfOk result (λ t. t.0 ≡ new_log opening.now) }
+    ensures nodes { IfOk result (λ t. t.1.items ≡ opened_nodes opening.now 0 opening.now.config.nodes) }
+    ensures room { IfOk result (λ t. IsRoomFor opening.now.catalogue.shapes opening.now.catalogue.long t.2) }
+    ensures whole { IfOk result (λ t. IsCatalogue opening.now.catalogue) }
+{
+    let log = open_log(alloc, opening, state)?;
+    let catalogue = &opening.catalogue;
+    let room = Installed::open(alloc, catalogue.shapes(), 1, catalogue.long())?;
+    let nodes = open_nodes(alloc, opening, state)?;
+    Ok((log, nodes, room))
 }
 
 impl World {
@@ -170,14 +191,7 @@ impl World {
         ensures opened { IfOk result (λ w. w ≡ opened_store opening) }
         ensures stands { IfOk result (λ w. Stands w.opening w.world [] [] []) }
     {
-        let log = open_log(alloc, &opening, state)?;
-        let room = Installed::open(
-            alloc,
-            opening.catalogue.shapes(),
-            1,
-            opening.catalogue.long(),
-        )?;
-        let nodes = open_nodes(alloc, &opening, state)?;
+        let (log, nodes, room) = open_parts(alloc, &opening, state)?;
         Ok(World {
             opening,
             log,
