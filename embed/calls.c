@@ -23,7 +23,7 @@ static inline nrbpf_status ended(nrbpf_session *session, nrbpf_status status, in
 
 // Whether the session of this handle takes a call: H2, H3.
 static nrbpf_status usable(const struct place *place, const nrbpf_session *session) {
-    if (place->handle != session) {
+    if (handle_of(place) != session) {
         return NRBPF_H2;
     }
     if (place->is_posted) {
@@ -164,7 +164,7 @@ nrbpf_status nrbpf_poll(nrbpf_session *session, nrbpf_answer *out) {
         return NRBPF_H7;
     }
     struct place *const place = place_of(session);
-    if (place->handle != session) {
+    if (handle_of(place) != session) {
         return NRBPF_H2;
     }
     if (!place->is_posted) {

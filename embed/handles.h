@@ -46,6 +46,23 @@ static inline nrbpf_session *next_handle(const struct place *place) {
     return (nrbpf_session *)((uintptr_t)place + place->turn);
 }
 
+// The handles at a place. A call that is late reads them while another thread attaches or detaches there: whichever it reads is not its own.
+static inline nrbpf_session *handle_of(const struct place *place) {
+    return __atomic_load_n(&place->handle, __ATOMIC_RELAXED);
+}
+
+static inline void set_handle(struct place *place, nrbpf_session *handle) {
+    __atomic_store_n(&place->handle, handle, __ATOMIC_RELAXED);
+}
+
+static inline nrbpf_lane *lane_of(const struct place *place) {
+    return __atomic_load_n(&place->lane, __ATOMIC_RELAXED);
+}
+
+static inline void set_lane(struct place *place, nrbpf_lane *lane) {
+    __atomic_store_n(&place->lane, lane, __ATOMIC_RELAXED);
+}
+
 // The place of a session, of an earlier one too.
 static inline struct place *place_of(const nrbpf_session *session) {
     return (struct place *)((uintptr_t)session & ~(uintptr_t)(TURNS - 1));
@@ -54,7 +71,7 @@ static inline struct place *place_of(const nrbpf_session *session) {
 // A free place: there is always one.
 static inline struct place *free_place(nrbpf_store *store) {
     struct place *place = store->places;
-    while (place->handle) {
+    while (handle_of(place)) {
         place++;
     }
     return place;
@@ -62,7 +79,7 @@ static inline struct place *free_place(nrbpf_store *store) {
 
 // Ends the session at a place, which the store has taken back.
 static inline void end_session(struct place *place) {
-    place->handle = NULL;
+    set_handle(place, NULL);
     place->turn = (place->turn + 1) % TURNS;
 }
 

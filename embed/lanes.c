@@ -15,7 +15,7 @@ static struct place *place_of_lane(const nrbpf_lane *lane) {
     return place_of((const nrbpf_session *)lane);
 }
 
-// Gives the sessions of a lane back, the last one first, and ends it.
+// Gives the sessions of a lane back, the last one first.
 static void give_back_each(nrbpf_store *store, struct place *place) {
     for (;;) {
         nrbpf_raw_leave(place->list, store->moved);
@@ -24,8 +24,6 @@ static void give_back_each(nrbpf_store *store, struct place *place) {
         }
         nrbpf_raw_detach(&store->raw, store->moved);
     }
-    place->lane = NULL;
-    end_session(place);
 }
 
 // Adds a session of the store's node `raw.node` to a lane: H1. The store gives sessions by ascending slots, as the lane wants them.
@@ -51,18 +49,18 @@ nrbpf_status nrbpf_attach_lane(nrbpf_store *store, uint32_t node, uint32_t slots
     }
     pthread_mutex_lock(&store->mutex);
     struct place *const place = free_place(store);
-    place->handle = (nrbpf_session *)store;
     store->raw.node = node;
     for (uint32_t i = 0; i < slots && status == NRBPF_OK; i++) {
         status = add_slot(store, place);
     }
     if (status == NRBPF_OK) {
-        place->lane = lane_at(place);
+        set_handle(place, (nrbpf_session *)store);
+        set_lane(place, lane_at(place));
         place->slots = slots;
         place->is_posted = 0;
-        *out = place->lane;
+        *out = lane_of(place);
     } else {
-        give_back_each(store, place);
+        give_back_each(store, place);           // nobody has a handle: the turn is still free
     }
     pthread_mutex_unlock(&store->mutex);
     return status;
@@ -70,7 +68,7 @@ nrbpf_status nrbpf_attach_lane(nrbpf_store *store, uint32_t node, uint32_t slots
 
 // Whether the lane of this handle takes a list: H2, H3.
 static nrbpf_status usable(const struct place *place, const nrbpf_lane *lane) {
-    if (place->lane != lane) {
+    if (lane_of(place) != lane) {
         return NRBPF_H2;
     }
     if (place->is_posted) {
@@ -89,6 +87,8 @@ nrbpf_status nrbpf_detach_lane(nrbpf_lane *lane) {
     const nrbpf_status status = usable(place, lane);
     if (status == NRBPF_OK) {
         give_back_each(store, place);
+        set_lane(place, NULL);
+        end_session(place);
     }
     pthread_mutex_unlock(&store->mutex);
     return status;
@@ -169,7 +169,7 @@ nrbpf_status nrbpf_poll_each(nrbpf_lane *lane, nrbpf_outcome *outcomes) {
         return NRBPF_H7;
     }
     struct place *const place = place_of_lane(lane);
-    if (place->lane != lane) {
+    if (lane_of(place) != lane) {
         return NRBPF_H2;
     }
     if (!place->is_posted) {

@@ -370,12 +370,12 @@ nrbpf_status nrbpf_attach(nrbpf_store *store, uint32_t node, nrbpf_session **out
     nrbpf_raw_attach(&store->raw, place->raw);
     nrbpf_status status = (nrbpf_status)store->raw.status;
     if (status == NRBPF_OK) {
-        place->handle = next_handle(place);
+        set_handle(place, next_handle(place));
         place->is_posted = 0;
         place->node = node;
         place->updates = 0;
         place->waits = 0;
-        *out = place->handle;
+        *out = handle_of(place);
     }
     pthread_mutex_unlock(&store->mutex);
     return status;
@@ -389,7 +389,7 @@ nrbpf_status nrbpf_detach(nrbpf_session *session) {
     nrbpf_store *const store = place->of;
     nrbpf_status status = NRBPF_H2;
     pthread_mutex_lock(&store->mutex);
-    if (place->handle == session) {
+    if (handle_of(place) == session) {
         nrbpf_raw_detach(&store->raw, place->raw);
         status = (nrbpf_status)store->raw.status;
         if (status == NRBPF_OK) {
