@@ -330,6 +330,7 @@ nrbpf_status nrbpf_try_map_info(nrbpf_session *session, uint32_t map, nrbpf_map_
     status = told(place->raw, NULL);
     if (status == NRBPF_OK) {
         nrbpf_map_facts facts;
+        memset(&facts, 0, sizeof facts);
         facts.point = raw.point;
         facts.keys = raw.keys;
         facts.entries = raw.entries;

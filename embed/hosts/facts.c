@@ -40,15 +40,19 @@ static void has_sizes(uint32_t limit, uint32_t long_bytes) {
     close_store();
 }
 
-// Both calls say this of a map.
+// Both calls say this of a map, and write zeros after its last member.
 static void has_map(nrbpf_session *asked, uint32_t map, nrbpf_map_facts wanted) {
+    enum { END = offsetof(nrbpf_map_facts, value_len) + sizeof wanted.value_len };
+    static const uint8_t zeros[sizeof wanted - END];
     nrbpf_map_facts facts[2];
+    memset(facts, 0x77, sizeof facts);
     EXPECT_STATUS(nrbpf_map_info(asked, map, &facts[0], sizeof facts[0]), NRBPF_OK);
     EXPECT_STATUS(nrbpf_try_map_info(asked, map, &facts[1], sizeof facts[1]), NRBPF_OK);
     for (int i = 0; i < 2; i++) {
         const nrbpf_map_facts *it = &facts[i];
         EXPECT(it->point == wanted.point && it->keys == wanted.keys && it->entries == wanted.entries);
         EXPECT(it->kind == wanted.kind && it->key_len == wanted.key_len && it->value_len == wanted.value_len);
+        EXPECT(memcmp((const uint8_t *)it + END, zeros, sizeof zeros) == 0);
     }
 }
 
