@@ -291,6 +291,9 @@ nrbpf_status nrbpf_try_snapshot(nrbpf_session *session, nrbpf_state *into, uint6
     if (!session || !into || !point) {
         return NRBPF_H7;
     }
+    if (is_dumped(into)) {
+        return NRBPF_H2;
+    }
     struct place *const place = place_of(session);
     nrbpf_status status = usable(place, session);
     if (status != NRBPF_OK) {

@@ -9,6 +9,7 @@
 #include <sched.h>
 #include <stdalign.h>
 #include <stddef.h>
+#include <stdlib.h>
 #include <string.h>
 
 enum { MOST_SESSIONS = 128, TURNS = 512, MOST_DOUBLINGS = 9 };
@@ -139,9 +140,29 @@ static inline void shorten_pause(struct place *place) {
     }
 }
 
-// A state's handle is the raw one. A dump has the state out of it, and puts it back before it returns.
+// What is at a state's handle. A dump has the state out of the raw handle, and puts it back before it returns: if the host's writer never returns, the state
+// stays in the text.
+struct nrbpf_state {
+    struct nrbpf_raw_text *text;                // of the dump that has the state, or null
+    struct nrbpf_raw_state raw;                 // only the words of it that are the host's: it is longer
+};
+
+// Room for a state; null if there is no memory.
+static inline nrbpf_state *room_for_state(void) {
+    nrbpf_state *const state = (nrbpf_state *)malloc(offsetof(nrbpf_state, raw) + nrbpf_raw_state_size());
+    if (state) {
+        state->text = NULL;
+    }
+    return state;
+}
+
+// Whether the state is in a dump, whose writer runs or never returned: H2.
+static inline int is_dumped(const nrbpf_state *state) {
+    return state->text != NULL;
+}
+
 static inline struct nrbpf_raw_state *raw_state_of(const nrbpf_state *state) {
-    return (struct nrbpf_raw_state *)state;
+    return (struct nrbpf_raw_state *)&state->raw;
 }
 
 // Writes an error that has nothing but its status, which it answers.

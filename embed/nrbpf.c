@@ -121,13 +121,16 @@ static struct nrbpf_raw_limits limits_of(const nrbpf_limits *given) {
     return limits;
 }
 
-// Whether the texts can be opened or loaded: H7, H8, O2. Then the opening is written, and its files are to be freed.
-static nrbpf_status prepared(const struct texts *given, struct nrbpf_raw_opening *opening) {
+// Whether the texts can be opened or loaded, on a state if `state` is not null: H7, H8, H2, O2. Then the opening is written, and its files are to be freed.
+static nrbpf_status prepared(const struct texts *given, const nrbpf_state *state, struct nrbpf_raw_opening *opening) {
     if (has_null(given)) {
         return NRBPF_H7;
     }
     if (!is_known(given->config->version)) {
         return NRBPF_H8;                        // before the files, which another header may lay out otherwise
+    }
+    if (state && is_dumped(state)) {
+        return NRBPF_H2;                        // the raw call would open a new store
     }
     if (has_null_in_files(given)) {
         return NRBPF_H7;
@@ -214,7 +217,7 @@ static int make_rooms(nrbpf_store *store, size_t sessions) {
 // Opens a store on a state, or on a new one where `state` is null.
 static nrbpf_status opened(const struct texts *given, const nrbpf_state *state, nrbpf_store **out, nrbpf_error *why) {
     struct nrbpf_raw_opening opening;
-    nrbpf_status status = prepared(given, &opening);
+    nrbpf_status status = prepared(given, state, &opening);
     if (status != NRBPF_OK) {
         return refused(why, status);
     }
@@ -286,19 +289,19 @@ nrbpf_status nrbpf_close_into(nrbpf_store *store, nrbpf_state **out) {
     if (!store || !out) {
         return NRBPF_H7;
     }
-    struct nrbpf_raw_state *room = (struct nrbpf_raw_state *)malloc(nrbpf_raw_state_size());
+    nrbpf_state *const room = room_for_state();
     if (!room) {
         return NRBPF_O2;
     }
     pthread_mutex_lock(&store->mutex);
-    nrbpf_raw_close_into(&store->raw, room);
+    nrbpf_raw_close_into(&store->raw, &room->raw);
     nrbpf_status status = (nrbpf_status)store->raw.status;
     pthread_mutex_unlock(&store->mutex);
     if (status == NRBPF_OK || status == NRBPF_H6) {
         give_back(store);                       // H6 ends it too; no call of nrbpf.h leads there
     }
     if (status == NRBPF_OK) {
-        *out = (nrbpf_state *)room;
+        *out = room;
     } else {
         free(room);
     }
@@ -313,27 +316,27 @@ nrbpf_status nrbpf_state_load(const nrbpf_config *config, const char *manifest, 
     if (is_missing(text, len) || !out) {
         return refused(why, NRBPF_H7);
     }
-    nrbpf_status status = prepared(&given, &opening);
+    nrbpf_status status = prepared(&given, NULL, &opening);
     if (status != NRBPF_OK) {
         return refused(why, status);
     }
-    struct nrbpf_raw_state *room = (struct nrbpf_raw_state *)malloc(nrbpf_raw_state_size());
+    nrbpf_state *const room = room_for_state();
     if (!room) {
         let_go(&opening);
         return refused(why, NRBPF_O2);
     }
-    nrbpf_raw_load(&opening, dump.at, dump.length, room);
+    nrbpf_raw_load(&opening, dump.at, dump.length, &room->raw);
     let_go(&opening);
-    status = (nrbpf_status)room->status;
+    status = (nrbpf_status)room->raw.status;
     if (status == NRBPF_OK) {
-        *out = (nrbpf_state *)room;
+        *out = room;
         return NRBPF_OK;
     }
     if (why) {
         why->status = status;
-        why->inner = (nrbpf_status)room->inner;
-        why->line = (uint32_t)room->line;
-        why->slot = (uint32_t)room->slot;
+        why->inner = (nrbpf_status)room->raw.inner;
+        why->line = (uint32_t)room->raw.line;
+        why->slot = (uint32_t)room->raw.slot;
     }
     free(room);
     return status;

@@ -179,7 +179,8 @@ enum {
     // attach: every session of the node is attached, or there is no such node.
     // attach_lane: the node has fewer free sessions.
     NRBPF_H1 = 'H' << 8 | 1, NRBPF_NO_SESSION = NRBPF_H1,
-    // The session or the lane is not attached.
+    // The session or the lane is not attached. open_on, snapshot, state_dump:
+    // the state is in a dump, whose writer runs or never returned.
     NRBPF_H2, NRBPF_DETACHED = NRBPF_H2,
     // An update is posted on this session or lane and has no answer: call
     // nrbpf_poll or nrbpf_poll_each.
@@ -306,8 +307,8 @@ NRBPF_MUST_LOOK nrbpf_status nrbpf_open(
 // Refuses as nrbpf_open does. Also refuses with O3 if the manifest has other
 // maps than the state, or if the configuration has fewer spare places than the
 // state has programs. A program of the state that is longer than `long_bytes`
-// allows is O3 too, and so is a longer argument. [any], with no other call on
-// this state at the same time.
+// allows is O3 too, and so is a longer argument. Refuses with H2 if the state
+// is in a dump. [any], with no other call on this state at the same time.
 NRBPF_MUST_LOOK nrbpf_status nrbpf_open_on(
     const nrbpf_config *config, const char *manifest, size_t manifest_len,
     const nrbpf_file *files, size_t count, const nrbpf_state *state,
@@ -697,9 +698,11 @@ typedef int nrbpf_writer(void *to, const char *bytes, size_t len);
 // Hands it to `write` in parts of at most 16,384 bytes. Before the first part
 // it takes 4 bytes for each key of the state, and 40 KiB more. It never has the
 // whole text in memory. No store is blocked. `write` may make calls, but none
-// on this state. Refuses with E0 if there is no memory, and with H7. As soon as
-// `write` does not answer 0, refuses with H10. [any], with no other call on
-// this state at the same time.
+// on this state. As soon as it does not answer 0, the call refuses with H10. If
+// it never returns (by a longjmp, say), the state is lost: other calls refuse
+// it with H2, and nrbpf_state_free gives all memory back. Refuses with E0 if
+// there is no memory, with H2 if the state is in a dump already, and with H7.
+// [any], with no other call on this state at the same time.
 NRBPF_MUST_LOOK nrbpf_status nrbpf_state_dump(
     const nrbpf_state *state, nrbpf_writer *write, void *to);
 

@@ -1,6 +1,5 @@
 // states.c: states of nrbpf.h: room for a store's, the text of one, its end.
 #include "handles.h"
-#include <stdlib.h>
 
 enum { MOST_READ = 40960, MOST_WRITTEN = 16384 };  // a line of a dump has room in the first
 
@@ -8,16 +7,16 @@ nrbpf_status nrbpf_state_new(nrbpf_store *store, nrbpf_state **out) {
     if (!store || !out) {
         return NRBPF_H7;
     }
-    struct nrbpf_raw_state *room = (struct nrbpf_raw_state *)malloc(nrbpf_raw_state_size());
+    nrbpf_state *const room = room_for_state();
     if (!room) {
         return NRBPF_O2;
     }
     pthread_mutex_lock(&store->mutex);
-    nrbpf_raw_new_state(&store->raw, room);
+    nrbpf_raw_new_state(&store->raw, &room->raw);
     nrbpf_status status = (nrbpf_status)store->raw.status;
     pthread_mutex_unlock(&store->mutex);
     if (status == NRBPF_OK) {
-        *out = (nrbpf_state *)room;
+        *out = room;
     } else {
         free(room);
     }
@@ -51,6 +50,9 @@ nrbpf_status nrbpf_state_dump(const nrbpf_state *state, nrbpf_writer *write, voi
     if (!state || !write) {
         return NRBPF_H7;
     }
+    if (is_dumped(state)) {
+        return NRBPF_H2;
+    }
     const size_t size = nrbpf_raw_text_size();
     struct nrbpf_raw_text *text = (struct nrbpf_raw_text *)malloc(size + MOST_READ);
     if (!text) {
@@ -59,8 +61,11 @@ nrbpf_status nrbpf_state_dump(const nrbpf_state *state, nrbpf_writer *write, voi
     nrbpf_raw_dump(raw_state_of(state), text);
     nrbpf_status status = (nrbpf_status)text->status;
     if (status == NRBPF_OK) {
+        nrbpf_state *const dumped = (nrbpf_state *)state;
+        dumped->text = text;
         status = all_written(text, (uint8_t *)text + size, write, to);
-        nrbpf_raw_drop_text(text, raw_state_of(state));
+        nrbpf_raw_drop_text(text, &dumped->raw);
+        dumped->text = NULL;
     }
     free(text);
     return status;
@@ -70,6 +75,10 @@ void nrbpf_state_free(nrbpf_state *state) {
     if (!state) {
         return;
     }
-    nrbpf_raw_drop_state(raw_state_of(state));
+    if (is_dumped(state)) {
+        nrbpf_raw_drop_text(state->text, &state->raw);
+        free(state->text);
+    }
+    nrbpf_raw_drop_state(&state->raw);
     free(state);
 }

@@ -44,7 +44,7 @@ static const struct text texts[] = {
     {NRBPF_S11, "S11: the map has no keys of this length"},
     {NRBPF_S12, "S12: the map has no values of this length"},
     {NRBPF_H1, "H1: the node has too few free sessions, or there is no such node"},
-    {NRBPF_H2, "H2: the session or the lane is not attached"},
+    {NRBPF_H2, "H2: the session or the lane is not attached, or the state is in a dump"},
     {NRBPF_H3, "H3: an update is posted on this session or lane and not answered"},
     {NRBPF_H4, "H4: a text is not UTF-8"},
     {NRBPF_H5, "H5: no such mode, a list that is too long, or a lane of no or more than 16 slots"},

@@ -1,9 +1,11 @@
 // dumps.c: states as text. A store's state is dumped and loaded, stores go on from it, and the dump of what they end in is what was counted there; the
-// texts that are refused, each with its line; a text of many parts; and a file that `nrbpf --dump` wrote, which is loaded and dumped to the byte.
+// texts that are refused, each with its line; a text of many parts; a writer that never returns, or calls on its own state; and a file that `nrbpf --dump`
+// wrote, which is loaded and dumped to the byte.
 //
 //     dumps [MANIFEST FILE..] STATE      loads STATE with this manifest and these program files in place of the counter's, and dumps it to
 //                                        standard output
 #include "fixture.h"
+#include <setjmp.h>
 
 enum { SPARE = 2, MOST_FILES = 16 };
 
@@ -174,6 +176,63 @@ static void many_parts(void) {
     nrbpf_state_free(state);
 }
 
+// ---- A writer that never returns, or calls on its own state
+
+static jmp_buf before;
+
+static int jump(void *to, const char *bytes, size_t len) {
+    (void)to, (void)bytes, (void)len;
+    longjmp(before, 1);
+}
+
+// A state that is in a dump is refused by each call that takes one, and nothing is written.
+static void refuse_dumped(nrbpf_state *state) {
+    const nrbpf_config config = config_of(SPARE);
+    const char *const manifest = files.manifest;
+    const nrbpf_file no_name = {NULL, 1, "", 0};
+    nrbpf_store *store = NULL, *other = NULL;
+    nrbpf_error why = {77, 77, 77, 77};
+    uint64_t point = 77;
+    static dump none;
+    none.len = 0;
+    EXPECT_STATUS(nrbpf_state_dump(state, keep, &none), NRBPF_H2);
+    EXPECT_STATUS(nrbpf_open_on(&config, manifest, strlen(manifest), files.files, programs, state, &store, &why), NRBPF_H2);
+    EXPECT(why.status == NRBPF_H2 && why.inner == 0 && why.line == 0 && why.slot == 0);
+    EXPECT_STATUS(nrbpf_open_on(&config, manifest, strlen(manifest), &no_name, 1, state, &store, NULL), NRBPF_H2);
+    EXPECT_STATUS(nrbpf_open(&config, manifest, strlen(manifest), files.files, programs, &other, NULL), NRBPF_OK);
+    nrbpf_session *session = attached(other, 0);
+    EXPECT_STATUS(nrbpf_snapshot(session, state, &point), NRBPF_H2);
+    EXPECT_STATUS(nrbpf_try_snapshot(session, state, &point), NRBPF_H2);
+    EXPECT_STATUS(nrbpf_detach(session), NRBPF_OK);
+    EXPECT_STATUS(nrbpf_close(other), NRBPF_OK);
+    EXPECT(!store && point == 77 && none.len == 0);
+    refused += 5;
+}
+
+static void never_returns(void) {
+    static nrbpf_state *state;                  // (no variable that the longjmp may leave undefined)
+    state = loaded("0 03000000 0100000000000000\n" FIVE);
+    if (setjmp(before) == 0) {
+        (void)!nrbpf_state_dump(state, jump, NULL);
+        EXPECT(0);
+    }
+    refuse_dumped(state);
+    nrbpf_state_free(state);
+}
+
+static int dump_again(void *state, const char *bytes, size_t len) {
+    (void)bytes, (void)len;
+    refuse_dumped((nrbpf_state *)state);
+    return 0;
+}
+
+static void own_state(void) {
+    nrbpf_state *state = loaded("0 03000000 0100000000000000\n" FIVE);
+    EXPECT_STATUS(nrbpf_state_dump(state, dump_again, state), NRBPF_OK);
+    dumps_as(state, "0 03000000 0100000000000000\n" FIVE);
+    nrbpf_state_free(state);
+}
+
 // ---- A file
 
 static int print(void *to, const char *bytes, size_t len) {
@@ -210,6 +269,8 @@ int main(int count, char **words) {
     too_many_keys();
     wrong_calls();
     many_parts();
+    never_returns();
+    own_state();
     give_back(&files);
     printf("two stores went on from dumps, and %d texts and calls were refused\n", refused);
     return 0;
