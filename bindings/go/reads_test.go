@@ -8,6 +8,7 @@ import (
 	"fmt"
 	"io"
 	"os"
+	"runtime"
 	"strings"
 	"testing"
 
@@ -360,4 +361,32 @@ func TestManifestWithoutFile(t *testing.T) {
 	path := t.TempDir() + "/manifest"
 	must(0, os.WriteFile(path, []byte("map array 8 1\nprogram gone update 0 gone.hex\n"), 0o600))
 	refused(t, last(nrbpf.ReadManifest(path)), os.ErrNotExist)
+}
+
+// ends ends the goroutine that writes to it, as t.Fatal does.
+type ends struct{}
+
+func (ends) Write([]byte) (int, error) {
+	runtime.Goexit()
+	return 0, nil
+}
+
+// A writer may end its goroutine. The state is as it was then, and takes calls.
+func TestWriterThatEndsItsGoroutine(t *testing.T) {
+	config, counter := nrbpf.NewConfig(1, 1), manifest("counter")
+	state := must(nrbpf.Load(config, counter, []byte(counterState)))
+	defer state.Free()
+	ended := make(chan struct{})
+	go func() {
+		defer close(ended)
+		state.Dump(ends{})
+		t.Error("the writer returns")
+	}()
+	<-ended
+	same(t, "the dump", dumpOf(state), counterState)
+	store := must(nrbpf.OpenOn(config, counter, state))
+	session := must(store.Attach(0))
+	same(t, "the counter", must(session.Read(peek, u32(0))), nrbpf.Answer{Point: 0, Reply: 2})
+	must(0, session.Detach())
+	must(0, store.Close())
 }

@@ -43,42 +43,52 @@ func Load(config Config, manifest Manifest, dump []byte) (*State, error) {
 	return &State{at: state}, nil
 }
 
-// dumping is where a dump goes, and how that ended.
+// dumping is a dump whose pieces go to another goroutine than the one in the library's call.
 type dumping struct {
-	to    io.Writer
-	err   error
-	panic any
+	pieces chan []byte   // the library's memory, until more answers; closed once the call has returned
+	more   chan struct{} // an answer to each piece; closed if the writer wants no other
+	err    error         // the call's, once pieces is closed
 }
 
 // Dump writes a state as the text that `nrbpf --dump` writes and `nrbpf --load` takes. Where the writer fails, that is the error. No store is
-// held up; the writer makes no call on this state. E0.
+// held up; the writer makes no call on this state. It may panic, or end its goroutine: the state takes calls after that. E0.
 func (s *State) Dump(to io.Writer) error {
 	s.lock.Lock()
 	defer s.lock.Unlock()
 	if s.at == nil {
 		return ErrClosed
 	}
-	d := &dumping{to: to}
-	handle := cgo.NewHandle(d)
-	defer handle.Delete()
-	err := told(C.nrbpf_go_dump(s.at, C.uintptr_t(handle)))
-	if d.panic != nil {
-		panic(d.panic)
+	// (if the writer ends this goroutine, that must not unwind the library's call: so another one makes the call)
+	d := &dumping{pieces: make(chan []byte), more: make(chan struct{})}
+	go d.call(s.at)
+	defer d.end()
+	for piece := range d.pieces {
+		if _, err := to.Write(piece); err != nil {
+			return err
+		}
+		d.more <- struct{}{}
 	}
-	if d.err != nil {
-		return d.err
-	}
-	return err
+	return d.err
 }
 
-// write is called by the library, for a piece of a dump. What the writer panics with goes on in Dump, behind the library.
+func (d *dumping) call(state *C.nrbpf_state) {
+	defer close(d.pieces)
+	handle := cgo.NewHandle(d)
+	defer handle.Delete()
+	d.err = told(C.nrbpf_go_dump(state, C.uintptr_t(handle)))
+}
+
+// end has the call return, if it has not, and waits for that.
+func (d *dumping) end() {
+	close(d.more)
+	for range d.pieces {
+	}
+}
+
+// write is called by the library, for a piece of a dump.
 func (d *dumping) write(piece []byte) (stop C.int) {
-	defer func() {
-		if d.panic = recover(); d.panic != nil {
-			stop = 1
-		}
-	}()
-	if _, d.err = d.to.Write(piece); d.err != nil {
+	d.pieces <- piece
+	if _, isWanted := <-d.more; !isWanted {
 		return 1
 	}
 	return 0
