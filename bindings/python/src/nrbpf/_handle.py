@@ -9,6 +9,7 @@ from types import TracebackType
 from typing import TYPE_CHECKING, Any, TypeVar
 
 from ._errors import Error, Pending, Status, check, error_of
+from ._signals import at_once
 
 if TYPE_CHECKING:
     from ._store import Store
@@ -32,7 +33,7 @@ class Handle:
     def store(self) -> Store:
         return self._store
 
-    def _give_back(self, at: int) -> int:
+    def _give_back(self) -> int:
         """Gives it back to the library."""
         raise NotImplementedError
 
@@ -46,10 +47,8 @@ class Handle:
         """Gives the slots back. Refused with H3 while an update is posted and not answered; once they are given back
         this does nothing."""
         with self._lock:
-            if self._at is None:
-                return
-            check(self._give_back(self._at))
-            self._at = None
+            if self._at is not None:
+                check(self._give_back())
 
     def _end(self) -> None:
         """Gives the slots back, once what is posted is answered, if there is something."""
@@ -86,12 +85,7 @@ class Handle:
 
     def _try(self, call: Callable[[int], Any]) -> int:
         """The same, and waits for nobody."""
-        if not self._lock.acquire(blocking=False):
-            return Pending.BUSY.value
-        try:
-            return self._call(call)
-        finally:
-            self._lock.release()
+        return at_once(self._lock, lambda: self._call(call), lambda: Pending.BUSY.value)
 
     def _call(self, call: Callable[[int], Any]) -> int:
         if self._at is None:

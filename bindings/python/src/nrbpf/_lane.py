@@ -13,6 +13,7 @@ from ._errors import Pending, Status, error_of, pending
 from ._handle import Handle
 from ._manifest import Buffer, as_bytes
 from ._session import Answer
+from ._signals import at_once
 
 if TYPE_CHECKING:
     from ._store import Store
@@ -56,22 +57,11 @@ class Lane(Handle):
     def try_update_each(self, calls: Sequence[tuple[int, Buffer]]) -> list[Answer | None] | Pending:
         """As `update_each`, and waits for nobody. Of POSTED the store has each update, once: `poll_each` or `wait_each`
         is the lane's next call then."""
-        if not self._lock.acquire(blocking=False):
-            return Pending.BUSY
-        try:
-            return self._ask(_library.nrbpf_try_update_each, calls)
-        finally:
-            self._lock.release()
+        return at_once(self._lock, lambda: self._ask(_library.nrbpf_try_update_each, calls), lambda: Pending.BUSY)
 
     def poll_each(self) -> list[Answer | None] | Pending:
         """Goes on with the list that is posted, and waits for nobody."""
-        if not self._lock.acquire(blocking=False):
-            return Pending.BUSY
-        try:
-            self._fault.status = 0
-            return self._answers(self._call(lambda at: _library.nrbpf_poll_each(at, self._outcomes)), self._posted)
-        finally:
-            self._lock.release()
+        return at_once(self._lock, self._poll_each, lambda: Pending.BUSY)
 
     def wait_each(self) -> list[Answer | None]:
         """Goes on with the list that is posted until it is answered."""
@@ -85,11 +75,15 @@ class Lane(Handle):
 
     # ---- How calls are made, under the lock
 
-    def _give_back(self, at: int) -> int:
-        return self._store._lane_given_back(at)
+    def _give_back(self) -> int:
+        return self._store._given_back(self, _library.nrbpf_detach_lane)
 
     def _go_on(self, at: int) -> None:
         _library.nrbpf_poll_each(at, self._outcomes)
+
+    def _poll_each(self) -> list[Answer | None] | Pending:
+        self._fault.status = 0
+        return self._answers(self._call(lambda at: _library.nrbpf_poll_each(at, self._outcomes)), self._posted)
 
     def _ask(self, call: Callable[..., Any], calls: Sequence[tuple[int, Buffer]]) -> list[Answer | None] | Pending:
         if self._at is None:

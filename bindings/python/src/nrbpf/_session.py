@@ -232,8 +232,8 @@ class Session(Handle):
 
     # ---- How calls are made
 
-    def _give_back(self, at: int) -> int:
-        return self._store._given_back(at)
+    def _give_back(self) -> int:
+        return self._store._given_back(self, _library.nrbpf_detach)
 
     def _go_on(self, at: int) -> None:
         _library.nrbpf_poll(at, _native.Answered())

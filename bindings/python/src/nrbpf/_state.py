@@ -11,6 +11,7 @@ from typing import Any, Protocol
 from . import _native
 from ._errors import Status, check
 from ._manifest import STANDARD, Buffer, Limits, Manifest, Sizes, as_bytes
+from ._signals import at_once, end
 
 _library = _native.library
 
@@ -31,8 +32,8 @@ class State:
     """
 
     def __init__(self, at: int | None) -> None:
-        self._at = at
         self._lock = threading.Lock()
+        self._at = at
 
     @classmethod
     def load(
@@ -72,21 +73,24 @@ class State:
 
     def use(self, call: Callable[[int], Any]) -> int:
         """Makes a call of the library on this state."""
-        if not self._lock.acquire(blocking=False):
-            raise RuntimeError("a state takes one call at a time")
-        try:
-            if self._at is None:
-                raise RuntimeError("the state is ended")
-            status: int = call(self._at)
-            return status
-        finally:
-            self._lock.release()
+        return at_once(self._lock, lambda: self._call(call), self._is_used)
 
     def free(self) -> None:
         """Gives its memory back. A second time does nothing."""
         if self._at is not None:
-            self.use(lambda at: _library.nrbpf_state_free(at) or 0)
-            self._at = None
+            at_once(self._lock, self._free, self._is_used)
+
+    def _call(self, call: Callable[[int], Any]) -> int:
+        if self._at is None:
+            raise RuntimeError("the state is ended")
+        status: int = call(self._at)
+        return status
+
+    def _free(self) -> int:
+        return 0 if self._at is None else end(self, _library.nrbpf_state_free)
+
+    def _is_used(self) -> int:
+        raise RuntimeError("a state takes one call at a time")
 
     def __enter__(self) -> State:
         return self

@@ -11,9 +11,11 @@ from types import TracebackType
 from . import _native
 from ._errors import Status, check, error_of, within
 from ._facts import MapShape, StoreInfo
+from ._handle import Handle
 from ._lane import MOST_SLOTS, Lane
 from ._manifest import ONE_SESSION, STANDARD, Limits, Manifest, Sizes
 from ._session import Session
+from ._signals import end
 from ._state import State
 
 _library = _native.library
@@ -26,7 +28,6 @@ class Store:
     def __init__(self, manifest: Manifest, sizes: Sizes = ONE_SESSION, state: State | None = None) -> None:
         self._at: int | None = None
         self._lock = threading.RLock()  # a session may be given back by the collector, in the middle of a call here
-        self._sessions = 0  # and lanes that are attached
         self._is_left = False
         out, fault = ctypes.c_void_p(), _native.Fault()
         given = (sizes.native(), *manifest.native())
@@ -84,18 +85,14 @@ class Store:
         does nothing."""
         with self._lock:
             if self._at is not None:
-                self._check_alone()
-                check(_library.nrbpf_close(self._at))
-                self._at = None
+                check(end(self, _library.nrbpf_close))
 
     def close_into(self) -> State:
         """Ends the store, and gives the state that it ends in. Refused with S5 while a session is attached."""
         out = ctypes.c_void_p()
         with self._lock:
-            at = self._open()
-            self._check_alone()
-            check(_library.nrbpf_close_into(at, out))
-            self._at = None
+            self._open()
+            check(end(self, _library.nrbpf_close_into, out))
         return State(out.value)
 
     def __enter__(self) -> Store:
@@ -121,16 +118,10 @@ class Store:
             raise RuntimeError("the store is closed")
         return self._at
 
-    def _check_alone(self) -> None:
-        """A store's end comes beside no other call on it: a session that is attached may make one at any time."""
-        if self._sessions:
-            raise error_of(Status.ATTACHED)
-
     def _attached(self, node: int) -> int | None:
         out = ctypes.c_void_p()
         with self._lock:
             check(_library.nrbpf_attach(self._open(), within(node, 32, Status.NO_SESSION), out))
-            self._sessions += 1
         return out.value
 
     def _attached_lane(self, node: int, slots: int) -> int | None:
@@ -138,28 +129,19 @@ class Store:
         with self._lock:
             given = within(node, 32, Status.NO_SESSION), within(slots, 32, Status.BAD_CALL)
             check(_library.nrbpf_attach_lane(self._open(), *given, out))
-            self._sessions += 1
         return out.value
 
-    def _given_back(self, session: int) -> int:
-        return self._told_back(_library.nrbpf_detach, session)
-
-    def _lane_given_back(self, lane: int) -> int:
-        return self._told_back(_library.nrbpf_detach_lane, lane)
-
-    def _told_back(self, detach: Callable[[int], int], handle: int) -> int:
+    def _given_back(self, handle: Handle, detach: Callable[[int], int]) -> int:
         with self._lock:
-            status = detach(handle)
-            if not status:
-                self._sessions -= 1
-                self._close_left()
+            status = end(handle, detach)
+            self._close_left()
         return status
 
     def _close_left(self) -> None:
-        """Ends a store that nothing refers to any more, once its last session is given back."""
-        if self._is_left and not self._sessions and self._at is not None:
-            _library.nrbpf_close(self._at)
-            self._at = None
+        """Ends a store that nothing refers to any more, once its last session is given back. Until then the library
+        refuses."""
+        if self._is_left and self._at is not None:
+            end(self, _library.nrbpf_close)
 
 
 def open(

@@ -1,0 +1,175 @@
+"""Ctrl-C at each step of an end, and threads that end one thing at once: the library ends it once, and then it is
+ended."""
+
+import contextlib
+import dis
+import itertools
+import os
+import sys
+import threading
+import unittest
+from unittest import mock
+
+import nrbpf
+from nrbpf import _native
+from tests.fixture import example
+
+PACKAGE = os.path.dirname(nrbpf.__file__)
+
+
+class Steps:
+    """Does something before one step of the package's code: where a call has returned, so that the interpreter may run
+    a signal's handler."""
+
+    def __init__(self, number, do):
+        self.left, self.do = number, do
+        self.is_after_call = {}  # of each frame
+
+    def run(self, call):
+        before = sys.gettrace()
+        sys.settrace(self.trace)
+        try:
+            call()
+        finally:
+            sys.settrace(before)
+
+    def trace(self, frame, event, _):
+        if not frame.f_code.co_filename.startswith(PACKAGE):
+            return None
+        frame.f_trace_opcodes, frame.f_trace_lines = True, False
+        if event == "opcode":
+            if self.is_after_call.get(id(frame)):
+                self.step()
+            name = dis.opname[frame.f_code.co_code[frame.f_lasti]]
+            self.is_after_call[id(frame)] = name.startswith("CALL")
+        else:
+            self.is_after_call[id(frame)] = False
+        return self.trace
+
+    def step(self):
+        self.left -= 1
+        if self.left == -1:
+            self.do()
+
+    @property
+    def is_over(self):
+        """Whether there was no such step."""
+        return self.left >= 0
+
+
+class Counted:
+    """Functions of the library that end one thing. None is called after one has ended it."""
+
+    def __init__(self, *names):
+        self.ended = 0
+        self.patches = [mock.patch.object(_native.library, name, self.counting(name)) for name in names]
+
+    def counting(self, name):
+        call = getattr(_native.library, name)
+
+        def count(*given):
+            status = 0 if self.ended else call(*given)
+            self.ended += not status
+            return status
+
+        return count
+
+    def __enter__(self):
+        for patch in self.patches:
+            patch.start()
+        return self
+
+    def __exit__(self, *_):
+        for patch in self.patches:
+            patch.stop()
+
+
+def interrupt():
+    raise KeyboardInterrupt
+
+
+class Interrupted(unittest.TestCase):
+    def at_each_step(self, names, make):
+        """`make` gives a call that ends something, and one that does so if it has not ended."""
+        for number in itertools.count():
+            first, second = make()
+            with Counted(*names) as counted, self.subTest(step=number):
+                steps = Steps(number, interrupt)
+                with contextlib.suppress(KeyboardInterrupt):
+                    steps.run(first)
+                second()
+                self.assertEqual(counted.ended, 1)
+            if steps.is_over:
+                self.assertGreater(number, 2)
+                return
+
+    def attached(self, attach, name):
+        stores = []
+
+        def make():
+            stores.append(nrbpf.open(example("counter")))
+            it = attach(stores[-1])
+            return it.detach, it.detach
+
+        self.at_each_step([name], make)
+        for store in stores:
+            store.close()  # nothing is attached
+
+    def test_detach(self):
+        self.attached(nrbpf.Store.attach, "nrbpf_detach")
+
+    def test_detach_a_lane(self):
+        self.attached(lambda store: store.attach_lane(0, 1), "nrbpf_detach_lane")
+
+    def test_close(self):
+        def make():
+            store = nrbpf.open(example("counter"))
+            return store.close, store.close
+
+        self.at_each_step(["nrbpf_close"], make)
+
+    def test_close_into(self):
+        states = []
+
+        def make():
+            store = nrbpf.open(example("counter"))
+            return lambda: states.append(store.close_into()), store.close
+
+        self.at_each_step(["nrbpf_close", "nrbpf_close_into"], make)
+
+    def test_free(self):
+        def make():
+            state = nrbpf.State.load(example("counter"), b"")
+            return state.free, state.free
+
+        self.at_each_step(["nrbpf_state_free"], make)
+
+
+class AtOnce(unittest.TestCase):
+    def test_three_threads_free_a_state(self):
+        """Two of them at each step of the third."""
+
+        def free(state):
+            with contextlib.suppress(RuntimeError):  # it takes one call at a time
+                state.free()
+
+        def others(state):
+            threads = [threading.Thread(target=free, args=(state,)) for _ in range(2)]
+            for thread in threads:
+                thread.start()
+            for thread in threads:
+                thread.join()
+
+        for number in itertools.count():
+            with Counted("nrbpf_state_free") as counted, self.subTest(step=number):
+                state = nrbpf.State.load(example("counter"), b"")
+                steps = Steps(number, lambda: others(state))  # noqa: B023  (it runs in this turn)
+                steps.run(lambda: free(state))  # noqa: B023
+                self.assertEqual(counted.ended, 1)
+            if steps.is_over:
+                self.assertGreater(number, 1)
+                return
+
+
+if __name__ == "__main__":
+    unittest.main()
