@@ -23,9 +23,9 @@ struct place {
     alignas(TURNS) nrbpf_session *handle;       // of the session that is attached, or null; of a lane's place the store, which is no session's
     int is_posted;                              // whether there is an update or an install to continue
     uint32_t turn;                              // of the session that is attached, or else of the next one
-    uint32_t node;                              // of the session that is attached, and what it was asked for since it was:
-    uint64_t updates;                           // updates and installs
-    uint64_t waits;                             // calls that waited for another session
+    uint32_t node;                              // of the session that is attached, and since it was:
+    uint64_t updates;                           // how many updates and installs the store was asked for
+    uint64_t waits;                             // how many calls waited for another session
     uint32_t doublings;                         // how often its shortest pause is doubled, when it waits next
     nrbpf_store *of;
     nrbpf_lane *lane;                           // of a lane's place: the lane's handle; else null

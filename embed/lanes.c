@@ -58,6 +58,7 @@ nrbpf_status nrbpf_attach_lane(nrbpf_store *store, uint32_t node, uint32_t slots
         set_lane(place, lane_at(place));
         place->slots = slots;
         place->is_posted = 0;
+        place->doublings = 0;
         *out = lane_of(place);
     } else {
         give_back_each(store, place);           // nobody has a handle: the turn is still free

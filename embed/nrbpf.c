@@ -378,6 +378,7 @@ nrbpf_status nrbpf_attach(nrbpf_store *store, uint32_t node, nrbpf_session **out
         place->node = node;
         place->updates = 0;
         place->waits = 0;
+        place->doublings = 0;
         *out = handle_of(place);
     }
     pthread_mutex_unlock(&store->mutex);

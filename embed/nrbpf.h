@@ -644,7 +644,8 @@ typedef struct nrbpf_counts {
     // How many completed updates these maps have still to see.
     uint64_t lag;
     // How many updates and installs this session was asked for since it was
-    // attached, refused ones too. Reads are not counted.
+    // attached. Each try counts, and a refused call too, except with H3 and H7:
+    // then the store was not asked. Reads are not counted.
     uint64_t updates;
     // How many calls of this session waited for another session since it was
     // attached. The calls that wait for nobody are not counted.

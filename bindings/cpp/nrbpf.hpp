@@ -13,6 +13,7 @@
 
 #include <nrbpf.h>
 
+#include <algorithm>
 #include <array>
 #include <cerrno>
 #include <cstddef>
@@ -517,7 +518,6 @@ using outcome = nrbpf_outcome;
 class lane {
     std::shared_ptr<detail::shared_store> of;
     nrbpf_lane *at;
-    std::size_t posted = 0; // how many calls the list has that is posted
 
     void give_back() noexcept {
         if (!at) return;
@@ -532,21 +532,19 @@ class lane {
         std::vector<outcome> told(calls.size());
         nrbpf_error why{};
         const nrbpf_status status = call(at, asked.data(), asked.size(), told.data(), &why);
-        if (status == NRBPF_BUSY) return status;
-        if (status == NRBPF_POSTED) return posted = calls.size(), status;
+        if (status == NRBPF_BUSY || status == NRBPF_POSTED) return status;
         if (status != NRBPF_FULL) detail::check(status, why);
         return out = std::move(told), NRBPF_OK;
     }
 
 public:
     lane(std::shared_ptr<detail::shared_store> store, nrbpf_lane *attached) noexcept : of(std::move(store)), at(attached) {}
-    lane(lane &&other) noexcept : of(std::move(other.of)), at(std::exchange(other.at, nullptr)), posted(other.posted) {}
+    lane(lane &&other) noexcept : of(std::move(other.of)), at(std::exchange(other.at, nullptr)) {}
     lane &operator=(lane &&other) noexcept {
         if (this != &other) {
             give_back();
             at = std::exchange(other.at, nullptr);
             of = std::move(other.of);
-            posted = other.posted;
         }
         return *this;
     }
@@ -566,13 +564,14 @@ public:
     // and `poll_each` or `wait_each` is the lane's next call.
     nrbpf_status try_update_each(const std::vector<question> &calls, std::vector<outcome> &out) { return ask(nrbpf_try_update_each, calls, out); }
 
-    // Continues the list that is posted. Nothing if it is not answered yet.
+    // Continues the list that is posted, also if it was by a call on `native()`. Nothing if it is not answered yet.
     std::optional<std::vector<outcome>> poll_each() {
-        std::vector<outcome> out(posted + 1);
+        std::vector<outcome> out(NRBPF_MOST_SLOTS, outcome{0, 0, NRBPF_POSTED}); // no outcome has this status
         const nrbpf_status status = nrbpf_poll_each(at, out.data());
         if (status == NRBPF_POSTED) return {};
         if (status != NRBPF_FULL) detail::check(status);
-        out.resize(posted);
+        const auto is_unwritten = [](const outcome &it) { return it.status == NRBPF_POSTED; };
+        out.erase(std::find_if(out.begin(), out.end(), is_unwritten), out.end());
         return out;
     }
 

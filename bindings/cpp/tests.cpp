@@ -617,6 +617,29 @@ static void lists_of_threads() {
     ANSWER(store.attach().read(store.program("peek"), bytes_of(third)), 16000, 16000);
 }
 
+// A list that a call of nrbpf.h has posted gets all its outcomes, next to threads that are in the way.
+static void lists_posted_by_nrbpf_h() {
+    const nrbpf::store store(example("counter"), config(1, 7));
+    const auto bump = store.program("bump");
+    std::atomic<bool> is_done{false};
+    std::vector<std::thread> threads;
+    for (int i = 0; i < 3; i++)
+        threads.emplace_back([session = store.attach(), bump, &is_done]() mutable {
+            while (!is_done) session.update(bump, bytes_of(third));
+        });
+    auto lane = store.attach_lane(0, 4);
+    const std::vector<nrbpf_question> calls(4, {&third, sizeof third, bump});
+    std::vector<nrbpf::outcome> out(4);
+    nrbpf_status status = NRBPF_OK;
+    for (int list = 0; list < 200000 && status != NRBPF_POSTED; list++) status = nrbpf_try_update_each(lane.native(), calls.data(), 4, out.data(), nullptr);
+    if (status == NRBPF_POSTED) {
+        out = lane.wait_each();
+        EXPECT(out.size() == 4 && out[3].status == NRBPF_OK && out[3].point > out[0].point);
+    }
+    is_done = true;
+    for (auto &thread : threads) thread.join();
+}
+
 static void a_store_tells_what_it_has_done() {
     nrbpf::store store(example("counter"), config(2, 1));
     const auto bump = store.program("bump");
@@ -651,7 +674,7 @@ int main() {
         {"header", header}, {"scans", scans}, {"rows", rows}, {"installs", installs}, {"installs_within", installs_within}, {"tries", tries}, {"gets_and_scans", gets_and_scans}, {"reads_at_one_point", reads_at_one_point},
         {"four_threads", four_threads}, {"tries_beside_others", tries_beside_others}, {"snapshots", snapshots},
         {"snapshots_beside_threads", snapshots_beside_threads}, {"dumps", dumps}, {"stores_go_on", stores_go_on}, {"close_next_to_a_session", close_next_to_a_session},
-        {"refused_manifests", refused_manifests}, {"refused_dumps", refused_dumps}, {"refused_calls", refused_calls}, {"limits", limits}, {"long_arguments", long_arguments}, {"long_programs", long_programs}, {"long_installs", long_installs}, {"a_store_tells_what_it_is", a_store_tells_what_it_is}, {"a_store_tells_what_it_has_done", a_store_tells_what_it_has_done}, {"lists", lists}, {"lists_of_threads", lists_of_threads}, {"ends", ends},
+        {"refused_manifests", refused_manifests}, {"refused_dumps", refused_dumps}, {"refused_calls", refused_calls}, {"limits", limits}, {"long_arguments", long_arguments}, {"long_programs", long_programs}, {"long_installs", long_installs}, {"a_store_tells_what_it_is", a_store_tells_what_it_is}, {"a_store_tells_what_it_has_done", a_store_tells_what_it_has_done}, {"lists", lists}, {"lists_of_threads", lists_of_threads}, {"lists_posted_by_nrbpf_h", lists_posted_by_nrbpf_h}, {"ends", ends},
     };
     for (const auto &[name, test] : tests) {
         try {

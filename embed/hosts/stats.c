@@ -53,6 +53,7 @@ static void alone(void) {
     EXPECT(told.completed == 1005 && told.appended == 1005 && told.kept <= WINDOW && told.updates == 1005);
     EXPECT_STATUS(nrbpf_update(own, peek, &seen, sizeof seen, &answer), NRBPF_S3); // refused, and asked for
     for (size_t len = 193; len < 195; len++) EXPECT_STATUS(nrbpf_install(own, NRBPF_MODE_READ, 0, zeros, len, &answer, NULL), NRBPF_S6);
+    EXPECT_STATUS(nrbpf_update(own, bump, NULL, sizeof seen, &answer), NRBPF_H7); // and not asked for
     EXPECT(counts_of(own).updates == 1008);
     EXPECT_STATUS(nrbpf_detach(own), NRBPF_OK);
     own = attached(store, 0);
