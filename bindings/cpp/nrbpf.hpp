@@ -25,6 +25,8 @@
 #include <iterator>
 #include <map>
 #include <memory>
+#include <mutex>
+#include <new>
 #include <optional>
 #include <stdexcept>
 #include <string>
@@ -312,12 +314,91 @@ struct program_facts {
 using store_facts = nrbpf_store_facts;
 using counts = nrbpf_counts;
 
+// What became of one update of a list: NRBPF_OK and its answer, or NRBPF_FULL.
+using outcome = nrbpf_outcome;
+
 namespace detail {
+
+// Room for the outcomes of a list. None that is written has this status.
+inline std::vector<outcome> unwritten() { return std::vector<outcome>(NRBPF_MOST_SLOTS, outcome{0, 0, NRBPF_POSTED}); }
+
+inline nrbpf_status poll(nrbpf_session *at, outcome *out) {
+    answer told{};
+    const nrbpf_status status = nrbpf_poll(at, &told);
+    if (status == NRBPF_OK) *out = {told.point, told.reply, status};
+    return status;
+}
+inline nrbpf_status poll(nrbpf_lane *at, outcome *out) { return nrbpf_poll_each(at, out); }
+
+// What a session or a lane has posted. Its owner polls it, and so does another one of the store that waits: it may have to wait for this one.
+class posted {
+    std::mutex lock; // of the handle too
+    nrbpf_session *session = nullptr;
+    nrbpf_lane *lane = nullptr;
+    nrbpf_status status = NRBPF_POSTED;
+
+public:
+    std::vector<outcome> out = unwritten();
+
+    explicit posted(nrbpf_session *at) : session(at) {}
+    explicit posted(nrbpf_lane *at) : lane(at) {}
+
+    nrbpf_status poll() {
+        const std::lock_guard<std::mutex> held(lock);
+        if (status == NRBPF_POSTED) status = session ? detail::poll(session, out.data()) : detail::poll(lane, out.data());
+        return status;
+    }
+    void poll_if_idle() {
+        const std::unique_lock<std::mutex> held(lock, std::try_to_lock);
+        if (held && status == NRBPF_POSTED) status = session ? detail::poll(session, out.data()) : detail::poll(lane, out.data());
+    }
+};
+
+// All that is posted on a store.
+class posted_list {
+    std::mutex lock;
+    std::vector<posted *> each;
+
+public:
+    // Nothing if there is no memory: then its owner alone polls it.
+    template <class Handle> std::unique_ptr<posted> add(Handle *at) noexcept {
+        try {
+            auto own = std::make_unique<posted>(at);
+            const std::lock_guard<std::mutex> held(lock);
+            each.push_back(own.get());
+            return own;
+        } catch (const std::bad_alloc &) {
+            return nullptr;
+        }
+    }
+    // Continues this. If it is answered, it is gone, and `out` has its outcomes.
+    nrbpf_status poll(std::unique_ptr<posted> &own, std::vector<outcome> &out) {
+        const nrbpf_status status = own->poll();
+        if (status == NRBPF_POSTED) return status;
+        {
+            const std::lock_guard<std::mutex> held(lock);
+            each.erase(std::find(each.begin(), each.end(), own.get()));
+        }
+        out = std::move(own->out);
+        own.reset();
+        return status;
+    }
+    // Before its owner tries again: continues the others, and lets other threads run.
+    void poll_others(const std::unique_ptr<posted> &own) {
+        {
+            const std::lock_guard<std::mutex> held(lock);
+            for (posted *const it : each)
+                if (it != own.get()) it->poll_if_idle();
+        }
+        std::this_thread::yield();
+    }
+};
 
 // What a store's sessions share with it.
 struct shared_store {
     std::unique_ptr<nrbpf_store, ends> at;
     std::vector<map_shape> maps;
+    posted_list posts;
 
     const map_shape &shape(std::uint32_t map) const {
         if (map >= maps.size()) check(NRBPF_UNKNOWN_MAP);
@@ -327,53 +408,74 @@ struct shared_store {
 
 } // namespace detail
 
-// One slot of one node. A session is given back when it ends. If an update is posted, the session first waits for its answer.
+// One slot of one node. A session is given back when it ends. If an update is posted, the session first waits for its answer. Meanwhile it polls what other
+// sessions and lanes of the store have posted.
 class session {
     std::shared_ptr<detail::shared_store> of;
     nrbpf_session *at;
+    std::unique_ptr<detail::posted> posted;
 
     void give_back() noexcept {
         if (!at) return;
-        nrbpf_answer out;
-        while (nrbpf_detach(at) == NRBPF_UNANSWERED)
+        answer out;
+        while (posted)
+            if (continued(out) == NRBPF_POSTED) of->posts.poll_others(posted);
+        while (nrbpf_detach(at) == NRBPF_UNANSWERED) // a call on `native()` has posted
             if (nrbpf_poll(at, &out) == NRBPF_POSTED) std::this_thread::yield();
+    }
+
+    // The handle, for a call that is no poll. Until its update is answered, others may poll it.
+    nrbpf_session *idle() const {
+        if (posted) detail::check(NRBPF_UNANSWERED);
+        return at;
+    }
+    nrbpf_status continued(answer &out) {
+        if (!posted) return nrbpf_poll(at, &out);
+        std::vector<outcome> told;
+        const nrbpf_status status = of->posts.poll(posted, told);
+        if (status == NRBPF_OK) out = {told[0].point, told[0].reply};
+        return status;
+    }
+    tried tried_by(nrbpf_status status, const answer &out, const nrbpf_error &why = {}) {
+        if (status == NRBPF_POSTED) posted = of->posts.add(at);
+        return tried_of(status, out, why);
     }
 
     // Each calls nrbpf.h, or its `try_` call: nothing if another session was in the way.
     template <class Call> std::optional<answer> run(Call call, std::uint16_t program, bytes argument) {
         answer out;
-        if (!detail::is_answered(call(at, program, argument.data(), argument.size(), &out))) return {};
+        if (!detail::is_answered(call(idle(), program, argument.data(), argument.size(), &out))) return {};
         return out;
     }
     template <class Call> std::optional<found> look_up(Call call, std::uint32_t map, bytes key) {
         std::string value(of->shape(map).value, '\0');
         nrbpf_found told{};
-        if (!detail::is_answered(call(at, map, key.data(), key.size(), value.data(), value.size(), &told))) return {};
+        if (!detail::is_answered(call(idle(), map, key.data(), key.size(), value.data(), value.size(), &told))) return {};
         return found{told.point, told.is_there ? std::optional(std::move(value)) : std::nullopt};
     }
     template <class Call> std::optional<page> turn(Call call, std::uint32_t map, std::uint32_t from, std::size_t room) {
         const auto [is_array, key, value, entries] = of->shape(map);
         std::string keys(room * key, '\0'), values(room * value, '\0');
         nrbpf_scanned told{};
-        if (!detail::is_answered(call(at, map, from, keys.data(), keys.size(), values.data(), values.size(), &told))) return {};
+        if (!detail::is_answered(call(idle(), map, from, keys.data(), keys.size(), values.data(), values.size(), &told))) return {};
         page it{told.point, {}, told.next == NRBPF_END ? std::nullopt : std::optional(told.next)};
         for (std::size_t k = 0; k < told.count; k++) it.entries.emplace_back(keys.substr(k * key, key), values.substr(k * value, value));
         return it;
     }
     template <class Call> std::optional<map_facts> tell_map(Call call, std::uint32_t map) {
         nrbpf_map_facts told{};
-        if (!detail::is_answered(call(at, map, &told, sizeof told))) return {};
+        if (!detail::is_answered(call(idle(), map, &told, sizeof told))) return {};
         const map_shape shape{told.kind == NRBPF_MAP_ARRAY, told.key_len, told.value_len, static_cast<std::uint32_t>(told.entries)};
         return map_facts{told.point, shape, told.keys};
     }
     template <class Call> std::optional<program_facts> tell_program(Call call, std::uint16_t program) {
         nrbpf_program_facts told{};
-        if (!detail::is_answered(call(at, program, &told, sizeof told))) return {};
+        if (!detail::is_answered(call(idle(), program, &told, sizeof told))) return {};
         return program_facts{told.point, told.is_place != 0, told.is_there != 0, static_cast<mode>(told.mode), told.argument_len, told.slots, told.maps, told.name};
     }
     template <class Call> std::optional<counts> count(Call call) {
         counts told{};
-        if (!detail::is_answered(call(at, &told, sizeof told))) return {};
+        if (!detail::is_answered(call(idle(), &told, sizeof told))) return {};
         return told;
     }
     template <class Call> std::optional<replies> ask(Call call, const std::vector<question> &questions) {
@@ -381,13 +483,13 @@ class session {
         for (const auto &[program, argument] : questions) asked.push_back({argument.data(), argument.size(), program});
         replies told{0, std::vector<std::uint64_t>(questions.size())};
         nrbpf_error why{};
-        const nrbpf_status status = call(at, asked.data(), asked.size(), told.each.data(), &told.point, &why);
+        const nrbpf_status status = call(idle(), asked.data(), asked.size(), told.each.data(), &told.point, &why);
         if (!detail::is_answered(status, why)) return {};
         return told;
     }
     template <class Call> std::optional<std::uint64_t> copy(Call call, state &into) {
         std::uint64_t point = 0;
-        if (!detail::is_answered(call(at, into.native(), &point))) return {};
+        if (!detail::is_answered(call(idle(), into.native(), &point))) return {};
         return point;
     }
 
@@ -398,12 +500,13 @@ class session {
 
 public:
     session(std::shared_ptr<detail::shared_store> store, nrbpf_session *attached) noexcept : of(std::move(store)), at(attached) {}
-    session(session &&other) noexcept : of(std::move(other.of)), at(std::exchange(other.at, nullptr)) {}
+    session(session &&other) noexcept : of(std::move(other.of)), at(std::exchange(other.at, nullptr)), posted(std::move(other.posted)) {}
     session &operator=(session &&other) noexcept {
         if (this != &other) {
             give_back();
             at = std::exchange(other.at, nullptr);
             of = std::move(other.of);
+            posted = std::move(other.posted);
         }
         return *this;
     }
@@ -419,7 +522,7 @@ public:
     answer install(mode of_program, std::uint32_t argument_len, bytes code) {
         answer out;
         nrbpf_error why{};
-        detail::check(nrbpf_install(at, static_cast<std::uint32_t>(of_program), argument_len, code.data(), code.size(), &out, &why), why);
+        detail::check(nrbpf_install(idle(), static_cast<std::uint32_t>(of_program), argument_len, code.data(), code.size(), &out, &why), why);
         return out;
     }
 
@@ -428,45 +531,45 @@ public:
         answer out;
         nrbpf_error why{};
         const nrbpf_confined program{maps.bits(), static_cast<std::uint32_t>(of_program), argument_len, code.data(), code.size()};
-        detail::check(nrbpf_install_within(at, &program, &out, &why), why);
+        detail::check(nrbpf_install_within(idle(), &program, &out, &why), why);
         return out;
     }
 
     // These wait for nobody.
     tried try_update(std::uint16_t program, bytes argument = {}) {
         answer out{};
-        const nrbpf_status status = nrbpf_try_update(at, program, argument.data(), argument.size(), &out);
-        return tried_of(status, out);
+        const nrbpf_status status = nrbpf_try_update(idle(), program, argument.data(), argument.size(), &out);
+        return tried_by(status, out);
     }
     std::optional<answer> try_read(std::uint16_t program, bytes argument = {}) { return run(nrbpf_try_read, program, argument); }
     tried try_install(mode of_program, std::uint32_t argument_len, bytes code) {
         answer out{};
         nrbpf_error why{};
         const nrbpf_status status =
-            nrbpf_try_install(at, static_cast<std::uint32_t>(of_program), argument_len, code.data(), code.size(), &out, &why);
-        return tried_of(status, out, why);
+            nrbpf_try_install(idle(), static_cast<std::uint32_t>(of_program), argument_len, code.data(), code.size(), &out, &why);
+        return tried_by(status, out, why);
     }
 
     tried try_install_within(const maps_allowed &maps, mode of_program, std::uint32_t argument_len, bytes code) {
         answer out{};
         nrbpf_error why{};
         const nrbpf_confined program{maps.bits(), static_cast<std::uint32_t>(of_program), argument_len, code.data(), code.size()};
-        const nrbpf_status status = nrbpf_try_install_within(at, &program, &out, &why);
-        return tried_of(status, out, why);
+        const nrbpf_status status = nrbpf_try_install_within(idle(), &program, &out, &why);
+        return tried_by(status, out, why);
     }
 
     // Continues the update or the install that is posted. Nothing if it is not answered yet.
     std::optional<answer> poll() {
         answer out{};
-        const nrbpf_status status = nrbpf_poll(at, &out);
+        const nrbpf_status status = continued(out);
         return tried_of(status, out) ? std::optional(out) : std::nullopt;
     }
 
-    // Polls until the update is answered.
+    // Polls until the update is answered, and meanwhile what others of the store have posted.
     answer wait() {
         for (;;) {
             if (const auto told = poll()) return *told;
-            std::this_thread::yield();
+            of->posts.poll_others(posted);
         }
     }
 
@@ -510,20 +613,21 @@ public:
 
 // ---- Lanes
 
-// What became of one update of a list: NRBPF_OK and its answer, or NRBPF_FULL.
-using outcome = nrbpf_outcome;
-
 // Some slots of one node, by which a list of updates is asked for in one call. A lane is given back when it ends. If a list is posted, the lane first waits
-// for its answers.
+// for its answers, as a session does.
 class lane {
     std::shared_ptr<detail::shared_store> of;
     nrbpf_lane *at;
+    std::unique_ptr<detail::posted> posted;
 
     void give_back() noexcept {
         if (!at) return;
-        std::array<outcome, NRBPF_MOST_SLOTS> out;
-        while (nrbpf_detach_lane(at) == NRBPF_UNANSWERED)
-            if (nrbpf_poll_each(at, out.data()) == NRBPF_POSTED) std::this_thread::yield();
+        std::vector<outcome> out;
+        while (posted)
+            if (of->posts.poll(posted, out) == NRBPF_POSTED) of->posts.poll_others(posted);
+        std::array<outcome, NRBPF_MOST_SLOTS> room;
+        while (nrbpf_detach_lane(at) == NRBPF_UNANSWERED) // a call on `native()` has posted
+            if (nrbpf_poll_each(at, room.data()) == NRBPF_POSTED) std::this_thread::yield();
     }
 
     template <class Call> nrbpf_status ask(Call call, const std::vector<question> &calls, std::vector<outcome> &out) {
@@ -531,7 +635,9 @@ class lane {
         for (const auto &[program, argument] : calls) asked.push_back({argument.data(), argument.size(), program});
         std::vector<outcome> told(calls.size());
         nrbpf_error why{};
+        if (posted) detail::check(NRBPF_UNANSWERED);
         const nrbpf_status status = call(at, asked.data(), asked.size(), told.data(), &why);
+        if (status == NRBPF_POSTED) posted = of->posts.add(at);
         if (status == NRBPF_BUSY || status == NRBPF_POSTED) return status;
         if (status != NRBPF_FULL) detail::check(status, why);
         return out = std::move(told), NRBPF_OK;
@@ -539,12 +645,13 @@ class lane {
 
 public:
     lane(std::shared_ptr<detail::shared_store> store, nrbpf_lane *attached) noexcept : of(std::move(store)), at(attached) {}
-    lane(lane &&other) noexcept : of(std::move(other.of)), at(std::exchange(other.at, nullptr)) {}
+    lane(lane &&other) noexcept : of(std::move(other.of)), at(std::exchange(other.at, nullptr)), posted(std::move(other.posted)) {}
     lane &operator=(lane &&other) noexcept {
         if (this != &other) {
             give_back();
             at = std::exchange(other.at, nullptr);
             of = std::move(other.of);
+            posted = std::move(other.posted);
         }
         return *this;
     }
@@ -566,8 +673,8 @@ public:
 
     // Continues the list that is posted, also if it was by a call on `native()`. Nothing if it is not answered yet.
     std::optional<std::vector<outcome>> poll_each() {
-        std::vector<outcome> out(NRBPF_MOST_SLOTS, outcome{0, 0, NRBPF_POSTED}); // no outcome has this status
-        const nrbpf_status status = nrbpf_poll_each(at, out.data());
+        std::vector<outcome> out = detail::unwritten();
+        const nrbpf_status status = posted ? of->posts.poll(posted, out) : nrbpf_poll_each(at, out.data());
         if (status == NRBPF_POSTED) return {};
         if (status != NRBPF_FULL) detail::check(status);
         const auto is_unwritten = [](const outcome &it) { return it.status == NRBPF_POSTED; };
@@ -579,7 +686,7 @@ public:
     std::vector<outcome> wait_each() {
         for (;;) {
             if (auto told = poll_each()) return *std::move(told);
-            std::this_thread::yield();
+            of->posts.poll_others(posted);
         }
     }
 };

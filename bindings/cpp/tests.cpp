@@ -654,6 +654,28 @@ static void a_store_tells_what_it_has_done() {
 
 // ---- How things end
 
+// Of two sessions of a node whose updates are posted by one thread, the later one ends first. It may have to wait for the other.
+static void posted_sessions_end() {
+    const nrbpf::store store(example("counter"), config(2, 4));
+    const auto bump = store.program("bump");
+    std::atomic<bool> is_done{false};
+    std::atomic<std::uint64_t> made{0};
+    std::vector<std::thread> threads;
+    for (std::uint32_t node : {0u, 0u, 1u})
+        threads.emplace_back([session = store.attach(node), bump, &is_done, &made]() mutable {
+            for (; !is_done; made++) session.update(bump, bytes_of(third));
+        });
+    for (int turn = 0, both = 0; turn < 50000 && both < 200; turn++) {
+        auto first = store.attach(0), later = store.attach(0);
+        const auto one = first.try_update(bump, bytes_of(third)), other = later.try_update(bump, bytes_of(third));
+        made += static_cast<std::uint64_t>(one.status != NRBPF_BUSY) + (other.status != NRBPF_BUSY);
+        both += one.is_posted() && other.is_posted();
+    }
+    is_done = true;
+    for (auto &thread : threads) thread.join();
+    ANSWER(store.attach(0).read(store.program("peek"), bytes_of(third)), made, made);
+}
+
 static void ends() {
     nrbpf::store store(example("counter"));
     const auto peek = store.program("peek");
@@ -674,7 +696,7 @@ int main() {
         {"header", header}, {"scans", scans}, {"rows", rows}, {"installs", installs}, {"installs_within", installs_within}, {"tries", tries}, {"gets_and_scans", gets_and_scans}, {"reads_at_one_point", reads_at_one_point},
         {"four_threads", four_threads}, {"tries_beside_others", tries_beside_others}, {"snapshots", snapshots},
         {"snapshots_beside_threads", snapshots_beside_threads}, {"dumps", dumps}, {"stores_go_on", stores_go_on}, {"close_next_to_a_session", close_next_to_a_session},
-        {"refused_manifests", refused_manifests}, {"refused_dumps", refused_dumps}, {"refused_calls", refused_calls}, {"limits", limits}, {"long_arguments", long_arguments}, {"long_programs", long_programs}, {"long_installs", long_installs}, {"a_store_tells_what_it_is", a_store_tells_what_it_is}, {"a_store_tells_what_it_has_done", a_store_tells_what_it_has_done}, {"lists", lists}, {"lists_of_threads", lists_of_threads}, {"lists_posted_by_nrbpf_h", lists_posted_by_nrbpf_h}, {"ends", ends},
+        {"refused_manifests", refused_manifests}, {"refused_dumps", refused_dumps}, {"refused_calls", refused_calls}, {"limits", limits}, {"long_arguments", long_arguments}, {"long_programs", long_programs}, {"long_installs", long_installs}, {"a_store_tells_what_it_is", a_store_tells_what_it_is}, {"a_store_tells_what_it_has_done", a_store_tells_what_it_has_done}, {"lists", lists}, {"lists_of_threads", lists_of_threads}, {"lists_posted_by_nrbpf_h", lists_posted_by_nrbpf_h}, {"ends", ends}, {"posted_sessions_end", posted_sessions_end},
     };
     for (const auto &[name, test] : tests) {
         try {
