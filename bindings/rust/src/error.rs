@@ -211,6 +211,12 @@ impl fmt::Display for QuestionRefused {
 
 impl std::error::Error for QuestionRefused {}
 
+impl From<Error> for QuestionRefused {
+    fn from(why: Error) -> QuestionRefused {
+        QuestionRefused { question: None, why }
+    }
+}
+
 impl From<QuestionRefused> for Error {
     fn from(it: QuestionRefused) -> Error {
         it.why

@@ -170,7 +170,7 @@ impl Session<'_> {
     pub fn map_info(&mut self, map: u32) -> Result<MapInfo, Error> {
         let mut out = sys::nrbpf_map_facts::default();
         // SAFETY: as above.
-        check(unsafe { sys::nrbpf_map_info(self.as_ptr(), map, &mut out, size_of::<sys::nrbpf_map_facts>()) })?;
+        check(unsafe { sys::nrbpf_map_info(self.idle()?, map, &mut out, size_of::<sys::nrbpf_map_facts>()) })?;
         Ok(MapInfo::of(out))
     }
 
@@ -182,7 +182,7 @@ impl Session<'_> {
     pub fn try_map_info(&mut self, map: u32) -> Result<Option<MapInfo>, Error> {
         let mut out = sys::nrbpf_map_facts::default();
         // SAFETY: as above.
-        let status = unsafe { sys::nrbpf_try_map_info(self.as_ptr(), map, &mut out, size_of::<sys::nrbpf_map_facts>()) };
+        let status = unsafe { sys::nrbpf_try_map_info(self.idle()?, map, &mut out, size_of::<sys::nrbpf_map_facts>()) };
         Ok(unless_busy(status, sys::nrbpf_error::default())?.then(|| MapInfo::of(out)))
     }
 
@@ -194,7 +194,7 @@ impl Session<'_> {
     pub fn program_info(&mut self, program: u16) -> Result<ProgramInfo, Error> {
         let mut out = sys::nrbpf_program_facts::default();
         // SAFETY: as above.
-        check(unsafe { sys::nrbpf_program_info(self.as_ptr(), program, &mut out, size_of::<sys::nrbpf_program_facts>()) })?;
+        check(unsafe { sys::nrbpf_program_info(self.idle()?, program, &mut out, size_of::<sys::nrbpf_program_facts>()) })?;
         Ok(ProgramInfo::of(out))
     }
 
@@ -206,7 +206,7 @@ impl Session<'_> {
     pub fn try_program_info(&mut self, program: u16) -> Result<Option<ProgramInfo>, Error> {
         let mut out = sys::nrbpf_program_facts::default();
         // SAFETY: as above.
-        let status = unsafe { sys::nrbpf_try_program_info(self.as_ptr(), program, &mut out, size_of::<sys::nrbpf_program_facts>()) };
+        let status = unsafe { sys::nrbpf_try_program_info(self.idle()?, program, &mut out, size_of::<sys::nrbpf_program_facts>()) };
         Ok(unless_busy(status, sys::nrbpf_error::default())?.then(|| ProgramInfo::of(out)))
     }
 
@@ -219,7 +219,7 @@ impl Session<'_> {
     pub fn stats(&mut self) -> Result<Counts, Error> {
         let mut out = sys::nrbpf_counts::default();
         // SAFETY: as above.
-        check(unsafe { sys::nrbpf_stats(self.as_ptr(), &mut out, size_of::<sys::nrbpf_counts>()) })?;
+        check(unsafe { sys::nrbpf_stats(self.idle()?, &mut out, size_of::<sys::nrbpf_counts>()) })?;
         Ok(Counts::of(out))
     }
 
@@ -231,7 +231,7 @@ impl Session<'_> {
     pub fn try_stats(&mut self) -> Result<Option<Counts>, Error> {
         let mut out = sys::nrbpf_counts::default();
         // SAFETY: as above.
-        let status = unsafe { sys::nrbpf_try_stats(self.as_ptr(), &mut out, size_of::<sys::nrbpf_counts>()) };
+        let status = unsafe { sys::nrbpf_try_stats(self.idle()?, &mut out, size_of::<sys::nrbpf_counts>()) };
         Ok(unless_busy(status, sys::nrbpf_error::default())?.then(|| Counts::of(out)))
     }
 }

@@ -1,13 +1,14 @@
 //! Lanes: several slots of one node, by which a thread asks for several updates at once.
 
 use crate::error::{check, QuestionRefused};
-use crate::session::{Answer, Question};
+use crate::posted::{Handle, Outcomes, Posted};
+use crate::session::{Answer, Of, Question};
 use crate::{sys, Error, Store};
 use std::cell::Cell;
 use std::fmt;
 use std::marker::PhantomData;
 use std::ptr::NonNull;
-use std::sync::Arc;
+use std::sync::{Arc, Mutex};
 use std::thread;
 
 /// The most slots of a lane, and so the most updates of a list.
@@ -45,10 +46,9 @@ pub enum TriedEach {
 pub struct Lane<'a> {
     at: NonNull<sys::nrbpf_lane>,
     slots: usize,
-    // How many calls the list has that is posted.
-    posted: usize,
-    _of: Option<Arc<Store>>,
-    _is_lent: PhantomData<&'a Store>,
+    of: Of<'a>,
+    // Until the list is answered, and how many calls it has.
+    posted: Option<(Arc<Mutex<Posted>>, usize)>,
     _is_not_sync: PhantomData<Cell<()>>,
 }
 
@@ -56,16 +56,24 @@ pub struct Lane<'a> {
 unsafe impl Send for Lane<'_> {}
 
 impl<'a> Lane<'a> {
-    pub(crate) fn borrowing(_store: &'a Store, at: NonNull<sys::nrbpf_lane>, slots: u32) -> Lane<'a> {
-        Lane::new(at, slots, None)
+    pub(crate) fn borrowing(store: &'a Store, at: NonNull<sys::nrbpf_lane>, slots: u32) -> Lane<'a> {
+        Lane::of(Of::One(store), at, slots)
     }
 
     pub(crate) fn sharing(store: Arc<Store>, at: NonNull<sys::nrbpf_lane>, slots: u32) -> Lane<'static> {
-        Lane::new(at, slots, Some(store))
+        Lane::of(Of::Several(store), at, slots)
     }
 
-    fn new<'b>(at: NonNull<sys::nrbpf_lane>, slots: u32, of: Option<Arc<Store>>) -> Lane<'b> {
-        Lane { at, slots: slots as usize, posted: 0, _of: of, _is_lent: PhantomData, _is_not_sync: PhantomData }
+    fn of(of: Of<'_>, at: NonNull<sys::nrbpf_lane>, slots: u32) -> Lane<'_> {
+        Lane { at, slots: slots as usize, of, posted: None, _is_not_sync: PhantomData }
+    }
+
+    /// The handle, for a call that is no poll: H3. Until its list is answered, others may poll it.
+    fn idle(&mut self) -> Result<*mut sys::nrbpf_lane, Error> {
+        match self.posted {
+            Some(_) => Err(Error::Unanswered),
+            None => Ok(self.at.as_ptr()),
+        }
     }
 
     /// How many slots it has: a list has at most as many updates.
@@ -89,7 +97,7 @@ impl<'a> Lane<'a> {
         assert_eq!(calls.len(), answers.len(), "an answer for each call");
         let (mut out, mut why) = (Outcomes::default(), sys::nrbpf_error::default());
         // SAFETY: as above, and a question is the library's own. A list of more calls than there is room for is refused.
-        let status = unsafe { sys::nrbpf_update_each(self.at.as_ptr(), calls.as_ptr().cast(), calls.len(), out.as_mut_ptr(), &mut why) };
+        let status = unsafe { sys::nrbpf_update_each(self.idle()?, calls.as_ptr().cast(), calls.len(), out.as_mut_ptr(), &mut why) };
         self.told(status, why, &out, answers).map(|_| ())
     }
 
@@ -106,8 +114,7 @@ impl<'a> Lane<'a> {
         assert_eq!(calls.len(), answers.len(), "an answer for each call");
         let (mut out, mut why) = (Outcomes::default(), sys::nrbpf_error::default());
         // SAFETY: as above, and a question is the library's own. A list of more calls than there is room for is refused.
-        let status =
-            unsafe { sys::nrbpf_try_update_each(self.at.as_ptr(), calls.as_ptr().cast(), calls.len(), out.as_mut_ptr(), &mut why) };
+        let status = unsafe { sys::nrbpf_try_update_each(self.idle()?, calls.as_ptr().cast(), calls.len(), out.as_mut_ptr(), &mut why) };
         self.told(status, why, &out, answers)
     }
 
@@ -121,14 +128,14 @@ impl<'a> Lane<'a> {
     ///
     /// There are not as many answers as the list has calls.
     pub fn poll_each(&mut self, answers: &mut [Result<Answer, Error>]) -> Result<bool, Error> {
-        assert!(self.posted == 0 || self.posted == answers.len(), "an answer for each call");
-        let mut out = Outcomes::default();
-        // SAFETY: as above.
-        let status = unsafe { sys::nrbpf_poll_each(self.at.as_ptr(), out.as_mut_ptr()) };
+        let (own, count) = self.posted.as_ref().ok_or(Error::NothingPosted)?;
+        assert_eq!(*count, answers.len(), "an answer for each call");
+        let Some((status, out)) = self.of.store().posts.poll(own) else { return Ok(false) };
+        self.posted = None;
         Ok(self.told(status, sys::nrbpf_error::default(), &out, answers)? == TriedEach::Answered)
     }
 
-    /// Goes on with the list that is posted until it is answered.
+    /// Goes on with the list that is posted until it is answered, and with what others of the store have posted.
     ///
     /// # Errors
     ///
@@ -139,6 +146,9 @@ impl<'a> Lane<'a> {
     /// There are not as many answers as the list has calls.
     pub fn wait_each(&mut self, answers: &mut [Result<Answer, Error>]) -> Result<(), Error> {
         while !self.poll_each(answers)? {
+            if let Some((own, _)) = &self.posted {
+                self.of.store().posts.poll_others(own);
+            }
             thread::yield_now();
         }
         Ok(())
@@ -155,7 +165,8 @@ impl<'a> Lane<'a> {
         match status {
             sys::NRBPF_BUSY => return Ok(TriedEach::Busy),
             sys::NRBPF_POSTED => {
-                self.posted = answers.len();
+                let own = self.of.store().posts.add(Handle::Lane(self.at));
+                self.posted = Some((own, answers.len()));
                 return Ok(TriedEach::Posted);
             }
             _ => {}
@@ -165,7 +176,6 @@ impl<'a> Lane<'a> {
                 for (answer, it) in answers.iter_mut().zip(out) {
                     *answer = check(it.status).map(|()| Answer { point: it.point, reply: it.reply });
                 }
-                self.posted = 0;
                 Ok(TriedEach::Answered)
             }
             Err(_) => Err(QuestionRefused::of(sys::nrbpf_error { status, ..why })),
@@ -173,17 +183,14 @@ impl<'a> Lane<'a> {
     }
 }
 
-/// Room for what the library says of each update.
-type Outcomes = [sys::nrbpf_outcome; MOST_SLOTS];
-
 impl Drop for Lane<'_> {
     fn drop(&mut self) {
         let mut answers = [Ok(Answer::default()); MOST_SLOTS];
-        // SAFETY: as above.
-        while check(unsafe { sys::nrbpf_detach_lane(self.at.as_ptr()) }) == Err(Error::Unanswered) {
-            let posted = self.posted;
-            let _ = self.wait_each(&mut answers[..posted]);
+        if let Some((_, count)) = self.posted {
+            let _ = self.wait_each(&mut answers[..count]);
         }
+        // SAFETY: as above, and nothing is posted any more.
+        unsafe { sys::nrbpf_detach_lane(self.at.as_ptr()) };
     }
 }
 

@@ -4,6 +4,7 @@ mod error;
 mod facts;
 mod lane;
 mod manifest;
+mod posted;
 mod session;
 mod state;
 mod store;

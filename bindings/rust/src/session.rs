@@ -1,13 +1,14 @@
 //! Sessions: one slot of one node, by which a thread makes its calls.
 
 use crate::error::{check, check_with};
+use crate::posted::{Handle, Posted};
 use crate::{sys, Error, MapShape, QuestionRefused, State, Store};
 use std::cell::Cell;
 use std::ffi::c_void;
 use std::fmt;
 use std::marker::PhantomData;
 use std::ptr::NonNull;
-use std::sync::Arc;
+use std::sync::{Arc, Mutex};
 use std::thread;
 
 /// The reply of an install that found no place that is free. A program replies it too, by custom, where a map has no room for its key.
@@ -107,14 +108,23 @@ impl<'a> Question<'a> {
     }
 }
 
-/// Whose session it is.
-enum Of<'a> {
+/// Whose session or lane it is.
+pub(crate) enum Of<'a> {
     One(&'a Store),
     Several(Arc<Store>),
 }
 
+impl Of<'_> {
+    pub(crate) fn store(&self) -> &Store {
+        match self {
+            Of::One(store) => store,
+            Of::Several(store) => store,
+        }
+    }
+}
+
 /// A session. It borrows its store, or is one of its owners ([`Store::attach_shared`]), and is given back when it is dropped: where an update is posted
-/// and not answered, once that is answered.
+/// and not answered, once that is answered. While it waits for that, it polls what other sessions and lanes of the store have posted.
 ///
 /// It may be sent to another thread, and is used by one at a time:
 ///
@@ -130,6 +140,8 @@ enum Of<'a> {
 pub struct Session<'a> {
     at: NonNull<sys::nrbpf_session>,
     of: Of<'a>,
+    // Until it is answered.
+    posted: Option<Arc<Mutex<Posted>>>,
     _is_not_sync: PhantomData<Cell<()>>,
 }
 
@@ -138,23 +150,35 @@ unsafe impl Send for Session<'_> {}
 
 impl<'a> Session<'a> {
     pub(crate) fn borrowing(store: &'a Store, at: NonNull<sys::nrbpf_session>) -> Session<'a> {
-        Session { at, of: Of::One(store), _is_not_sync: PhantomData }
+        Session { at, of: Of::One(store), posted: None, _is_not_sync: PhantomData }
     }
 
     pub(crate) fn sharing(store: Arc<Store>, at: NonNull<sys::nrbpf_session>) -> Session<'static> {
-        Session { at, of: Of::Several(store), _is_not_sync: PhantomData }
+        Session { at, of: Of::Several(store), posted: None, _is_not_sync: PhantomData }
     }
 
     /// Its store.
     pub fn store(&self) -> &Store {
-        match &self.of {
-            Of::One(store) => store,
-            Of::Several(store) => store,
+        self.of.store()
+    }
+
+    /// The handle, for a call that is no poll: H3. Until its update is answered, others may poll it.
+    pub(crate) fn idle(&mut self) -> Result<*mut sys::nrbpf_session, Error> {
+        match self.posted {
+            Some(_) => Err(Error::Unanswered),
+            None => Ok(self.at.as_ptr()),
         }
     }
 
-    pub(crate) fn as_ptr(&mut self) -> *mut sys::nrbpf_session {
-        self.at.as_ptr()
+    fn tried(&mut self, status: u32, out: sys::nrbpf_answer, why: sys::nrbpf_error) -> Result<Tried, Error> {
+        match status {
+            sys::NRBPF_BUSY => Ok(Tried::Busy),
+            sys::NRBPF_POSTED => {
+                self.posted = Some(self.store().posts.add(Handle::Session(self.at)));
+                Ok(Tried::Posted)
+            }
+            _ => check_with(status, why).map(|()| Tried::Answered(Answer::of(out))),
+        }
     }
 
     // (In each call: the session is attached and this thread's, and each pointer has as many bytes behind it as the call is told.)
@@ -167,7 +191,7 @@ impl<'a> Session<'a> {
     pub fn update(&mut self, program: u16, argument: &[u8]) -> Result<Answer, Error> {
         let mut out = sys::nrbpf_answer::default();
         // SAFETY: as above.
-        check(unsafe { sys::nrbpf_update(self.as_ptr(), program, bytes_at(argument), argument.len(), &mut out) })?;
+        check(unsafe { sys::nrbpf_update(self.idle()?, program, bytes_at(argument), argument.len(), &mut out) })?;
         Ok(Answer::of(out))
     }
 
@@ -179,7 +203,7 @@ impl<'a> Session<'a> {
     pub fn read(&mut self, program: u16, argument: &[u8]) -> Result<Answer, Error> {
         let mut out = sys::nrbpf_answer::default();
         // SAFETY: as above.
-        check(unsafe { sys::nrbpf_read(self.as_ptr(), program, bytes_at(argument), argument.len(), &mut out) })?;
+        check(unsafe { sys::nrbpf_read(self.idle()?, program, bytes_at(argument), argument.len(), &mut out) })?;
         Ok(Answer::of(out))
     }
 
@@ -191,8 +215,7 @@ impl<'a> Session<'a> {
     pub fn install(&mut self, mode: Mode, argument_len: u32, code: &[u8]) -> Result<Answer, Error> {
         let (mut out, mut why) = (sys::nrbpf_answer::default(), sys::nrbpf_error::default());
         // SAFETY: as above.
-        let status =
-            unsafe { sys::nrbpf_install(self.as_ptr(), mode as u32, argument_len, bytes_at(code), code.len(), &mut out, &mut why) };
+        let status = unsafe { sys::nrbpf_install(self.idle()?, mode as u32, argument_len, bytes_at(code), code.len(), &mut out, &mut why) };
         check_with(status, why)?;
         Ok(Answer::of(out))
     }
@@ -206,7 +229,7 @@ impl<'a> Session<'a> {
         let (mut out, mut why) = (sys::nrbpf_answer::default(), sys::nrbpf_error::default());
         let program = confined(maps, mode, argument_len, code);
         // SAFETY: as above.
-        let status = unsafe { sys::nrbpf_install_within(self.as_ptr(), &program, &mut out, &mut why) };
+        let status = unsafe { sys::nrbpf_install_within(self.idle()?, &program, &mut out, &mut why) };
         check_with(status, why)?;
         Ok(Answer::of(out))
     }
@@ -219,8 +242,8 @@ impl<'a> Session<'a> {
     pub fn try_update(&mut self, program: u16, argument: &[u8]) -> Result<Tried, Error> {
         let mut out = sys::nrbpf_answer::default();
         // SAFETY: as above.
-        let status = unsafe { sys::nrbpf_try_update(self.as_ptr(), program, bytes_at(argument), argument.len(), &mut out) };
-        tried(status, out, sys::nrbpf_error::default())
+        let status = unsafe { sys::nrbpf_try_update(self.idle()?, program, bytes_at(argument), argument.len(), &mut out) };
+        self.tried(status, out, sys::nrbpf_error::default())
     }
 
     /// As [`read`](Session::read), and waits for nobody: none where another session was in the way.
@@ -231,7 +254,7 @@ impl<'a> Session<'a> {
     pub fn try_read(&mut self, program: u16, argument: &[u8]) -> Result<Option<Answer>, Error> {
         let mut out = sys::nrbpf_answer::default();
         // SAFETY: as above.
-        let status = unsafe { sys::nrbpf_try_read(self.as_ptr(), program, bytes_at(argument), argument.len(), &mut out) };
+        let status = unsafe { sys::nrbpf_try_read(self.idle()?, program, bytes_at(argument), argument.len(), &mut out) };
         Ok(unless_busy(status, sys::nrbpf_error::default())?.then(|| Answer::of(out)))
     }
 
@@ -244,8 +267,8 @@ impl<'a> Session<'a> {
         let (mut out, mut why) = (sys::nrbpf_answer::default(), sys::nrbpf_error::default());
         // SAFETY: as above.
         let status =
-            unsafe { sys::nrbpf_try_install(self.as_ptr(), mode as u32, argument_len, bytes_at(code), code.len(), &mut out, &mut why) };
-        tried(status, out, why)
+            unsafe { sys::nrbpf_try_install(self.idle()?, mode as u32, argument_len, bytes_at(code), code.len(), &mut out, &mut why) };
+        self.tried(status, out, why)
     }
 
     /// As [`install_within`](Session::install_within), and waits for nobody.
@@ -257,8 +280,8 @@ impl<'a> Session<'a> {
         let (mut out, mut why) = (sys::nrbpf_answer::default(), sys::nrbpf_error::default());
         let program = confined(maps, mode, argument_len, code);
         // SAFETY: as above.
-        let status = unsafe { sys::nrbpf_try_install_within(self.as_ptr(), &program, &mut out, &mut why) };
-        tried(status, out, why)
+        let status = unsafe { sys::nrbpf_try_install_within(self.idle()?, &program, &mut out, &mut why) };
+        self.tried(status, out, why)
     }
 
     /// Goes on with the update or the install that is posted, and waits for nobody: none where it is not answered yet.
@@ -267,26 +290,26 @@ impl<'a> Session<'a> {
     ///
     /// S4, with which it is over and has done nothing; H11: nothing is posted.
     pub fn poll(&mut self) -> Result<Option<Answer>, Error> {
-        let mut out = sys::nrbpf_answer::default();
-        // SAFETY: as above.
-        let status = unsafe { sys::nrbpf_poll(self.as_ptr(), &mut out) };
-        match tried(status, out, sys::nrbpf_error::default())? {
-            Tried::Answered(answer) => Ok(Some(answer)),
-            Tried::Busy | Tried::Posted => Ok(None),
-        }
+        let own = self.posted.as_ref().ok_or(Error::NothingPosted)?;
+        let Some((status, outcomes)) = self.store().posts.poll(own) else { return Ok(None) };
+        self.posted = None;
+        check(status)?;
+        Ok(Some(Answer { point: outcomes[0].point, reply: outcomes[0].reply }))
     }
 
-    /// Goes on with the update or the install that is posted until it is answered.
+    /// Goes on with the update or the install that is posted until it is answered, and with what others of the store have posted.
     ///
     /// # Errors
     ///
     /// Those of [`poll`](Session::poll).
     pub fn wait(&mut self) -> Result<Answer, Error> {
         loop {
-            match self.poll()? {
-                Some(answer) => return Ok(answer),
-                None => thread::yield_now(),
+            match (self.poll()?, &self.posted) {
+                (Some(answer), _) => return Ok(answer),
+                (None, Some(own)) => self.store().posts.poll_others(own),
+                (None, None) => {}
             }
+            thread::yield_now();
         }
     }
 
@@ -309,7 +332,7 @@ impl<'a> Session<'a> {
         let mut out = sys::nrbpf_found::default();
         let (room, len) = (value.as_mut_ptr().cast(), value.len());
         // SAFETY: as above.
-        check(unsafe { sys::nrbpf_get(self.as_ptr(), map, bytes_at(key), key.len(), room, len, &mut out) })?;
+        check(unsafe { sys::nrbpf_get(self.idle()?, map, bytes_at(key), key.len(), room, len, &mut out) })?;
         Ok(Found { point: out.point, is_there: out.is_there != 0 })
     }
 
@@ -322,7 +345,7 @@ impl<'a> Session<'a> {
         let mut out = sys::nrbpf_found::default();
         let (room, len) = (value.as_mut_ptr().cast(), value.len());
         // SAFETY: as above.
-        let status = unsafe { sys::nrbpf_try_get(self.as_ptr(), map, bytes_at(key), key.len(), room, len, &mut out) };
+        let status = unsafe { sys::nrbpf_try_get(self.idle()?, map, bytes_at(key), key.len(), room, len, &mut out) };
         let is_answered = unless_busy(status, sys::nrbpf_error::default())?;
         Ok(is_answered.then_some(Found { point: out.point, is_there: out.is_there != 0 }))
     }
@@ -350,7 +373,7 @@ impl<'a> Session<'a> {
         let mut out = sys::nrbpf_scanned::default();
         let ((keys, keys_len), (values, values_len)) = (room_of(keys), room_of(values));
         // SAFETY: as above.
-        check(unsafe { sys::nrbpf_scan(self.as_ptr(), map, from, keys, keys_len, values, values_len, &mut out) })?;
+        check(unsafe { sys::nrbpf_scan(self.idle()?, map, from, keys, keys_len, values, values_len, &mut out) })?;
         Ok(Page::of(out))
     }
 
@@ -363,7 +386,7 @@ impl<'a> Session<'a> {
         let mut out = sys::nrbpf_scanned::default();
         let ((keys, keys_len), (values, values_len)) = (room_of(keys), room_of(values));
         // SAFETY: as above.
-        let status = unsafe { sys::nrbpf_try_scan(self.as_ptr(), map, from, keys, keys_len, values, values_len, &mut out) };
+        let status = unsafe { sys::nrbpf_try_scan(self.idle()?, map, from, keys, keys_len, values, values_len, &mut out) };
         Ok(unless_busy(status, sys::nrbpf_error::default())?.then(|| Page::of(out)))
     }
 
@@ -382,7 +405,7 @@ impl<'a> Session<'a> {
         let (mut point, mut why) = (0, sys::nrbpf_error::default());
         let (asked, count) = (questions.as_ptr().cast(), questions.len());
         // SAFETY: as above, and a question is the library's own.
-        let status = unsafe { sys::nrbpf_read_each(self.as_ptr(), asked, count, replies.as_mut_ptr(), &mut point, &mut why) };
+        let status = unsafe { sys::nrbpf_read_each(self.idle()?, asked, count, replies.as_mut_ptr(), &mut point, &mut why) };
         match status {
             sys::NRBPF_OK => Ok(point),
             _ => Err(QuestionRefused::of(sys::nrbpf_error { status, ..why })),
@@ -403,7 +426,7 @@ impl<'a> Session<'a> {
         let (mut point, mut why) = (0, sys::nrbpf_error::default());
         let (asked, count) = (questions.as_ptr().cast(), questions.len());
         // SAFETY: as above, and a question is the library's own.
-        let status = unsafe { sys::nrbpf_try_read_each(self.as_ptr(), asked, count, replies.as_mut_ptr(), &mut point, &mut why) };
+        let status = unsafe { sys::nrbpf_try_read_each(self.idle()?, asked, count, replies.as_mut_ptr(), &mut point, &mut why) };
         match status {
             sys::NRBPF_OK => Ok(Some(point)),
             sys::NRBPF_BUSY => Ok(None),
@@ -419,7 +442,7 @@ impl<'a> Session<'a> {
     pub fn snapshot(&mut self, into: &mut State) -> Result<u64, Error> {
         let mut point = 0;
         // SAFETY: as above, and the state is this call's alone.
-        check(unsafe { sys::nrbpf_snapshot(self.as_ptr(), into.as_ptr(), &mut point) })?;
+        check(unsafe { sys::nrbpf_snapshot(self.idle()?, into.as_ptr(), &mut point) })?;
         Ok(point)
     }
 
@@ -431,7 +454,7 @@ impl<'a> Session<'a> {
     pub fn try_snapshot(&mut self, into: &mut State) -> Result<Option<u64>, Error> {
         let mut point = 0;
         // SAFETY: as above, and the state is this call's alone.
-        let status = unsafe { sys::nrbpf_try_snapshot(self.as_ptr(), into.as_ptr(), &mut point) };
+        let status = unsafe { sys::nrbpf_try_snapshot(self.idle()?, into.as_ptr(), &mut point) };
         Ok(unless_busy(status, sys::nrbpf_error::default())?.then_some(point))
     }
 
@@ -442,10 +465,11 @@ impl<'a> Session<'a> {
 
 impl Drop for Session<'_> {
     fn drop(&mut self) {
-        // SAFETY: as above.
-        while check(unsafe { sys::nrbpf_detach(self.as_ptr()) }) == Err(Error::Unanswered) {
+        if self.posted.is_some() {
             let _ = self.wait();
         }
+        // SAFETY: as above, and nothing is posted any more.
+        unsafe { sys::nrbpf_detach(self.at.as_ptr()) };
     }
 }
 
@@ -494,14 +518,6 @@ fn bytes_at(bytes: &[u8]) -> *const c_void {
 
 fn room_of(bytes: &mut [u8]) -> (*mut c_void, usize) {
     (bytes.as_mut_ptr().cast(), bytes.len())
-}
-
-fn tried(status: u32, out: sys::nrbpf_answer, why: sys::nrbpf_error) -> Result<Tried, Error> {
-    match status {
-        sys::NRBPF_BUSY => Ok(Tried::Busy),
-        sys::NRBPF_POSTED => Ok(Tried::Posted),
-        _ => check_with(status, why).map(|()| Tried::Answered(Answer::of(out))),
-    }
 }
 
 /// Whether a read is answered, or another session was in the way.

@@ -1,6 +1,7 @@
 //! Stores, which all threads share, and their sizes.
 
 use crate::error::{check, check_with};
+use crate::posted::Posts;
 use crate::{sys, Error, Lane, Manifest, MapShape, Session, State};
 use std::fmt;
 use std::mem::ManuallyDrop;
@@ -111,6 +112,7 @@ impl Config {
 pub struct Store {
     at: NonNull<sys::nrbpf_store>,
     maps: Vec<MapShape>,
+    pub(crate) posts: Posts,
 }
 
 // SAFETY: a store takes calls of any threads at once, and its end comes beside no other call: nothing borrows it then, and no session shares it.
@@ -153,7 +155,7 @@ impl Store {
 
     // Asks the opened store for the shapes of its maps. No session is attached yet, so none is in the way.
     fn at(out: *mut sys::nrbpf_store) -> Result<Store, Error> {
-        let mut store = Store { at: NonNull::new(out).expect("an opened store is somewhere"), maps: Vec::new() };
+        let mut store = Store { at: NonNull::new(out).expect("an opened store is somewhere"), maps: Vec::new(), posts: Posts::default() };
         let count = store.info().maps;
         let mut session = store.attach(0)?;
         let maps = (0..count).map(|map| Ok(session.map_info(map)?.shape)).collect::<Result<_, Error>>()?;
@@ -264,7 +266,7 @@ impl Store {
         match check(unsafe { sys::nrbpf_close_into(self.at.as_ptr(), &mut out) }) {
             Ok(()) => {
                 let mut ended = ManuallyDrop::new(self);
-                ended.maps = Vec::new();
+                (ended.maps, ended.posts) = (Vec::new(), Posts::default());
                 Ok(State::at(out))
             }
             Err(why) => Err(NotClosed { store: self, why }),

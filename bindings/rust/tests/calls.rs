@@ -5,7 +5,7 @@ mod fixture;
 use fixture::{answer, answered, bytes_of, counter, example, key, text_of, tried, BUMP, FIVE, PEEK};
 use nrbpf::{Config, Error, Manifest, MapShape, Mode, Question, Session, State, Store, Tried, ENDLESS, REPLY_NO_ROOM};
 use std::collections::BTreeMap;
-use std::sync::atomic::{AtomicBool, Ordering};
+use std::sync::atomic::{AtomicBool, AtomicU64, Ordering};
 use std::sync::Arc;
 use std::thread;
 
@@ -303,5 +303,37 @@ fn a_store_tells_what_it_has_done() -> Result<(), Error> {
     assert_eq!((own.updates, own.waits, own.batches, own.node), (3, 0, 0, 0));
     let behind = answered(|| other.try_stats())?;
     assert_eq!((behind.completed, behind.tail, behind.lag, behind.updates, behind.node), (3, 0, 3, 0, 1));
+    Ok(())
+}
+
+/// Of two sessions of a node whose updates are posted by one thread, the later one is dropped first. It may have to wait for the other.
+#[test]
+fn two_posted_updates_of_a_thread_are_made() -> Result<(), Error> {
+    let store = counter(Config::new(2, 4));
+    let (is_done, made) = (AtomicBool::new(false), AtomicU64::new(0));
+    thread::scope(|scope| {
+        for node in [0, 0, 1] {
+            let mut session = store.attach(node).expect("there is one for each");
+            let (is_done, made) = (&is_done, &made);
+            scope.spawn(move || {
+                while !is_done.load(Ordering::Relaxed) {
+                    session.update(BUMP, &key(3)).expect("the history has no end");
+                    made.fetch_add(1, Ordering::Relaxed);
+                }
+            });
+        }
+        let (mut turn, mut both) = (0, 0);
+        while turn < 50_000 && both < 200 {
+            let sessions = [store.attach(0), store.attach(0)];
+            let [mut first, mut later] = sessions.map(|it| it.expect("it was given back"));
+            let told = [&mut first, &mut later].map(|it| it.try_update(BUMP, &key(3)).expect("the history has no end"));
+            made.fetch_add(told.iter().filter(|&&it| it != Tried::Busy).count() as u64, Ordering::Relaxed);
+            both += u32::from(told == [Tried::Posted; 2]);
+            turn += 1;
+        }
+        is_done.store(true, Ordering::Relaxed);
+    });
+    let made = made.into_inner();
+    assert_eq!(store.attach(0)?.read(PEEK, &key(3))?, answer(made, made));
     Ok(())
 }
