@@ -12,7 +12,7 @@ from unittest import mock
 
 import nrbpf
 from nrbpf import _native
-from tests.fixture import example
+from tests.fixture import example, u32
 
 PACKAGE = os.path.dirname(nrbpf.__file__)
 
@@ -169,6 +169,41 @@ class AtOnce(unittest.TestCase):
             if steps.is_over:
                 self.assertGreater(number, 1)
                 return
+
+
+class Posted(unittest.TestCase):
+    def test_the_later_of_two_ends_first(self):
+        """It may have to wait for the earlier one, which the same thread has posted."""
+
+        def count(node):
+            with store.attach(node) as session:
+                while not stop.is_set():
+                    session.update(bump, u32(3))
+                    made.append(1)
+
+        stop, made, both = threading.Event(), [], 0
+        with nrbpf.open(example("counter"), nodes=2, slots=4) as store:
+            bump, peek = store.program("bump"), store.program("peek")
+            threads = [threading.Thread(target=count, args=(node,)) for node in (0, 0, 1)]
+            for thread in threads:
+                thread.start()
+            for _ in range(20000):
+                with store.attach() as first, store.attach() as later:
+                    told = [session.try_update(bump, u32(3)) for session in (first, later)]
+                    made.extend(1 for it in told if it is not nrbpf.BUSY)
+                    for session, it in zip((first, later), told):
+                        if it is nrbpf.POSTED:
+                            with self.assertRaises(nrbpf.HostError) as why:
+                                session.read(peek, u32(3))
+                            self.assertEqual(why.exception.status, nrbpf.Status.UNANSWERED)
+                both += told == [nrbpf.POSTED] * 2
+                if both == 60:
+                    break
+            stop.set()
+            for thread in threads:
+                thread.join()
+            with store.attach() as session:
+                self.assertEqual(session.read(peek, u32(3)), (len(made), len(made)))
 
 
 if __name__ == "__main__":

@@ -9,6 +9,7 @@ from types import TracebackType
 from typing import TYPE_CHECKING, Any, TypeVar
 
 from ._errors import Error, Pending, Status, check, error_of
+from ._posted import Posted
 from ._signals import at_once
 
 if TYPE_CHECKING:
@@ -28,6 +29,7 @@ class Handle:
         self._at: int | None = None
         self._store = store
         self._lock = threading.Lock()
+        self._posted: Posted | None = None
 
     @property
     def store(self) -> Store:
@@ -37,8 +39,8 @@ class Handle:
         """Gives it back to the library."""
         raise NotImplementedError
 
-    def _go_on(self, at: int) -> None:
-        """Goes on with what is posted."""
+    def _polled(self) -> Posted:
+        """How what is posted is polled."""
         raise NotImplementedError
 
     # ---- Its end
@@ -48,10 +50,12 @@ class Handle:
         this does nothing."""
         with self._lock:
             if self._at is not None:
+                self._check_idle()
                 check(self._give_back())
 
     def _end(self) -> None:
-        """Gives the slots back, once what is posted is answered, if there is something."""
+        """Gives the slots back, once what is posted is answered, if there is something. Meanwhile it polls what others of
+        the store have posted."""
         while True:
             try:
                 self.detach()
@@ -61,7 +65,8 @@ class Handle:
                     raise
             with self._lock:
                 if self._at is not None:
-                    self._go_on(self._at)
+                    self._poll()
+            self._store._posts.poll_others(self._posted)
             time.sleep(0)
 
     def __enter__(self: Own) -> Own:
@@ -90,5 +95,32 @@ class Handle:
     def _call(self, call: Callable[[int], Any]) -> int:
         if self._at is None:
             raise error_of(Status.DETACHED)
-        status: int = call(self._at)
+        self._check_idle()
+        return self._noted(call(self._at))
+
+    def _check_idle(self) -> None:
+        """Others may have polled what is posted: then the library has its answer no more."""
+        if self._posted is not None:
+            raise error_of(Status.UNANSWERED)
+
+    def _noted(self, status: int) -> int:
+        """The status of a call that may have posted something."""
+        if status == Pending.POSTED.value:
+            self._posted = self._polled()
+            self._store._posts.add(self._posted)
         return status
+
+    def _poll(self) -> int:
+        """Goes on with what is posted, under the lock."""
+        if self._at is None:
+            raise error_of(Status.DETACHED)
+        posted = self._posted or self._polled()
+        status = posted.poll()
+        if status != Pending.POSTED.value:
+            self._store._posts.remove(posted)
+            self._posted = None
+        return status
+
+    def _is_taken(self) -> Pending:
+        """What a poll answers while somebody has the lock, who polls it too if something is posted."""
+        return Pending.BUSY if self._posted is None else Pending.POSTED

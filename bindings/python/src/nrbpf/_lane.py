@@ -12,6 +12,7 @@ from . import _native
 from ._errors import Pending, Status, error_of, pending
 from ._handle import Handle
 from ._manifest import Buffer, as_bytes
+from ._posted import Posted
 from ._session import Answer
 from ._signals import at_once
 
@@ -31,7 +32,7 @@ class Lane(Handle):
 
     def __init__(self, store: Store, node: int, slots: int) -> None:
         super().__init__(store)
-        self._slots, self._posted = slots, 0
+        self._slots, self._count = slots, 0  # of the posted list
         self._arguments = _Arguments(64 * MOST_SLOTS)
         self._calls = (_native.Asked * MOST_SLOTS)()
         self._outcomes = (_native.Outcome * MOST_SLOTS)()
@@ -61,16 +62,17 @@ class Lane(Handle):
 
     def poll_each(self) -> list[Answer | None] | Pending:
         """Goes on with the list that is posted, and waits for nobody."""
-        return at_once(self._lock, self._poll_each, lambda: Pending.BUSY)
+        return at_once(self._lock, self._poll_each, self._is_taken)
 
     def wait_each(self) -> list[Answer | None]:
-        """Goes on with the list that is posted until it is answered."""
+        """Goes on with the list that is posted until it is answered, and with what others of the store have posted."""
         tries = 0
         while True:
             told = self.poll_each()
             if not isinstance(told, Pending):
                 return told
             tries += 1
+            self._store._posts.poll_others(self._posted)
             time.sleep(0 if tries < 100 else 0.0001)
 
     # ---- How calls are made, under the lock
@@ -78,23 +80,25 @@ class Lane(Handle):
     def _give_back(self) -> int:
         return self._store._given_back(self, _library.nrbpf_detach_lane)
 
-    def _go_on(self, at: int) -> None:
-        _library.nrbpf_poll_each(at, self._outcomes)
+    def _polled(self) -> Posted:
+        assert self._at is not None
+        return Posted(self._lock, _library.nrbpf_poll_each, self._at, self._outcomes)
 
     def _poll_each(self) -> list[Answer | None] | Pending:
         self._fault.status = 0
-        return self._answers(self._call(lambda at: _library.nrbpf_poll_each(at, self._outcomes)), self._posted)
+        return self._answers(self._poll(), self._count)
 
     def _ask(self, call: Callable[..., Any], calls: Sequence[tuple[int, Buffer]]) -> list[Answer | None] | Pending:
         if self._at is None:
             raise error_of(Status.DETACHED)
+        self._check_idle()
         count = len(calls)
         if count <= MOST_SLOTS:
             self._put(calls)
         status = call(self._at, self._calls, count, self._outcomes, self._fault)
         if status == Pending.POSTED.value:
-            self._posted = count
-        return self._answers(status, count)
+            self._count = count
+        return self._answers(self._noted(status), count)
 
     def _put(self, calls: Sequence[tuple[int, Buffer]]) -> None:
         """Writes the calls as the library takes them: their arguments one behind another, and a table."""

@@ -12,6 +12,8 @@ from ._errors import Error, Pending, Status, check, error_of, pending, within
 from ._facts import Counts, MapInfo, Mode, ProgramInfo
 from ._handle import Handle
 from ._manifest import Buffer, as_bytes
+from ._posted import Posted
+from ._signals import at_once
 from ._state import State
 
 if TYPE_CHECKING:
@@ -65,6 +67,7 @@ class Session(Handle):
 
     def __init__(self, store: Store, node: int) -> None:
         super().__init__(store)
+        self._polled_answer = _native.Answered()
         self._at = store._attached(node)
 
     # ---- Calls
@@ -116,18 +119,18 @@ class Session(Handle):
 
     def poll(self) -> Answer | Pending:
         """Goes on with the update or the install that is posted, and waits for nobody."""
-        answer = _native.Answered()
-        status = self._try(lambda at: _library.nrbpf_poll(at, answer))
-        return pending(status) or Answer(answer.point, answer.reply)
+        return at_once(self._lock, self._poll_answer, self._is_taken)
 
     def wait(self) -> Answer:
-        """Goes on with the update or the install that is posted until it is answered."""
+        """Goes on with the update or the install that is posted until it is answered, and with what others of the store
+        have posted."""
         tries = 0
         while True:
             told = self.poll()
             if not isinstance(told, Pending):
                 return told
             tries += 1
+            self._store._posts.poll_others(self._posted)
             time.sleep(0 if tries < 100 else 0.0001)
 
     # ---- More reads
@@ -235,14 +238,20 @@ class Session(Handle):
     def _give_back(self) -> int:
         return self._store._given_back(self, _library.nrbpf_detach)
 
-    def _go_on(self, at: int) -> None:
-        _library.nrbpf_poll(at, _native.Answered())
+    def _polled(self) -> Posted:
+        assert self._at is not None
+        return Posted(self._lock, _library.nrbpf_poll, self._at, self._polled_answer)
+
+    def _poll_answer(self) -> Answer | Pending:
+        answer = self._polled_answer
+        return pending(self._poll()) or Answer(answer.point, answer.reply)
 
     def _answer(self, call: Callable[..., Any], program: int, argument: bytes) -> Answer:
         answer, program = _native.Answered(), within(program, 16, Status.UNKNOWN_PROGRAM)
         with self._lock:
             if self._at is None:
                 raise error_of(Status.DETACHED)
+            self._check_idle()
             status = call(self._at, program, argument, len(argument), answer)
         check(status)
         return Answer(answer.point, answer.reply)

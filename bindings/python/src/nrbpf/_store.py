@@ -14,6 +14,7 @@ from ._facts import MapShape, StoreInfo
 from ._handle import Handle
 from ._lane import MOST_SLOTS, Lane
 from ._manifest import ONE_SESSION, STANDARD, Limits, Manifest, Sizes
+from ._posted import Posts
 from ._session import Session
 from ._signals import end
 from ._state import State
@@ -29,6 +30,7 @@ class Store:
         self._at: int | None = None
         self._lock = threading.RLock()  # a session may be given back by the collector, in the middle of a call here
         self._is_left = False
+        self._posts = Posts()
         out, fault = ctypes.c_void_p(), _native.Fault()
         given = (sizes.native(), *manifest.native())
         if state is None:
