@@ -382,10 +382,10 @@ NRBPF_MUST_LOOK nrbpf_status nrbpf_install(
 // Each may also answer BUSY. An update or an install may also answer POSTED.
 // After POSTED the update will happen exactly once, unless nrbpf_poll refuses
 // it with S4. Until its answer the session takes only nrbpf_poll (H3). Poll
-// soon: the session may have taken other updates of its node along, and they
-// wait until it is polled. If it is never polled again, these and all later
-// updates of its node may wait for ever. Then the store can't be closed either
-// (S5). [session]
+// soon, and all sessions of a thread in turn: one may have taken other updates
+// of its node along, and they wait until it is polled. If it is never polled
+// again, these and all later updates of its node may wait for ever. Then the
+// store can't be closed either (S5). [session]
 NRBPF_MUST_LOOK nrbpf_status nrbpf_try_update(
     nrbpf_session *session, uint16_t program, const void *argument, size_t len,
     nrbpf_answer *out);
