@@ -512,6 +512,7 @@ public:
     }
     ~session() { give_back(); }
 
+    // For calls of nrbpf.h. Make none while `try_update` or the like has posted: others may poll the session then.
     nrbpf_session *native() const noexcept { return at; }
 
     // Run a program, and wait while other sessions are in the way.
@@ -657,6 +658,7 @@ public:
     }
     ~lane() { give_back(); }
 
+    // For calls of nrbpf.h. Make none while `try_update_each` has posted, as of a session.
     nrbpf_lane *native() const noexcept { return at; }
 
     // Runs programs that may change the maps, at most one for each slot, and waits while other sessions are in the way. Gives an outcome for each call. Each
