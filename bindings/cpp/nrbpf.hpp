@@ -337,6 +337,10 @@ class posted {
     nrbpf_lane *lane = nullptr;
     nrbpf_status status = NRBPF_POSTED;
 
+    void go_on() {
+        if (status == NRBPF_POSTED) status = session ? detail::poll(session, out.data()) : detail::poll(lane, out.data());
+    }
+
 public:
     std::vector<outcome> out = unwritten();
 
@@ -345,12 +349,13 @@ public:
 
     nrbpf_status poll() {
         const std::lock_guard<std::mutex> held(lock);
-        if (status == NRBPF_POSTED) status = session ? detail::poll(session, out.data()) : detail::poll(lane, out.data());
+        go_on();
         return status;
     }
+    // Does nothing if somebody else polls it now.
     void poll_if_idle() {
         const std::unique_lock<std::mutex> held(lock, std::try_to_lock);
-        if (held && status == NRBPF_POSTED) status = session ? detail::poll(session, out.data()) : detail::poll(lane, out.data());
+        if (held) go_on();
     }
 };
 
