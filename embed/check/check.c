@@ -1,8 +1,8 @@
 // check.c: checks the C of embed/, which is trusted, in every way within bounds. It compiles that C as it is, and puts it on a stand-in for the proved library
 // (contract.c). A host makes calls (host.c), and a model of nrbpf.h says what each must answer.
 //
-//     check calls COUNT              each sequence of so many calls, after several beginnings, with each answer of the stand-in; once in each of the shortest
-//                                    runs memory is refused
+//     check calls COUNT [BEGINNING]  each sequence of so many calls, after each of nine beginnings or the one of this number, with each answer of the
+//                                    stand-in; once in each of the shortest runs memory is refused
 //     check random SEED RUNS COUNT   so many random sequences of at most so many calls
 //     check threads SWITCHES MOST    at most so many interleavings of each scenario below, with at most so many forced switches
 //
@@ -162,11 +162,11 @@ static void run_scenario(const struct scenario *it, int switches) {
 
 // ---- The three kinds of check
 
-static void check_calls(unsigned count) {
+static void check_calls(unsigned count, int beginning) {
     choose_exhaustively();
     do {
         begin_run();
-        run_calls(count);
+        run_calls(count, beginning);
     } while (has_next_run());
 }
 
@@ -175,7 +175,7 @@ static void check_randomly(uint64_t seed, unsigned long most, unsigned count) {
     for (unsigned long k = 0; k < most; k++) {
         choose_by(seed * 1000003 + k);
         begin_run();
-        run_calls(count);
+        run_calls(count, -1);
     }
 }
 
@@ -193,14 +193,14 @@ static void check_threads(int switches, unsigned long most) {
 }
 
 int main(int count, char **words) {
-    if (count == 3 && strcmp(words[1], "calls") == 0) {
-        check_calls((unsigned)strtoul(words[2], NULL, 10));
+    if ((count == 3 || count == 4) && strcmp(words[1], "calls") == 0) {
+        check_calls((unsigned)strtoul(words[2], NULL, 10), count == 3 ? -1 : (int)strtol(words[3], NULL, 10));
     } else if (count == 5 && strcmp(words[1], "random") == 0) {
         check_randomly(strtoull(words[2], NULL, 10), strtoul(words[3], NULL, 10), (unsigned)strtoul(words[4], NULL, 10));
     } else if (count == 4 && strcmp(words[1], "threads") == 0) {
         check_threads((int)strtol(words[2], NULL, 10), strtoul(words[3], NULL, 10));
     } else {
-        fprintf(stderr, "check calls COUNT | check random SEED RUNS COUNT | check threads SWITCHES MOST\n");
+        fprintf(stderr, "check calls COUNT [BEGINNING] | check random SEED RUNS COUNT | check threads SWITCHES MOST\n");
         return 2;
     }
     printf("%s: %lu runs with %lu calls answer as nrbpf.h says\n", words[1], runs, host_calls);

@@ -79,7 +79,7 @@ extern const nrbpf_config sizes;
 // Says that a call follows, which may wait so often.
 void ready(unsigned waits);
 void lend(const void *bytes, size_t length);
-// Opens a store by one of several beginnings, makes so many calls, and ends all.
-void run_calls(unsigned count);
+// Opens a store, by this beginning or if it is below 0 by any, makes so many calls, and ends all.
+void run_calls(unsigned count, int beginning);
 
 #endif

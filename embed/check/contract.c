@@ -204,7 +204,7 @@ static void answer(struct nrbpf_raw_session *session, uint64_t status) {
     session->inner = last.inner = status == S(7) ? D(3) : status == S(8) ? V(16) : 0;
     session->slot = last.slot = session->inner ? 5 : 0;
     if (status == 0) {
-        session->point = last.point = 0x100000001u + choose(2);
+        session->point = last.point = 0x100000000u + last.calls;
         session->reply = last.reply = 0xfffffffffffffff9u;
     }
 }

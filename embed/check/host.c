@@ -716,13 +716,13 @@ static int make_call(void) {
     return 1;
 }
 
-void run_calls(unsigned count) {
+void run_calls(unsigned count, int beginning) {
     store = NULL;
     state = NULL;
     is_dumped = 0;
     known = 0;
     may_refuse = !is_willing;
-    if (begin(is_willing ? NEW : (enum beginning)choose(BEGINNINGS))) {
+    if (begin(is_willing ? NEW : beginning < 0 ? (enum beginning)choose(BEGINNINGS) : (enum beginning)beginning)) {
         while (count > 0 && make_call()) count--;
     }
     end_all();
