@@ -12,12 +12,20 @@ const BYTES: [u8; 32] = [
 #[test]
 fn reads_and_writes_back(rt: HostRuntime) -> Result<(), Fail> {
     let program = decode(rt.alloc(), &BYTES)?;
-    let forms = [
-        Form::Imm64 { dst: 0, value: 7 },
-        add(0, Source::Reg(10)),
-        Form::Exit,
-    ];
-    assert!(rt; program.iter().map(|insn| insn.form()).eq(forms));
+    assert!(rt; program.len() == 3);
+    assert!(rt; matches!(program[0].form(), Form::Imm64 { dst: 0, value: 7 }));
+    assert!(rt;
+        matches!(
+            program[1].form(),
+            Form::Alu {
+                w64: true,
+                op: Operation::Add,
+                dst: 0,
+                src: Source::Reg(10)
+            }
+        )
+    );
+    assert!(rt; matches!(program[2].form(), Form::Exit));
     assert!(rt; encode(rt.alloc(), &program)?.as_slice() == BYTES.as_slice());
     Ok(())
 }
@@ -39,6 +47,6 @@ fn makes_instructions_that_have_bytes(rt: HostRuntime) {
     let ja = |by| Form::Ja { long: false, by };
     assert!(rt; Insn::new(ja(-32768)).is_some());
     assert!(rt; Insn::new(ja(32768)).is_none());
-    let made = Insn::new(ja(1));
-    assert!(rt; made == Insn::new(ja(1)) && made != Insn::new(ja(2)));
+    let made = Insn::new(ja(1)).map(|insn| insn.form());
+    assert!(rt; matches!(made, Some(Form::Ja { long: false, by: 1 })));
 }

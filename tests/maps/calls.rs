@@ -34,37 +34,26 @@ fn hash(key: u32, value: u32, entries: u32) -> Shape {
 #[test]
 fn answers_by_shapes(rt: HostRuntime) {
     let long_key = hash(65, 8, 1);
+    let number = |shapes: &[Shape]| shapes_ok(shapes).err().map_or(0, |why| why.number());
     assert_eq!(rt;
         [
-            shapes_ok(&[]),
-            shapes_ok(&[long_key]),
-            shapes_ok(&[LARGE]),
-            shapes_ok(&[LARGE, SINGLE]),
-            shapes_ok(&[SMALL; 16]),
-            shapes_ok(&[SMALL; 17]),
-            shapes_ok(&[long_key; 17]),
-            shapes_ok(&[LARGE, long_key]),
+            number(&[]),
+            number(&[long_key]),
+            number(&[LARGE]),
+            number(&[LARGE, SINGLE]),
+            number(&[SMALL; 16]),
+            number(&[SMALL; 17]),
+            number(&[long_key; 17]),
+            number(&[LARGE, long_key]),
         ],
-        [
-            Err(ShapeFault::NoMapOrTooMany),
-            Err(ShapeFault::SizeOutOfLimits),
-            Ok(()),
-            Err(ShapeFault::TooManyBytes),
-            Ok(()),
-            Err(ShapeFault::NoMapOrTooMany),
-            Err(ShapeFault::NoMapOrTooMany),
-            Err(ShapeFault::SizeOutOfLimits),
-        ]
+        [1, 2, 0, 3, 0, 1, 1, 2]
     );
 }
 
 #[test]
 fn refuses_shapes(rt: HostRuntime) {
     let refused = MapSet::open(rt.alloc(), &[]).err();
-    assert_eq!(rt;
-        refused,
-        Some(MapError::Refused(ShapeFault::NoMapOrTooMany))
-    );
+    assert!(rt; matches!(refused, Some(MapError::Refused(ShapeFault::NoMapOrTooMany))));
 }
 
 // An array of 16 values of 8 zeros has the indices 0 to 15, and a hash has no key yet.
@@ -75,7 +64,7 @@ fn opens_arrays_of_zeros(rt: HostRuntime) {
     assert!(&rt; maps.value(last) == [0; 8].as_slice());
     assert_eq!(rt;
         [
-            last == maps.entry(0, 15),
+            last.place() == 15,
             maps.lookup(0, &[16, 0, 0, 0]).is_none(),
             maps.lookup(0, &[0, 1, 0, 0]).is_none(),
             maps.lookup(1, &[15, 0, 0, 0]).is_none(),
