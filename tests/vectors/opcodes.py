@@ -1,4 +1,9 @@
-# Expected values from the tables of RFC 9669 on Python's whole numbers; nothing of this repository is used.
+"""Prints programs with every opcode, a line each: its bytes, and behind `=` its reply and its number of steps. Each gets one array of 16 numbers of 8 bytes, and
+the argument f1 02 83 04 85 06 87 88.
+
+Expected values come from the tables of RFC 9669 on Python's whole numbers; nothing of this repository is used.
+"""
+
 import struct
 import edges
 M64=(1<<64)-1
@@ -136,7 +141,5 @@ for n in edges.WORDS:
     for op,w in ((0x87,64),(0x84,32)):
         row('EDGE',lddw(0,n)+[slot(op),EXIT],edges.negated(w,n),3)
 assert len(seen) == 117
-# `rows.py programs` writes the file stdin, `rows.py replies` the file stdout
-import sys
 for _, text, reply, steps in rows:
-    print(text if sys.argv[1] == 'programs' else f'{text} = {reply} {steps}')
+    print(f'{text} = {reply} {steps}')

@@ -1,7 +1,7 @@
 """Operands at the edges of both widths, and what RFC 9669 (sections 4.1 to 4.3) says of them, from Python's integers alone.
 
 Written from the text of the standard, without a look at the Rattle code or its definitions: Python's integers have no width, so
-each result is computed on whole numbers and cut off at the end. rows.py makes programs of these."""
+each result is computed on whole numbers and cut off at the end. opcodes.py makes programs of these."""
 
 
 def cut(width, n):
