@@ -36,7 +36,9 @@
 //     [end]      By one thread at a time. While a session or a lane is
 //                attached, the call answers S5, even while a call on it runs.
 //                Once none is attached, the call ends the store. Then no other
-//                call on the store may be running or follow.
+//                call on the store may be running or follow. Only a detach of
+//                what is attached may run at the same time: the call answers
+//                S5, as before it, or ends the store, as after it.
 // A thread hands a session to another by a mutex, by a thread's start or join,
 // or by a sequentially consistent atomic. Call nothing here from a signal
 // handler, or in the forked child of a process with threads.
@@ -67,7 +69,7 @@ typedef struct nrbpf_state nrbpf_state;
 // The major number changes if a host has to be changed or compiled again. The
 // minor number changes if something is added.
 #define NRBPF_VERSION_MAJOR 2u
-#define NRBPF_VERSION_MINOR 6u
+#define NRBPF_VERSION_MINOR 7u
 #define NRBPF_VERSION (NRBPF_VERSION_MAJOR * 1000u + NRBPF_VERSION_MINOR)
 
 // Answers the version of the library. [any]
@@ -108,7 +110,8 @@ enum {
     NRBPF_C3, NRBPF_FILE_NOT_DECODED = NRBPF_C3,
     // A program is not accepted. The inner refusal has the letter V.
     NRBPF_C4, NRBPF_FILE_NOT_ACCEPTED = NRBPF_C4,
-    // There are too many maps or programs, or the maps are too large.
+    // There are more than 16 maps or 256 programs, or the maps have more bytes
+    // than the configuration's `limits`.
     NRBPF_C5, NRBPF_TOO_MUCH = NRBPF_C5,
     // There is no memory to load the manifest.
     NRBPF_C6, NRBPF_NO_MEMORY_TO_LOAD = NRBPF_C6,
@@ -139,7 +142,8 @@ enum {
 
     // Opening
 
-    // A number of the configuration is out of its limits.
+    // A number of the configuration is out of its limits, which nrbpf_config
+    // names.
     NRBPF_O1 = 'O' << 8 | 1, NRBPF_OUT_OF_LIMITS = NRBPF_O1,
     // There is no memory for the store or the state.
     NRBPF_O2, NRBPF_NO_MEMORY = NRBPF_O2,
@@ -151,7 +155,8 @@ enum {
 
     // The store has no such program.
     NRBPF_S1 = 'S' << 8 | 1, NRBPF_UNKNOWN_PROGRAM = NRBPF_S1,
-    // The program's argument has another length.
+    // The program's argument has another length. At a spare place: it is
+    // longer than an installed program's argument may be (S6).
     NRBPF_S2, NRBPF_ARGUMENT_LENGTH = NRBPF_S2,
     // The program has the other mode.
     NRBPF_S3, NRBPF_OTHER_MODE = NRBPF_S3,
@@ -159,7 +164,8 @@ enum {
     NRBPF_S4, NRBPF_FULL = NRBPF_S4,
     // close, close_into: sessions are attached.
     NRBPF_S5, NRBPF_ATTACHED = NRBPF_S5,
-    // install: the program or its argument is too large.
+    // install: the program has more than 192 bytes, or its argument more than
+    // 64, and more than the configuration's `long_bytes`.
     NRBPF_S6, NRBPF_TOO_LARGE = NRBPF_S6,
     // install: the bytes are no program. The inner refusal has the letter D.
     NRBPF_S7, NRBPF_NOT_DECODED = NRBPF_S7,
@@ -191,8 +197,9 @@ enum {
     // 16 questions. attach_lane: 0 slots, or more than 16. update_each: there
     // are more calls than the lane has slots.
     NRBPF_H5, NRBPF_BAD_CALL = NRBPF_H5,
-    // Of raw calls (nrbpf_raw.h): the session is of another store, or a part of
-    // the store is missing. No call below answers this.
+    // Of raw calls (nrbpf_raw.h): the session is not of this store or does not
+    // fit into this lane, or a part of the store is missing. No call below
+    // answers this.
     NRBPF_H6, NRBPF_OTHER_STORE = NRBPF_H6,
     // A pointer is null.
     NRBPF_H7, NRBPF_NULL_POINTER = NRBPF_H7,
@@ -369,7 +376,8 @@ NRBPF_MUST_LOOK nrbpf_status nrbpf_read(
     nrbpf_answer *out);
 
 // Adds a program to the running store. Waits as nrbpf_update does. The reply is
-// its number from then on, or NRBPF_REPLY_NO_ROOM if no spare place is left. It
+// its number from then on, or NRBPF_REPLY_NO_ROOM if no spare place is left.
+// That is no refusal: the status is NRBPF_OK, so test the reply. The program
 // has at most 192 bytes, which are 24 slots, and an argument of at most 64, or
 // as many of both as the configuration's `long_bytes` (S6). Refuses with S4, S6
 // to S8, H2, H3, H5 and H7. Then *why says more, unless `why` is null.
@@ -409,8 +417,9 @@ typedef struct nrbpf_confined {
 
 // Do what nrbpf_install and nrbpf_try_install do, for a program that may name
 // only the maps in `maps`. So a host that lets others install programs says
-// which maps each may read and change. If the program names another map, the
-// call refuses with S8. Then *why has V16 and the first slot that names such a
+// which maps each may read and change. If nrbpf_install would refuse the
+// program, the refusal is that one. Else, if the program names another map, the
+// call refuses with S8, and *why has V16 and the first slot that names such a
 // map. What is posted does not depend on `maps`. Refuse with S4, S6 to S8, H2,
 // H3, H5 and H7. [session]
 NRBPF_MUST_LOOK nrbpf_status nrbpf_install_within(
@@ -463,7 +472,8 @@ typedef struct nrbpf_scanned {
 // another into `keys`, and their values into `values`, as many as both hold.
 // Both rooms are in bytes. Reads at most 1,024 places of the map, and 16 more
 // for each entry that the buffers hold. So a page may have no entry although
-// the map goes on. Two pages may be of different points, and a deletion may
+// the map goes on. If the buffers hold no entry, no page goes past the first
+// one that it finds. Two pages may be of different points, and a deletion may
 // move a key to another page. A snapshot is of one point. It is tested, not
 // proved, that the pages of one session at one point give each key once.
 // Refuses with S9, S10, H2, H3 and H7. [session]

@@ -1,16 +1,17 @@
 /* What the proved library libembed.a exports, and what is at its five kinds of handle. A host includes nrbpf.h, not this.
  *
- * A handle is memory of the host, of the size and the alignment of its struct. Until nrbpf_raw_open, nrbpf_raw_open_on, nrbpf_raw_attach,
- * nrbpf_raw_close_into, nrbpf_raw_new_state, nrbpf_raw_load or nrbpf_raw_dump has written it, the memory is only room. After nrbpf_raw_close,
- * nrbpf_raw_close_into, nrbpf_raw_detach, nrbpf_raw_drop_state or nrbpf_raw_drop_text has ended it, the memory is as good as room again. Between two calls
- * the host writes the words under "asked" and reads those under "answered". The host leaves `own` alone, and moves or copies no handle. Each function takes
- * one call at a time on each handle that is passed to it. Calls on different handles may run at the same time. No pointer is null, also if its length is 0.
- * What a function writes overlaps nothing else that it is passed.
+ * A handle is memory of the host, with the alignment of its struct, and the size that nrbpf_raw_store_size, nrbpf_raw_session_size, nrbpf_raw_lane_size,
+ * nrbpf_raw_state_size or nrbpf_raw_text_size answers. Until nrbpf_raw_open, nrbpf_raw_open_on, nrbpf_raw_attach, nrbpf_raw_leave, nrbpf_raw_close_into,
+ * nrbpf_raw_new_state, nrbpf_raw_load, nrbpf_raw_dump or nrbpf_raw_new_lane has written it, the memory is only room. After nrbpf_raw_close,
+ * nrbpf_raw_close_into, nrbpf_raw_detach, nrbpf_raw_join, nrbpf_raw_drop_state, nrbpf_raw_drop_text or nrbpf_raw_drop_lane has ended it, the memory is as
+ * good as room again. Between two calls the host writes the words under "asked" and reads those under "answered". The host leaves the rest alone, and moves
+ * or copies no handle. Each function takes one call at a time on each handle that is passed to it. Calls on different handles may run at the same time. No
+ * pointer is null, also if its length is 0. What a function writes overlaps nothing else that it is passed.
  *
- * No function waits or locks. nrbpf_raw_open, nrbpf_raw_open_on, nrbpf_raw_close_into, nrbpf_raw_new_state, nrbpf_raw_load and nrbpf_raw_dump take memory,
- * by the host's malloc and realloc. nrbpf_raw_close, nrbpf_raw_close_into, nrbpf_raw_drop_state and nrbpf_raw_drop_text give it back, by free. Those that
- * load or dump also give back what they took on the way. No other function takes any. What is passed in is copied. Nothing of it is read or written after
- * the function has returned.
+ * No function waits or locks. nrbpf_raw_open, nrbpf_raw_open_on, nrbpf_raw_close_into, nrbpf_raw_new_state, nrbpf_raw_load, nrbpf_raw_dump and
+ * nrbpf_raw_new_lane take memory, by the host's malloc and realloc. nrbpf_raw_close, nrbpf_raw_close_into, nrbpf_raw_drop_state, nrbpf_raw_drop_text and
+ * nrbpf_raw_drop_lane give it back, by free. Those that load or dump also give back what they took on the way. No other function takes any. What is passed
+ * in is copied. Nothing of it is read or written after the function has returned.
  *
  * A status is 0, NRBPF_RAW_BUSY, NRBPF_RAW_AGAIN, or a refusal: 256 times its letter, and its number, as in docs/REFUSALS.md. With any other status than 0
  * the words point, reply, count, next, number and length are as they were. So are the bytes, replies and states that a call is to fill.
@@ -34,7 +35,8 @@ enum {
     NRBPF_RAW_H3,           /* a read of any kind, a snapshot, or a detach, while an update is posted */
     NRBPF_RAW_H4,           /* a text is not UTF-8: the manifest, a file, its name, the name of a program, or the text of a state */
     NRBPF_RAW_H5,           /* a word is no call's: `call` above 5, `mode` above 1; read_each: more than 16 questions, or another number of replies */
-    NRBPF_RAW_H6,           /* detach: the session's place is not empty here; close_into: a part of the store is elsewhere, and it is ended */
+    NRBPF_RAW_H6,           /* detach: the session's place is not empty here; join: the session does not fit into the lane; close_into: a part of the store is
+                             * elsewhere, and it is ended */
     NRBPF_RAW_H9 = 'H' << 8 | 9 /* snapshot: the state has other maps, or another number of places for programs, or takes longer or shorter ones, than the store */
 };
 
@@ -86,8 +88,8 @@ enum { NRBPF_RAW_UPDATE = 0, NRBPF_RAW_READ = 1, NRBPF_RAW_INSTALL = 2, NRBPF_RA
 struct nrbpf_raw_session {
     /* asked, by nrbpf_raw_call alone; the other calls leave these words as they are */
     uint64_t call;          /* NRBPF_RAW_UPDATE, .. */
-    uint16_t program;       /* update, read, post, check: the program's number. install within: the maps that the new program may name, bit m for map m. If it names
-                             * another, S8 with V16 */
+    uint16_t program;       /* update, read, post, check: the program's number. install within: the maps that the new program may name, bit m for map m. If an
+                             * install would not refuse it, and it names another, S8 with V16 */
     uint64_t mode;          /* both installs: 0 for a program that updates, 1 for one that reads */
     uint64_t argument;      /* both installs: how many bytes the program's arguments have */
     /* answered */

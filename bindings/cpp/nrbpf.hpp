@@ -43,13 +43,16 @@ namespace nrbpf {
 
 // Why a call refused. Its text is the library's.
 class error : public std::runtime_error {
-    nrbpf_error said;
+    nrbpf_error said{};
 
     static std::string text(const nrbpf_error &why) {
         std::array<char, 512> room;
         nrbpf_error_text(&why, room.data(), room.size());
         return room.data();
     }
+
+protected:
+    explicit error(const char *why) : std::runtime_error(why) {}
 
 public:
     explicit error(const nrbpf_error &why) : std::runtime_error(text(why)), said(why) {}
@@ -58,6 +61,16 @@ public:
     nrbpf_status inner() const noexcept { return said.inner; }   // of a program: the letter D or V, or 0
     std::uint32_t line() const noexcept { return said.line; }    // of the manifest or the dump, from 1, or 0
     std::uint32_t slot() const noexcept { return said.slot; }    // of the program; of read_each and update_each the call's number
+};
+
+// An install found no free place. It is in the history and did nothing. Its status is NRBPF_OK.
+class no_place : public error {
+    std::uint64_t at;
+
+public:
+    explicit no_place(std::uint64_t point) : error("there is no free place for the program"), at(point) {}
+
+    std::uint64_t point() const noexcept { return at; } // its index
 };
 
 namespace detail {
@@ -330,7 +343,8 @@ inline nrbpf_status poll(nrbpf_session *at, outcome *out) {
 }
 inline nrbpf_status poll(nrbpf_lane *at, outcome *out) { return nrbpf_poll_each(at, out); }
 
-// What a session or a lane has posted. Its owner polls it, and so does another one of the store that waits: it may have to wait for this one.
+// What a session or a lane has posted. Its owner polls it. So do `wait`, `wait_each` and the end of another one of the store, which may have to wait for
+// this one. Other calls that wait, such as `update`, don't.
 class posted {
     std::mutex lock; // of the handle too
     nrbpf_session *session = nullptr;
@@ -419,6 +433,7 @@ class session {
     std::shared_ptr<detail::shared_store> of;
     nrbpf_session *at;
     std::unique_ptr<detail::posted> posted;
+    bool is_install = false; // whether what is posted is one
 
     void give_back() noexcept {
         if (!at) return;
@@ -444,6 +459,17 @@ class session {
     tried tried_by(nrbpf_status status, const answer &out, const nrbpf_error &why = {}) {
         if (status == NRBPF_POSTED) posted = of->posts.add(at);
         return tried_of(status, out, why);
+    }
+    tried tried_to_install(nrbpf_status status, const answer &out, const nrbpf_error &why) {
+        if (status == NRBPF_POSTED) is_install = true;
+        const tried told = tried_by(status, out, why);
+        if (told) placed(out);
+        return told;
+    }
+    // The answer to an install that found a place.
+    static answer placed(const answer &out) {
+        if (out.reply == NRBPF_REPLY_NO_ROOM) throw no_place(out.point);
+        return out;
     }
 
     // Each calls nrbpf.h, or its `try_` call: nothing if another session was in the way.
@@ -505,13 +531,15 @@ class session {
 
 public:
     session(std::shared_ptr<detail::shared_store> store, nrbpf_session *attached) noexcept : of(std::move(store)), at(attached) {}
-    session(session &&other) noexcept : of(std::move(other.of)), at(std::exchange(other.at, nullptr)), posted(std::move(other.posted)) {}
+    session(session &&other) noexcept
+        : of(std::move(other.of)), at(std::exchange(other.at, nullptr)), posted(std::move(other.posted)), is_install(other.is_install) {}
     session &operator=(session &&other) noexcept {
         if (this != &other) {
             give_back();
             at = std::exchange(other.at, nullptr);
             of = std::move(other.of);
             posted = std::move(other.posted);
+            is_install = other.is_install;
         }
         return *this;
     }
@@ -524,12 +552,12 @@ public:
     answer update(std::uint16_t program, bytes argument = {}) { return *run(nrbpf_update, program, argument); }
     answer read(std::uint16_t program, bytes argument = {}) { return *run(nrbpf_read, program, argument); }
 
-    // Adds a program to the store while it runs. The reply is its number from then on, or NRBPF_REPLY_NO_ROOM if no spare place is left.
+    // Adds a program to the store while it runs. The reply is its number from then on. Throws `no_place` if no spare place is left.
     answer install(mode of_program, std::uint32_t argument_len, bytes code) {
         answer out;
         nrbpf_error why{};
         detail::check(nrbpf_install(idle(), static_cast<std::uint32_t>(of_program), argument_len, code.data(), code.size(), &out, &why), why);
-        return out;
+        return placed(out);
     }
 
     // As `install`, for a program that may name only these maps. If it names another, S8 with V16.
@@ -538,7 +566,7 @@ public:
         nrbpf_error why{};
         const nrbpf_confined program{maps.bits(), static_cast<std::uint32_t>(of_program), argument_len, code.data(), code.size()};
         detail::check(nrbpf_install_within(idle(), &program, &out, &why), why);
-        return out;
+        return placed(out);
     }
 
     // These wait for nobody.
@@ -553,7 +581,7 @@ public:
         nrbpf_error why{};
         const nrbpf_status status =
             nrbpf_try_install(idle(), static_cast<std::uint32_t>(of_program), argument_len, code.data(), code.size(), &out, &why);
-        return tried_by(status, out, why);
+        return tried_to_install(status, out, why);
     }
 
     tried try_install_within(const maps_allowed &maps, mode of_program, std::uint32_t argument_len, bytes code) {
@@ -561,14 +589,17 @@ public:
         nrbpf_error why{};
         const nrbpf_confined program{maps.bits(), static_cast<std::uint32_t>(of_program), argument_len, code.data(), code.size()};
         const nrbpf_status status = nrbpf_try_install_within(idle(), &program, &out, &why);
-        return tried_by(status, out, why);
+        return tried_to_install(status, out, why);
     }
 
     // Continues the update or the install that is posted. Nothing if it is not answered yet.
     std::optional<answer> poll() {
         answer out{};
         const nrbpf_status status = continued(out);
-        return tried_of(status, out) ? std::optional(out) : std::nullopt;
+        if (status == NRBPF_POSTED) return std::nullopt;
+        const bool was_install = std::exchange(is_install, false);
+        detail::check(status);
+        return was_install ? placed(out) : out;
     }
 
     // Polls until the update is answered, and meanwhile what others of the store have posted.

@@ -50,6 +50,17 @@ template <class Call> static void is_refused(Call call, fault wanted, int line) 
     expect(false, "it is refused", line);
 }
 
+#define NO_PLACE(call, wanted_point) has_no_place([&] { (void)(call); }, wanted_point, __LINE__)
+
+template <class Call> static void has_no_place(Call call, std::uint64_t point, int line) {
+    try {
+        call();
+    } catch (const nrbpf::no_place &why) {
+        return expect(why.point() == point && why.status() == NRBPF_OK && why.inner() == 0, "it says where, and no refusal", line);
+    }
+    expect(false, "there is no place", line);
+}
+
 static const std::uint8_t five[] = {0xb7, 0, 0, 0, 5, 0, 0, 0, 0x95, 0, 0, 0, 0, 0, 0, 0}; // replies 5
 static const std::uint8_t nothing_in_r0[] = {0x95, 0, 0, 0, 0, 0, 0, 0};
 static const std::uint8_t names_map_0[] = {0x18, 0x51, 0, 0, 0, 0, 0, 0, 0, 0, 0, 0, 0, 0, 0, 0, 0xb7, 0, 0, 0, 6, 0, 0, 0, 0x95, 0, 0, 0, 0, 0, 0, 0}; // replies 6
@@ -151,7 +162,8 @@ static void installs() {
     ANSWER(it.session.install(nrbpf::mode::read, 0, five), 1, 2);
     ANSWER(it.session.read(2), 2, 5);
     ANSWER(tried(it.session, [&] { return it.session.try_install(nrbpf::mode::read, 0, five); }), 2, 3);
-    ANSWER(it.session.install(nrbpf::mode::read, 0, five), 3, NRBPF_REPLY_NO_ROOM);
+    NO_PLACE(it.session.install(nrbpf::mode::read, 0, five), 3);
+    NO_PLACE(tried(it.session, [&] { return it.session.try_install_within({}, nrbpf::mode::read, 0, five); }), 4);
 }
 
 static void installs_within() {
@@ -221,16 +233,28 @@ static void four_threads() {
     ANSWER(it.session.read(it.peek, bytes_of(third)), 4000, 4000);
 }
 
-// A session tries beside three threads that are in its way: what is posted is made once, and until it is answered nothing else is.
-static void tries_beside_others() {
-    counter it(config(1, 4));
+// Three threads that are in the way of a session of their node.
+struct others {
     std::atomic<bool> is_done{false};
     std::atomic<std::uint64_t> made{0};
     std::vector<std::thread> threads;
-    for (int i = 0; i < 3; i++)
-        threads.emplace_back([session = it.store.attach(), bump = it.bump, &is_done, &made]() mutable {
-            for (int k = 0; !is_done && k < 300000; k++, made++) session.update(bump, bytes_of(third));
-        });
+
+    explicit others(counter &it) {
+        for (int i = 0; i < 3; i++)
+            threads.emplace_back([this, session = it.store.attach(), bump = it.bump]() mutable {
+                for (int k = 0; !is_done && k < 300000; k++, made++) session.update(bump, bytes_of(third));
+            });
+    }
+    void join() {
+        is_done = true;
+        for (auto &thread : threads) thread.join();
+    }
+};
+
+// A session tries next to them: what is posted is made once, and until it is answered nothing else is.
+static void tries_beside_others() {
+    counter it(config(1, 4));
+    others beside(it);
     std::uint64_t mine = 0;
     bool posted = false;
     while (mine < 50000 && !posted) {
@@ -238,14 +262,38 @@ static void tries_beside_others() {
         posted = told.is_posted();
         mine += told || posted;
     }
-    is_done = true;
+    beside.is_done = true;
     if (posted) {
         REFUSED(it.session.read(it.peek, bytes_of(third)), NRBPF_UNANSWERED);
         REFUSED(it.session.try_update(it.bump, bytes_of(third)), NRBPF_UNANSWERED);
         it.session.wait();
     }
-    for (auto &thread : threads) thread.join();
-    ANSWER(it.session.read(it.peek, bytes_of(third)), mine + made, mine + made);
+    beside.join();
+    ANSWER(it.session.read(it.peek, bytes_of(third)), mine + beside.made, mine + beside.made);
+}
+
+// An install that finds no place throws, also if it was posted. An update of the same reply that is posted later doesn't.
+static void no_place_beside_others() {
+    const std::uint8_t replies_7[] = {0xb7, 0, 0, 0, 0xf9, 0xff, 0xff, 0xff, 0x95, 0, 0, 0, 0, 0, 0, 0}; // -7
+    counter it(config(1, 4).with_spare(1));
+    it.session.install(nrbpf::mode::update, 0, replies_7);
+    others beside(it);
+    int thrown = 0;
+    bool posted = false;
+    for (int k = 1; k <= 50000 && !posted; k++) {
+        try {
+            const auto told = it.session.try_install(nrbpf::mode::read, 0, five);
+            EXPECT(!told);
+            posted = told.is_posted();
+            if (posted) it.session.wait();
+        } catch (const nrbpf::no_place &) {
+            thrown++;
+        }
+        EXPECT(thrown > 0 || !posted);
+    }
+    EXPECT(thrown > 0);
+    for (int k = 0; k < 1000; k++) EXPECT(tried(it.session, [&] { return it.session.try_update(2); }).reply == NRBPF_REPLY_NO_ROOM);
+    beside.join();
 }
 
 // ---- States
@@ -503,7 +551,7 @@ static void long_programs() {
         for (std::uint64_t point = 2; point < 200; point += 2) {
             ANSWER(other.read(2), point, 5);
             ANSWER(one.update(3, argument), point, tail);
-            ANSWER(tried(one, [&] { return one.try_install_within({}, nrbpf::mode::read, 0, longest); }), point + 1, NRBPF_REPLY_NO_ROOM);
+            NO_PLACE(tried(one, [&] { return one.try_install_within({}, nrbpf::mode::read, 0, longest); }), point + 1);
         }
         EXPECT(other.program_info(2).slots == 2048 && one.program_info(3).argument_len == 16384);
     }
@@ -694,7 +742,7 @@ static void ends() {
 int main() {
     const std::pair<const char *, void (*)()> tests[] = {
         {"header", header}, {"scans", scans}, {"rows", rows}, {"installs", installs}, {"installs_within", installs_within}, {"tries", tries}, {"gets_and_scans", gets_and_scans}, {"reads_at_one_point", reads_at_one_point},
-        {"four_threads", four_threads}, {"tries_beside_others", tries_beside_others}, {"snapshots", snapshots},
+        {"four_threads", four_threads}, {"tries_beside_others", tries_beside_others}, {"no_place_beside_others", no_place_beside_others}, {"snapshots", snapshots},
         {"snapshots_beside_threads", snapshots_beside_threads}, {"dumps", dumps}, {"stores_go_on", stores_go_on}, {"close_next_to_a_session", close_next_to_a_session},
         {"refused_manifests", refused_manifests}, {"refused_dumps", refused_dumps}, {"refused_calls", refused_calls}, {"limits", limits}, {"long_arguments", long_arguments}, {"long_programs", long_programs}, {"long_installs", long_installs}, {"a_store_tells_what_it_is", a_store_tells_what_it_is}, {"a_store_tells_what_it_has_done", a_store_tells_what_it_has_done}, {"lists", lists}, {"lists_of_threads", lists_of_threads}, {"lists_posted_by_nrbpf_h", lists_posted_by_nrbpf_h}, {"ends", ends}, {"posted_sessions_end", posted_sessions_end},
     };

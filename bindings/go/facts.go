@@ -80,23 +80,23 @@ func (s *Store) Info() (StoreInfo, error) {
 
 // MapInfo is what a map is, counted from 0 as the manifest has them. S9, H2, H3.
 func (s *Session) MapInfo(of uint32) (MapInfo, error) {
-	return s.mapInfo(func(it *C.nrbpf_map_facts) C.nrbpf_status {
+	return s.mapInfo(s.enter, func(it *C.nrbpf_map_facts) C.nrbpf_status {
 		return C.nrbpf_map_info(s.at, C.uint32_t(of), it, C.sizeof_nrbpf_map_facts)
 	})
 }
 
 // TryMapInfo is a MapInfo that waits for nobody: ErrBusy besides.
 func (s *Session) TryMapInfo(of uint32) (MapInfo, error) {
-	return s.mapInfo(func(it *C.nrbpf_map_facts) C.nrbpf_status {
+	return s.mapInfo(s.tryEnter, func(it *C.nrbpf_map_facts) C.nrbpf_status {
 		return C.nrbpf_try_map_info(s.at, C.uint32_t(of), it, C.sizeof_nrbpf_map_facts)
 	})
 }
 
-func (s *Session) mapInfo(call func(*C.nrbpf_map_facts) C.nrbpf_status) (MapInfo, error) {
-	defer s.lock.Unlock()
-	if err := s.enter(); err != nil {
+func (s *Session) mapInfo(enter func() error, call func(*C.nrbpf_map_facts) C.nrbpf_status) (MapInfo, error) {
+	if err := enter(); err != nil {
 		return MapInfo{}, err
 	}
+	defer s.lock.Unlock()
 	var it C.nrbpf_map_facts
 	if err := told(call(&it)); err != nil {
 		return MapInfo{}, err
@@ -109,23 +109,23 @@ func (s *Session) mapInfo(call func(*C.nrbpf_map_facts) C.nrbpf_status) (MapInfo
 
 // ProgramInfo is what the program of a number is. S1, H2, H3.
 func (s *Session) ProgramInfo(program uint16) (ProgramInfo, error) {
-	return s.programInfo(func(it *C.nrbpf_program_facts) C.nrbpf_status {
+	return s.programInfo(s.enter, func(it *C.nrbpf_program_facts) C.nrbpf_status {
 		return C.nrbpf_program_info(s.at, C.uint16_t(program), it, C.sizeof_nrbpf_program_facts)
 	})
 }
 
 // TryProgramInfo is a ProgramInfo that waits for nobody: ErrBusy besides.
 func (s *Session) TryProgramInfo(program uint16) (ProgramInfo, error) {
-	return s.programInfo(func(it *C.nrbpf_program_facts) C.nrbpf_status {
+	return s.programInfo(s.tryEnter, func(it *C.nrbpf_program_facts) C.nrbpf_status {
 		return C.nrbpf_try_program_info(s.at, C.uint16_t(program), it, C.sizeof_nrbpf_program_facts)
 	})
 }
 
-func (s *Session) programInfo(call func(*C.nrbpf_program_facts) C.nrbpf_status) (ProgramInfo, error) {
-	defer s.lock.Unlock()
-	if err := s.enter(); err != nil {
+func (s *Session) programInfo(enter func() error, call func(*C.nrbpf_program_facts) C.nrbpf_status) (ProgramInfo, error) {
+	if err := enter(); err != nil {
 		return ProgramInfo{}, err
 	}
+	defer s.lock.Unlock()
 	var it C.nrbpf_program_facts
 	if err := told(call(&it)); err != nil {
 		return ProgramInfo{}, err
@@ -140,23 +140,23 @@ func (s *Session) programInfo(call func(*C.nrbpf_program_facts) C.nrbpf_status) 
 // Stats is what the store has done, and how far the session's node has come: its first five counts are of one moment of the call. For the other nodes
 // ask a session of each. H2, H3.
 func (s *Session) Stats() (Counts, error) {
-	return s.counts(func(it *C.nrbpf_counts) C.nrbpf_status {
+	return s.counts(s.enter, func(it *C.nrbpf_counts) C.nrbpf_status {
 		return C.nrbpf_stats(s.at, it, C.sizeof_nrbpf_counts)
 	})
 }
 
 // TryStats is a Stats that waits for nobody: ErrBusy besides.
 func (s *Session) TryStats() (Counts, error) {
-	return s.counts(func(it *C.nrbpf_counts) C.nrbpf_status {
+	return s.counts(s.tryEnter, func(it *C.nrbpf_counts) C.nrbpf_status {
 		return C.nrbpf_try_stats(s.at, it, C.sizeof_nrbpf_counts)
 	})
 }
 
-func (s *Session) counts(call func(*C.nrbpf_counts) C.nrbpf_status) (Counts, error) {
-	defer s.lock.Unlock()
-	if err := s.enter(); err != nil {
+func (s *Session) counts(enter func() error, call func(*C.nrbpf_counts) C.nrbpf_status) (Counts, error) {
+	if err := enter(); err != nil {
 		return Counts{}, err
 	}
+	defer s.lock.Unlock()
 	var it C.nrbpf_counts
 	if err := told(call(&it)); err != nil {
 		return Counts{}, err

@@ -48,10 +48,23 @@ func (s *Store) AttachLane(node, slots uint32) (*Lane, error) {
 // Slots is how many updates a list of this lane has at most.
 func (l *Lane) Slots() int { return int(l.slots) }
 
-// enter begins a call, and the caller ends it by giving the lock back.
+// enter begins a call, after those of other goroutines on this lane. Without an error the caller ends it by giving the lock back.
 func (l *Lane) enter() error {
 	l.lock.Lock()
+	return l.entered()
+}
+
+// tryEnter begins a call that waits for nobody: ErrBusy where another goroutine is in a call on this lane.
+func (l *Lane) tryEnter() error {
+	if !l.lock.TryLock() {
+		return ErrBusy
+	}
+	return l.entered()
+}
+
+func (l *Lane) entered() error {
 	if l.at == nil {
+		l.lock.Unlock()
 		return ErrDetached
 	}
 	return nil
@@ -59,10 +72,10 @@ func (l *Lane) enter() error {
 
 // Detach gives the lane back. H2, H3.
 func (l *Lane) Detach() error {
-	defer l.lock.Unlock()
 	if err := l.enter(); err != nil {
 		return err
 	}
+	defer l.lock.Unlock()
 	if err := told(C.nrbpf_detach_lane(l.at)); err != nil {
 		return err
 	}
@@ -80,7 +93,7 @@ func (l *Lane) Close() error { return l.Detach() }
 // Each update is an operation of its own: those of others may stand between two of them. S1 to S3, and then the Slot of an *Error is the number
 // of the first call that is refused, and nothing is asked; H2, H3, H5.
 func (l *Lane) UpdateEach(calls []Question) ([]Outcome, error) {
-	return l.each(calls, func(at *C.nrbpf_question, count C.size_t) C.nrbpf_status {
+	return l.each(l.enter, calls, func(at *C.nrbpf_question, count C.size_t) C.nrbpf_status {
 		return C.nrbpf_update_each(l.at, at, count, &l.outcomes[0], &l.why)
 	})
 }
@@ -88,16 +101,16 @@ func (l *Lane) UpdateEach(calls []Question) ([]Outcome, error) {
 // TryUpdateEach is an UpdateEach that waits for nobody: ErrBusy, and then nothing is asked, or ErrPosted. Then the store has each update, once,
 // and the lane takes no other call but PollEach until that has answered. Other updates of its node may have to wait for it.
 func (l *Lane) TryUpdateEach(calls []Question) ([]Outcome, error) {
-	return l.each(calls, func(at *C.nrbpf_question, count C.size_t) C.nrbpf_status {
+	return l.each(l.tryEnter, calls, func(at *C.nrbpf_question, count C.size_t) C.nrbpf_status {
 		return C.nrbpf_try_update_each(l.at, at, count, &l.outcomes[0], &l.why)
 	})
 }
 
-func (l *Lane) each(calls []Question, call func(*C.nrbpf_question, C.size_t) C.nrbpf_status) ([]Outcome, error) {
-	defer l.lock.Unlock()
-	if err := l.enter(); err != nil {
+func (l *Lane) each(enter func() error, calls []Question, call func(*C.nrbpf_question, C.size_t) C.nrbpf_status) ([]Outcome, error) {
+	if err := enter(); err != nil {
 		return nil, err
 	}
+	defer l.lock.Unlock()
 	at := asked(calls)
 	defer C.free(unsafe.Pointer(at))
 	status := call(at, C.size_t(len(calls)))
@@ -109,10 +122,12 @@ func (l *Lane) each(calls []Question, call func(*C.nrbpf_question, C.size_t) C.n
 
 // PollEach goes on with the list that is posted, and waits for nobody: ErrPosted again, or an outcome for each call. H2, H11.
 func (l *Lane) PollEach() ([]Outcome, error) {
-	defer l.lock.Unlock()
-	if err := l.enter(); err != nil {
+	if err := l.tryEnter(); err == ErrBusy {
+		return nil, ErrPosted
+	} else if err != nil {
 		return nil, err
 	}
+	defer l.lock.Unlock()
 	return l.answered(C.nrbpf_poll_each(l.at, &l.outcomes[0]), l.posted, &C.nrbpf_error{})
 }
 

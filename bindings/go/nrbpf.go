@@ -4,7 +4,8 @@
 // sees to that, so a goroutine that calls often has one of its own. All updates of a store are its history. A point of it is a
 // number of updates: an update is told how many stand before it, and whatever reads is told how many the maps had seen.
 //
-// A call that waits for other sessions keeps its thread of the system meanwhile. Those with Try in their name wait for nobody.
+// A call that waits for other sessions keeps its thread of the system meanwhile. Those with Try in their name, Poll and PollEach wait for nobody:
+// where another goroutine is in a call on the same session, lane or state, a try answers ErrBusy, and a poll ErrPosted.
 //
 // What a call refuses is an error that errors.Is compares with a Status, as in errors.Is(err, nrbpf.ErrFull).
 package nrbpf
@@ -49,7 +50,7 @@ type Config struct {
 // Endless is the limit of a history that has no end.
 const Endless = C.NRBPF_ENDLESS
 
-// NewConfig has the largest window, a history without an end, and no room for programs to be installed.
+// NewConfig has a window of 4096 updates, a history without an end, and no room for programs to be installed.
 func NewConfig(nodes, slots uint32) Config {
 	var config C.nrbpf_config
 	C.nrbpf_config_init(&config, C.NRBPF_VERSION, C.uint32_t(nodes), C.uint32_t(slots))
@@ -99,10 +100,10 @@ func readManifest(read func(string) ([]byte, error), path string) (Manifest, err
 		if err != nil {
 			break
 		}
-		if strings.HasPrefix(line, "program ") {
-			name := line[strings.LastIndexByte(line, ' ')+1:]
-			text, err = read(name)
-			m.Files[name] = string(text)
+		// (any other line names no file: it is for Open to refuse)
+		if words := strings.Split(line, " "); len(words) == 5 && words[0] == "program" && words[4] != "" {
+			text, err = read(words[4])
+			m.Files[words[4]] = string(text)
 		}
 	}
 	return m, err

@@ -245,6 +245,41 @@ func TestPosted(t *testing.T) {
 	must(0, store.Close())
 }
 
+// An install that finds no place is an error, also if it was posted. An update of the same reply that is posted later is none.
+func TestNoPlaceBesideOthers(t *testing.T) {
+	config := nrbpf.NewConfig(1, 4)
+	config.Spare = 1
+	store := must(nrbpf.Open(config, manifest("counter")))
+	session := must(store.Attach(0))
+	replies7 := must(hex.DecodeString("b7000000f9ffffff" + "9500000000000000")) // -7
+	must(session.Install(nrbpf.ModeUpdate, 0, replies7))
+	var made uint64
+	var stopped int32
+	var others sync.WaitGroup
+	for range [3]int{} {
+		others.Add(1)
+		go count(must(store.Attach(0)), &made, &stopped, others.Done)
+	}
+	for posted, until := false, time.Now().Add(10*time.Second); !posted && time.Now().Before(until); {
+		_, err := session.TryInstall(nrbpf.ModeRead, 0, fiveProgram)
+		posted = errors.Is(err, nrbpf.ErrPosted)
+		for errors.Is(err, nrbpf.ErrPosted) {
+			_, err = session.Poll()
+		}
+		if !errors.Is(err, nrbpf.ErrBusy) {
+			same(t, "no place left", errors.Is(err, nrbpf.ErrNoPlace), true)
+		}
+	}
+	for range [1000]int{} {
+		update := must(answered(session, func() (nrbpf.Answer, error) { return session.TryUpdate(2, nil) }))
+		same(t, "an update", update.Reply, nrbpf.ReplyNoRoom)
+	}
+	atomic.StoreInt32(&stopped, 1)
+	others.Wait()
+	must(0, session.Detach())
+	must(0, store.Close())
+}
+
 // count makes updates until it is stopped, and says how many.
 func count(session *nrbpf.Session, made *uint64, stopped *int32, over func()) {
 	defer over()
@@ -267,7 +302,13 @@ func TestInstall(t *testing.T) {
 	same(t, "no program yet", must(session.Update(2, nil)), nrbpf.Answer{Point: 0, Reply: nrbpf.ReplyInvalid})
 	same(t, "an install", must(session.Install(nrbpf.ModeRead, 0, fiveProgram)), nrbpf.Answer{Point: 1, Reply: 2})
 	same(t, "a call of it", must(session.Read(2, nil)), nrbpf.Answer{Point: 2, Reply: 5})
-	same(t, "no place left", must(session.Install(nrbpf.ModeRead, 0, fiveProgram)).Reply, nrbpf.ReplyNoRoom)
+	for point := uint64(2); point < 100; point += 2 {
+		answer, err := session.Install(nrbpf.ModeRead, 0, fiveProgram)
+		same(t, "no place left", errors.Is(err, nrbpf.ErrNoPlace), true)
+		same(t, "its answer", answer, nrbpf.Answer{Point: point, Reply: nrbpf.ReplyNoRoom})
+		_, err = answered(session, func() (nrbpf.Answer, error) { return session.TryInstallWithin(nil, nrbpf.ModeRead, 0, fiveProgram) })
+		same(t, "no place left", errors.Is(err, nrbpf.ErrNoPlace), true)
+	}
 
 	refused(t, last(session.Install(2, 0, fiveProgram)), nrbpf.ErrBadCall)
 	refused(t, last(session.Install(nrbpf.ModeRead, 65, fiveProgram)), nrbpf.ErrTooLarge)
@@ -393,4 +434,13 @@ func TestRefusedManifests(t *testing.T) {
 	refused(t, last(nrbpf.Open(config, good)), nrbpf.ErrOutOfLimits)
 	_, err := nrbpf.ReadManifest("examples/none/manifest")
 	refused(t, err, os.ErrNotExist)
+}
+
+// A line that has not five words names no file. So the manifest is read, and the line is refused when a store opens.
+func TestBadLinesNameNoFile(t *testing.T) {
+	for _, line := range []string{"program ", "program gone", "program gone update 0 ", "program gone update 0 gone.hex ", "program gone update 0 gone hex"} {
+		files := fstest.MapFS{"manifest": &fstest.MapFile{Data: []byte("map array 8 1\n" + line + "\n")}}
+		read := must(nrbpf.ReadManifestFS(files, "manifest"))
+		same(t, line, refused(t, last(nrbpf.Open(nrbpf.NewConfig(1, 1), read)), nrbpf.ErrBadLine).Line, 2)
+	}
 }

@@ -15,23 +15,23 @@ type Found struct {
 // Get looks for a key of a map, counted from 0 as the manifest has them, and writes its value into `value`, which is as long as the map's.
 // S9, S11, S12, H2, H3.
 func (s *Session) Get(of uint32, key, value []byte) (Found, error) {
-	return s.get(func(found *C.nrbpf_found) C.nrbpf_status {
+	return s.get(s.enter, func(found *C.nrbpf_found) C.nrbpf_status {
 		return C.go_get(s.at, C.uint32_t(of), first(key), size(key), first(value), size(value), found)
 	})
 }
 
 // TryGet is a Get that waits for nobody: ErrBusy besides.
 func (s *Session) TryGet(of uint32, key, value []byte) (Found, error) {
-	return s.get(func(found *C.nrbpf_found) C.nrbpf_status {
+	return s.get(s.tryEnter, func(found *C.nrbpf_found) C.nrbpf_status {
 		return C.go_try_get(s.at, C.uint32_t(of), first(key), size(key), first(value), size(value), found)
 	})
 }
 
-func (s *Session) get(call func(*C.nrbpf_found) C.nrbpf_status) (Found, error) {
-	defer s.lock.Unlock()
-	if err := s.enter(); err != nil {
+func (s *Session) get(enter func() error, call func(*C.nrbpf_found) C.nrbpf_status) (Found, error) {
+	if err := enter(); err != nil {
 		return Found{}, err
 	}
+	defer s.lock.Unlock()
 	var found C.nrbpf_found
 	if err := told(call(&found)); err != nil {
 		return Found{}, err
@@ -53,23 +53,23 @@ const End uint32 = C.NRBPF_END
 // at no more than 1,024 places of the map, and 16 for each entry there is room for, so it may give none and have a place to go on from. Pages
 // may be of several points of the history, a snapshot is of one. S9, S10, H2, H3.
 func (s *Session) Scan(of, from uint32, keys, values []byte) (Scanned, error) {
-	return s.scan(func(page *C.nrbpf_scanned) C.nrbpf_status {
+	return s.scan(s.enter, func(page *C.nrbpf_scanned) C.nrbpf_status {
 		return C.go_scan(s.at, C.uint32_t(of), C.uint32_t(from), first(keys), size(keys), first(values), size(values), page)
 	})
 }
 
 // TryScan is a Scan that waits for nobody: ErrBusy besides.
 func (s *Session) TryScan(of, from uint32, keys, values []byte) (Scanned, error) {
-	return s.scan(func(page *C.nrbpf_scanned) C.nrbpf_status {
+	return s.scan(s.tryEnter, func(page *C.nrbpf_scanned) C.nrbpf_status {
 		return C.go_try_scan(s.at, C.uint32_t(of), C.uint32_t(from), first(keys), size(keys), first(values), size(values), page)
 	})
 }
 
-func (s *Session) scan(call func(*C.nrbpf_scanned) C.nrbpf_status) (Scanned, error) {
-	defer s.lock.Unlock()
-	if err := s.enter(); err != nil {
+func (s *Session) scan(enter func() error, call func(*C.nrbpf_scanned) C.nrbpf_status) (Scanned, error) {
+	if err := enter(); err != nil {
 		return Scanned{}, err
 	}
+	defer s.lock.Unlock()
 	var page C.nrbpf_scanned
 	if err := told(call(&page)); err != nil {
 		return Scanned{}, err
@@ -89,23 +89,23 @@ const MostQuestions = C.NRBPF_MOST_QUESTIONS
 // ReadEach answers up to 16 reads at one point, and tells it. With none it brings the session's node up to what is completed. S1 to S3, and
 // then the Slot of an *Error is the question's number; H2, H3, H5.
 func (s *Session) ReadEach(questions []Question) (replies []uint64, point uint64, err error) {
-	return s.readEach(questions, func(at *C.nrbpf_question, count C.size_t, replies, point *C.uint64_t) C.nrbpf_status {
+	return s.readEach(s.enter, questions, func(at *C.nrbpf_question, count C.size_t, replies, point *C.uint64_t) C.nrbpf_status {
 		return C.nrbpf_read_each(s.at, at, count, replies, point, &s.why)
 	})
 }
 
 // TryReadEach is a ReadEach that waits for nobody: ErrBusy besides.
 func (s *Session) TryReadEach(questions []Question) (replies []uint64, point uint64, err error) {
-	return s.readEach(questions, func(at *C.nrbpf_question, count C.size_t, replies, point *C.uint64_t) C.nrbpf_status {
+	return s.readEach(s.tryEnter, questions, func(at *C.nrbpf_question, count C.size_t, replies, point *C.uint64_t) C.nrbpf_status {
 		return C.nrbpf_try_read_each(s.at, at, count, replies, point, &s.why)
 	})
 }
 
-func (s *Session) readEach(questions []Question, call func(*C.nrbpf_question, C.size_t, *C.uint64_t, *C.uint64_t) C.nrbpf_status) ([]uint64, uint64, error) {
-	defer s.lock.Unlock()
-	if err := s.enter(); err != nil {
+func (s *Session) readEach(enter func() error, questions []Question, call func(*C.nrbpf_question, C.size_t, *C.uint64_t, *C.uint64_t) C.nrbpf_status) ([]uint64, uint64, error) {
+	if err := enter(); err != nil {
 		return nil, 0, err
 	}
+	defer s.lock.Unlock()
 	at := asked(questions)
 	defer C.free(unsafe.Pointer(at))
 	room := make([]uint64, len(questions)+1)

@@ -268,7 +268,9 @@ func TestLongPrograms(t *testing.T) {
 	same(t, "its slots", must(other.ProgramInfo(2)).Facts.Slots, 2_048)
 	same(t, "its argument", must(other.ProgramInfo(3)).Facts.ArgumentLen, 16_384)
 	for turn := uint64(0); turn < 100; turn++ {
-		same(t, "no room", must(one.Install(nrbpf.ModeRead, 0, fiveIn(2_048))), nrbpf.Answer{Point: 3 + 2*turn, Reply: nrbpf.ReplyNoRoom})
+		none, err := one.Install(nrbpf.ModeRead, 0, fiveIn(2_048))
+		same(t, "no place", errors.Is(err, nrbpf.ErrNoPlace), true)
+		same(t, "no room", none, nrbpf.Answer{Point: 3 + 2*turn, Reply: nrbpf.ReplyNoRoom})
 		same(t, "a call", must(other.Update(3, argument)), nrbpf.Answer{Point: 4 + 2*turn, Reply: 7 << 56})
 	}
 	must(0, one.Detach())

@@ -102,21 +102,26 @@ func nrbpfGoWrite(to C.uintptr_t, bytes *C.char, length C.size_t) C.int {
 // Snapshot makes a state the store's at one point of the history, which has all updates that were answered when the call began, and tells
 // the point. Other sessions go on; those of this session's node wait while the maps are copied. H2, H3, H9.
 func (s *Session) Snapshot(into *State) (point uint64, err error) {
-	return s.snapshot(into, func(point *C.uint64_t) C.nrbpf_status { return C.nrbpf_snapshot(s.at, into.at, point) })
+	into.lock.Lock()
+	defer into.lock.Unlock()
+	return s.snapshot(s.enter, into, func(point *C.uint64_t) C.nrbpf_status { return C.nrbpf_snapshot(s.at, into.at, point) })
 }
 
 // TrySnapshot is a Snapshot that waits for nobody: ErrBusy besides, and then the state is as it was.
 func (s *Session) TrySnapshot(into *State) (point uint64, err error) {
-	return s.snapshot(into, func(point *C.uint64_t) C.nrbpf_status { return C.nrbpf_try_snapshot(s.at, into.at, point) })
+	if !into.lock.TryLock() {
+		return 0, ErrBusy
+	}
+	defer into.lock.Unlock()
+	return s.snapshot(s.tryEnter, into, func(point *C.uint64_t) C.nrbpf_status { return C.nrbpf_try_snapshot(s.at, into.at, point) })
 }
 
-func (s *Session) snapshot(into *State, call func(*C.uint64_t) C.nrbpf_status) (uint64, error) {
-	defer s.lock.Unlock()
-	if err := s.enter(); err != nil {
+// snapshot has the state's lock. That comes before the session's: a dump has it too, while its writer may call on the session.
+func (s *Session) snapshot(enter func() error, into *State, call func(*C.uint64_t) C.nrbpf_status) (uint64, error) {
+	if err := enter(); err != nil {
 		return 0, err
 	}
-	into.lock.Lock()
-	defer into.lock.Unlock()
+	defer s.lock.Unlock()
 	if into.at == nil {
 		return 0, ErrClosed
 	}

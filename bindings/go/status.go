@@ -19,7 +19,7 @@ func (s Status) Error() string { return C.GoString(C.nrbpf_status_text(C.nrbpf_s
 
 // Two statuses of the calls with Try in their name, which refuse nothing.
 const (
-	ErrBusy   Status = C.NRBPF_BUSY   // another session was in the way, and nothing is asked: call again, or let it be
+	ErrBusy   Status = C.NRBPF_BUSY   // another session, or another goroutine on this one, was in the way, and nothing is asked: call again, or let it be
 	ErrPosted Status = C.NRBPF_POSTED // the update is posted and not yet answered: Poll goes on with it
 )
 
@@ -78,12 +78,15 @@ const (
 	ErrNotUTF8       Status = C.NRBPF_NOT_UTF8       // H4: a text is not UTF-8
 	ErrBadCall       Status = C.NRBPF_BAD_CALL       // H5: no such mode, a list that is too long, or a lane of no or more than 16 slots
 	ErrOtherVersion  Status = C.NRBPF_OTHER_VERSION  // H8: this package was compiled with a header that the library does not know
-	ErrOtherSizes    Status = C.NRBPF_OTHER_SIZES    // H9: the state has other maps, or another number of places, than the store
+	ErrOtherSizes    Status = C.NRBPF_OTHER_SIZES    // H9: the state has other maps, another number of places or other LongBytes than the store
 	ErrNothingPosted Status = C.NRBPF_NOTHING_POSTED // H11: no update is posted on this session or lane
 )
 
 // ErrClosed is told of a store that was closed and of a state that was freed.
 var ErrClosed = errors.New("nrbpf: it is closed")
+
+// ErrNoPlace is told of an install that found no free place. It is in the history, at the Point of its Answer, and did nothing.
+var ErrNoPlace = errors.New("nrbpf: there is no free place for the program")
 
 // Error is a refusal that says more than its status. What does not apply is 0. errors.Is compares it with its status, and with what is
 // wrong with the program.

@@ -6,12 +6,12 @@ use std::process::Command;
 
 const TO_DO: &str = "install nrbpf (libnrbpf-dev), set PKG_CONFIG_PATH to the folder of nrbpf.pc, or NRBPF_LIB_DIR to that of libnrbpf.a";
 
-/// The folders that pkg-config names for version 2, from 2.6 on. If it names none the linker may still find the library, so the build goes on with a warning.
+/// The folders that pkg-config names for version 2, from 2.7 on. If it names none the linker may still find the library, so the build goes on with a warning.
 fn folders() -> String {
     let pkg_config = env::var("PKG_CONFIG").unwrap_or_else(|_| "pkg-config".to_owned());
-    match Command::new(&pkg_config).args(["--libs-only-L", "nrbpf >= 2.6", "nrbpf < 3"]).output() {
+    match Command::new(&pkg_config).args(["--libs-only-L", "nrbpf >= 2.7", "nrbpf < 3"]).output() {
         Ok(found) if found.status.success() => return String::from_utf8_lossy(&found.stdout).into_owned(),
-        Ok(_) => println!("cargo:warning={pkg_config} finds no nrbpf of version 2.6 or a later 2: {TO_DO}"),
+        Ok(_) => println!("cargo:warning={pkg_config} finds no nrbpf of version 2.7 or a later 2: {TO_DO}"),
         Err(why) => println!("cargo:warning={pkg_config} can't be called ({why}), so nrbpf is looked for where the linker looks: {TO_DO}"),
     }
     String::new()

@@ -1,10 +1,14 @@
 // check.c: checks the C of embed/, which is trusted, in every way within bounds. It compiles that C as it is, and puts it on a stand-in for the proved library
-// (contract.c). A host makes calls (host.c), and a model of nrbpf.h says what each must answer.
+// (contract.c), which compares each word and byte that arrives with what the host gave. A host makes calls (host.c, openings.c, nulls.c), and a model of
+// nrbpf.h says what each must answer and write.
 //
 //     check calls COUNT [BEGINNING]  each sequence of so many calls, after each of nine beginnings or the one of this number, with each answer of the
 //                                    stand-in; once in each of the shortest runs memory is refused
 //     check random SEED RUNS COUNT   so many random sequences of at most so many calls
 //     check threads SWITCHES MOST    at most so many interleavings of each scenario below, with at most so many forced switches
+//     check once                     openings with each word, text and version of a list, a store of 8 nodes with 16 sessions, each null pointer, and each text
+//
+// A store has 2 sessions, except the large one of `once`. Of refusals that the C passes on alike the stand-in answers with one or some.
 //
 // A thread is switched at each lock, unlock and yield, and before and after each call of the stand-in. Where it waits, a switch is not forced. So a data race
 // between two of these points is not seen: that is for ThreadSanitizer (embed/hosts/handles.c). Of a posted update the stand-in never answers BUSY, and of
@@ -79,6 +83,7 @@ static void come_and_go(void) {
             continue;
         }
         ready(0);
+        last.call = NRBPF_RAW_READ;
         last.program = PROGRAM;
         const nrbpf_status told = nrbpf_try_read(session, PROGRAM, NULL, 0, &answer);
         NEED(told != NRBPF_H2 && told != NRBPF_H3, "a new session answers %x", told);
@@ -144,6 +149,7 @@ enum { SCENARIOS = sizeof scenarios / sizeof scenarios[0] };
 static void run_scenario(const struct scenario *it, int switches) {
     const nrbpf_file file = {"a", 1, "95", 2};
     ready(0);
+    ask_to_open(&sizes, "m", 1, &file, 1);
     EXPECT(nrbpf_open(&sizes, "m", 1, &file, 1, &store, NULL), 0, "open");
     if (it->has_session) EXPECT(nrbpf_attach(store, 0, &shared), 0, "attach");
     if (it->has_lane) EXPECT(nrbpf_attach_lane(store, 0, 2, &shared_lane), 0, "attach_lane");
@@ -179,6 +185,18 @@ static void check_randomly(uint64_t seed, unsigned long most, unsigned count) {
     }
 }
 
+static void check_once(void) {
+    void (*const checks[])(void) = {run_openings, run_nulls};
+    is_willing = 1;
+    for (size_t k = 0; k < sizeof checks / sizeof checks[0]; k++) {
+        choose_exhaustively();
+        do {
+            begin_run();
+            checks[k]();
+        } while (has_next_run());
+    }
+}
+
 static void check_threads(int switches, unsigned long most) {
     is_willing = 1;
     for (size_t k = 0; k < SCENARIOS; k++) {
@@ -199,8 +217,10 @@ int main(int count, char **words) {
         check_randomly(strtoull(words[2], NULL, 10), strtoul(words[3], NULL, 10), (unsigned)strtoul(words[4], NULL, 10));
     } else if (count == 4 && strcmp(words[1], "threads") == 0) {
         check_threads((int)strtol(words[2], NULL, 10), strtoul(words[3], NULL, 10));
+    } else if (count == 2 && strcmp(words[1], "once") == 0) {
+        check_once();
     } else {
-        fprintf(stderr, "check calls COUNT [BEGINNING] | check random SEED RUNS COUNT | check threads SWITCHES MOST\n");
+        fprintf(stderr, "check calls COUNT [BEGINNING] | check random SEED RUNS COUNT | check threads SWITCHES MOST | check once\n");
         return 2;
     }
     printf("%s: %lu runs with %lu calls answer as nrbpf.h says\n", words[1], runs, host_calls);

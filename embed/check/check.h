@@ -60,16 +60,22 @@ struct last {
     uint64_t status, inner, slot, line, point, reply, count, next;
     const uint8_t *bytes;                       // what the host lent: it must arrive as it is
     size_t length;
-    uint64_t program, mode, argument, maps, map, from; // and the words
+    uint64_t call, program, mode, argument, maps, map, from; // and the words
+    const struct nrbpf_raw_opening *opening;    // and what it opens or loads
+    uint64_t limit;                             // what the stand-in said of a store
     unsigned full;                              // of a list: which outcomes are S4: none, the first, all
 };
 extern struct last last;
 // Whether no opening is refused.
 extern int is_willing;
-// How many blocks of memory the stand-in has.
+// How many blocks of memory the stand-in has, and how often a call has come to it.
 extern int blocks;
+extern unsigned long entries;
 
 enum { FILLED = 0x100 };                        // word k of what a map, a program or a store is has this and k
+// Writes bytes that differ from their neighbours: byte k of a row is first + (from + k) % 251. The rows are the text of a dump, from 0, and what a scan gives.
+enum { KEYS = 1, VALUES = 2 };
+void number(uint8_t *out, uint8_t first, size_t from, size_t count);
 
 // ---- host.c
 
@@ -81,5 +87,17 @@ void ready(unsigned waits);
 void lend(const void *bytes, size_t length);
 // Opens a store, by this beginning or if it is below 0 by any, makes so many calls, and ends all.
 void run_calls(unsigned count, int beginning);
+
+// ---- openings.c
+
+// Says that a call opens or loads this. Not more than 2 files.
+void ask_to_open(const nrbpf_config *config, const char *manifest, size_t length, const nrbpf_file *files, size_t count);
+// Opens and loads with each configuration, header and text of a list, and a store of 8 nodes with 16 sessions.
+void run_openings(void);
+
+// ---- nulls.c
+
+// Makes each call with each null pointer, and asks for each text.
+void run_nulls(void);
 
 #endif

@@ -1,6 +1,6 @@
-// contract.c: a stand-in for the proved library. It gives any answer that nrbpf_raw.h allows, by a choice, and fails if its caller breaks what nrbpf_raw.h
-// asks for: a null pointer, a handle that is moved, not open, or written over while it is open, two calls at once on a handle, bytes or words that the host
-// did not give, results that overlap what is read, or another call than the posted one.
+// contract.c: a stand-in for the proved library. It answers with each status that the C treats in its own way, by a choice, and fails if its caller breaks
+// what nrbpf_raw.h asks for: a null pointer, a handle that is moved, not open, or written over while it is open, two calls at once on a handle, bytes or
+// words that the host did not give, results that overlap what is read, or another call than the posted one.
 #include "check.h"
 #include <stdlib.h>
 #include <string.h>
@@ -58,6 +58,7 @@ struct text {
 
 struct last last;
 int is_willing, blocks;
+unsigned long entries;
 
 static void *some_memory(void) {
     blocks++;
@@ -78,6 +79,7 @@ static const void *used[MOST_USED];             // the handles that a call has n
 static void enter(const void *handle) {
     const void **room = NULL;
     NEED(handle && (uintptr_t)handle % sizeof(uint64_t) == 0, "no handle, or one that is not aligned");
+    entries++;
     for (int i = 0; i < MOST_USED; i++) {
         NEED(used[i] != handle, "two calls at once on a handle");
         if (!used[i]) room = &used[i];
@@ -209,15 +211,48 @@ static void answer(struct nrbpf_raw_session *session, uint64_t status) {
     }
 }
 
+// Writes bytes that differ from their neighbours: byte k of a row is first + (from + k) % 251.
+void number(uint8_t *out, uint8_t first, size_t from, size_t count) {
+    unsigned at = (unsigned)(from % 251);
+    for (size_t k = 0; k < count; k++) {
+        out[k] = (uint8_t)(first + at);
+        at = at == 250 ? 0 : at + 1;
+    }
+}
+
 // ---- Stores and states
 
+static void are_bytes(struct nrbpf_raw_bytes bytes, struct nrbpf_raw_bytes wanted, const char *what) {
+    NEED(bytes.at, "a null pointer to a %s", what);
+    NEED(bytes.length == wanted.length && (wanted.length == 0 || memcmp(bytes.at, wanted.at, wanted.length) == 0), "another %s arrives", what);
+}
+
+static void read_limits(const struct nrbpf_raw_limits *limits, const struct nrbpf_raw_limits *wanted) {
+    EXPECT(limits->key, wanted->key, "another limit of a key arrives");
+    EXPECT(limits->value, wanted->value, "another limit of a value arrives");
+    EXPECT(limits->entries, wanted->entries, "another limit of entries arrives");
+    EXPECT(limits->bytes, wanted->bytes, "another limit of bytes arrives");
+    EXPECT(limits->argument, wanted->argument, "another limit of an argument arrives");
+}
+
+// Reads what is opened or loaded: each word and text is the host's.
 static void read_opening(const struct nrbpf_raw_opening *opening) {
-    read_bytes(opening->manifest);
+    const struct nrbpf_raw_opening *const wanted = last.opening;
+    NEED(wanted, "an opening arrives that the host did not ask for");
+    are_bytes(opening->manifest, wanted->manifest, "manifest");
     NEED(opening->files, "a null pointer to files");
+    EXPECT(opening->count, wanted->count, "another number of files arrives");
     for (size_t i = 0; i < opening->count; i++) {
-        read_bytes(opening->files[i].name);
-        read_bytes(opening->files[i].text);
+        are_bytes(opening->files[i].name, wanted->files[i].name, "name of a file");
+        are_bytes(opening->files[i].text, wanted->files[i].text, "file");
     }
+    EXPECT(opening->nodes, wanted->nodes, "other nodes arrive");
+    EXPECT(opening->slots, wanted->slots, "other slots arrive");
+    EXPECT(opening->window, wanted->window, "another window arrives");
+    EXPECT(opening->limit, wanted->limit, "another limit arrives");
+    EXPECT(opening->spare, wanted->spare, "other spare places arrive");
+    EXPECT(opening->long_bytes, wanted->long_bytes, "other long_bytes arrive");
+    read_limits(&opening->limits, &wanted->limits);
 }
 
 static void open_with(const struct nrbpf_raw_opening *opening, struct nrbpf_raw_store *at, uint64_t status) {
@@ -353,7 +388,9 @@ void nrbpf_raw_part(struct nrbpf_raw_text *at, uint8_t *out, size_t room) {
     NEED(room >= LINE, "no room for a part");
     at->length = text->parts == 0 ? 0 : text->parts == 2 ? room : PART;
     text->parts -= text->parts > 0;
-    memset(out, 'x', room);
+    memset(out, 0xcc, room);
+    number(out, 0, last.count, at->length);
+    last.count += at->length;
     leave(at);
 }
 
@@ -432,6 +469,7 @@ void nrbpf_raw_detach(struct nrbpf_raw_store *at, struct nrbpf_raw_session *at_s
 static uint64_t post_or_poll(struct session *session, const uint8_t *bytes, size_t length) {
     const struct nrbpf_raw_session *const words = &session->words;
     if (session->is_posted) return POLL(0, S(4));
+    EXPECT(words->call, last.call, "another call arrives");
     are_lent(bytes, length);
     if (words->call == NRBPF_RAW_UPDATE) {
         NEED(words->program == last.program, "another program arrives");
@@ -449,6 +487,7 @@ void nrbpf_raw_call(struct nrbpf_raw_session *at, const uint8_t *bytes, size_t l
     NEED(at->call <= NRBPF_RAW_INSTALL_WITHIN, "a word is no call's");
     if (at->call == NRBPF_RAW_READ) {
         NEED(!session->is_posted, "a read next to a posted update");
+        EXPECT(at->call, last.call, "another call arrives");
         NEED(at->program == last.program, "another program arrives");
         are_lent(bytes, length);
         answer(at, LOOK(0, S(1), S(2), S(3)));
@@ -475,7 +514,7 @@ void nrbpf_raw_get(struct nrbpf_raw_session *at, uint32_t map, const uint8_t *ke
     are_apart(key, key_length, value, value_length);
     if (last.length <= MOST_KEY) are_lent(key, key_length);
     else NEED(key_length > MOST_KEY, "a part of a long key arrives");
-    answer(at, LOOK(0, S(9), S(11), S(12)));
+    answer(at, key_length > MOST_KEY ? LOOK(S(9), S(11)) : LOOK(0, S(9), S(11), S(12)));
     if (at->status == 0) {
         at->count = last.count = choose(2);
         if (last.count) memset(value, 0x77, value_length);
@@ -490,8 +529,8 @@ void nrbpf_raw_scan(struct nrbpf_raw_session *at, uint32_t map, uint32_t from, u
     NEED(keys && values, "a null pointer to a room");
     answer(at, LOOK(0, S(9), S(10)));
     if (at->status == 0) {
-        memset(keys, 0x77, keys_room);
-        memset(values, 0x77, values_room);
+        number(keys, KEYS, 0, keys_room);
+        number(values, VALUES, 0, values_room);
         at->count = last.count = 2;
         at->next = last.next = choose(2) ? NRBPF_RAW_END : 0xfffffffeu;
     }
@@ -552,7 +591,7 @@ void nrbpf_raw_store_info(struct nrbpf_raw_store *at, struct nrbpf_raw_facts *wo
     sessions_of(at);
     at->status = last.status = 0;
     fill(words, 0, sizeof *words);
-    words->limit = choose(2) ? (uint64_t)1 << 62 : FILLED;
+    words->limit = last.limit = choose(2) ? (uint64_t)1 << 62 : FILLED;
     leave(at);
 }
 

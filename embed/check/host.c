@@ -24,7 +24,8 @@ static int is_dumped;                           // whether the state is in a dum
 static nrbpf_state *state;
 
 nrbpf_store *store;
-const nrbpf_config sizes = NRBPF_CONFIG(1, SESSIONS);
+// (no two numbers are the same: a word that arrives as another is found)
+const nrbpf_config sizes = {NRBPF_VERSION, 1, SESSIONS, 0x31, 0x32, 0x33, {0x34, 0x35, 0x36, 0x37, 0x38}, 0x39};
 static const nrbpf_error unwritten = {0xe1, 0xe2, 0xe3, 0xe4};
 
 void ready(unsigned waits) {
@@ -63,6 +64,7 @@ static int open_store(int is_on) {
     nrbpf_store *const none = (nrbpf_store *)&why;
     store = none;
     ready(0);
+    ask_to_open(&sizes, manifest, 5, files, 2);
     last.status = NRBPF_O2;
     note(is_on ? "open_on" : "open");
     const nrbpf_status told = is_on ? nrbpf_open_on(&sizes, manifest, 5, files, 2, state, &store, &why)
@@ -91,6 +93,7 @@ static int load_state(void) {
     nrbpf_state *out = NULL;
     ready(0);
     lend(text, 3);
+    ask_to_open(&sizes, "m", 1, &file, 1);
     last.status = NRBPF_E0;
     note("load");
     const nrbpf_status told = nrbpf_state_load(&sizes, "m", 1, &file, 1, text, 3, &out, &why);
@@ -193,15 +196,18 @@ struct call {
 
 static void call_update(struct call *call) {
     call->is_posting = 1;
+    last.call = NRBPF_RAW_UPDATE;
     call->told = (call->waits ? nrbpf_update : nrbpf_try_update)(call->session, PROGRAM, call->bytes, call->length, &call->out.answer);
 }
 
 static void call_read(struct call *call) {
+    last.call = NRBPF_RAW_READ;
     call->told = (call->waits ? nrbpf_read : nrbpf_try_read)(call->session, PROGRAM, call->bytes, call->length, &call->out.answer);
 }
 
 static void call_install(struct call *call) {
     call->is_posting = call->has_why = 1;
+    last.call = NRBPF_RAW_INSTALL;
     last.mode = choose(3);
     last.argument = UINT32_MAX;
     call->told = (call->waits ? nrbpf_install : nrbpf_try_install)(call->session, (uint32_t)last.mode, UINT32_MAX, call->bytes, call->length, &call->out.answer,
@@ -211,6 +217,7 @@ static void call_install(struct call *call) {
 static void call_install_within(struct call *call) {
     const nrbpf_confined program = {0x8001, NRBPF_MODE_READ, 9, call->bytes, call->length};
     call->is_posting = call->has_why = 1;
+    last.call = NRBPF_RAW_INSTALL_WITHIN;
     last.maps = program.maps;
     last.mode = program.mode;
     last.argument = program.argument_len;
@@ -224,14 +231,21 @@ static void call_poll(struct call *call) {
     call->told = nrbpf_poll(call->session, &call->out.answer);
 }
 
-// (the value may be written where the key is)
+// (the value may be written where the key is; a key may be as long as the longest, longer, or very long)
 static void call_get(struct call *call) {
+    enum { LONGEST = 300 };
+    static const size_t lengths[] = {3, 64, 65, LONGEST};
     static const uint8_t found[] = {0x77, 0x77, 0x77, 0x77}, before[] = {1, 2, 3, 4};
-    uint8_t *const value = malloc(sizeof before);
+    uint8_t *const value = malloc(sizeof before), *const key = malloc(LONGEST);
     memcpy(value, before, sizeof before);
+    number(key, KEYS, 0, LONGEST);
     if (call->form == OWN_BYTES) {
         call->bytes = value;
         lend(before, call->length);
+    } else if (call->form == BYTES_OF_ANSWER && choose(2)) {
+        call->length = lengths[choose(sizeof lengths / sizeof lengths[0])];
+        call->bytes = key + LONGEST - call->length;
+        lend(call->bytes, call->length);
     }
     const int has_room = call->form != NO_BYTES;
     call->told = (call->waits ? nrbpf_get : nrbpf_try_get)(call->session, (uint32_t)last.map, call->bytes, call->length, has_room ? value : NULL,
@@ -243,15 +257,26 @@ static void call_get(struct call *call) {
         EXPECT(call->out.found.is_there, last.count, "get: is_there");
     }
     free(value);
+    free(key);
+}
+
+// What a scan gave: numbered bytes, or those that were there before.
+static void expect_row(const uint8_t *at, uint8_t first, size_t room, int is_given) {
+    for (size_t k = 0; k < room; k++) EXPECT(at[k], is_given ? first + k : UNWRITTEN, "scan: byte %zu of the row from %d", k, (int)first);
 }
 
 static void call_scan(struct call *call) {
-    enum { ROOM = 8 };
-    uint8_t *const keys = malloc(ROOM), *const values = malloc(ROOM);
+    enum { KEYS_ROOM = 8, VALUES_ROOM = 12 };
+    uint8_t *const keys = malloc(KEYS_ROOM), *const values = malloc(VALUES_ROOM);
     const int has_keys = call->form != NO_BYTES, has_values = call->form == BYTES_OF_ANSWER;
+    memset(keys, UNWRITTEN, KEYS_ROOM);
+    memset(values, UNWRITTEN, VALUES_ROOM);
     last.from = 0xfffffffe;
     call->told = (call->waits ? nrbpf_scan : nrbpf_try_scan)(call->session, (uint32_t)last.map, (uint32_t)last.from, has_keys ? keys : NULL,
-                                                             has_keys ? ROOM : 0, has_values ? values : NULL, has_values ? ROOM : 0, &call->out.scanned);
+                                                             has_keys ? KEYS_ROOM : 0, has_values ? values : NULL, has_values ? VALUES_ROOM : 0,
+                                                             &call->out.scanned);
+    expect_row(keys, KEYS, KEYS_ROOM, has_keys && call->told == 0);
+    expect_row(values, VALUES, VALUES_ROOM, has_values && call->told == 0);
     if (call->told == 0) {
         EXPECT(call->out.scanned.point, last.point, "scan: point");
         EXPECT(call->out.scanned.count, last.count, "scan: count");
@@ -325,7 +350,8 @@ static void call_map_info(struct call *call) {
 static void call_program_info(struct call *call) {
     const size_t size = size_of(call, sizeof(nrbpf_program_facts));
     const nrbpf_program_facts *const it = &call->out.program;
-    const uint64_t name = WORD(struct nrbpf_raw_program, name);
+    uint64_t name[sizeof((struct nrbpf_raw_program){0}.name) / sizeof(uint64_t)];
+    for (size_t k = 0; k < sizeof name / sizeof name[0]; k++) name[k] = WORD(struct nrbpf_raw_program, name) + k;
     call->told = (call->waits ? nrbpf_program_info : nrbpf_try_program_info)(call->session, PROGRAM, &call->out.program, size);
     expect_ends(call, offsetof(nrbpf_program_facts, name) + sizeof((struct nrbpf_raw_program){0}.name), size);
     if (call->told) return;
@@ -337,7 +363,7 @@ static void call_program_info(struct call *call) {
     EXPECT(it->argument_len, WORD(struct nrbpf_raw_program, argument), "program_info: argument_len");
     EXPECT(it->slots, WORD(struct nrbpf_raw_program, slots), "program_info: slots");
     EXPECT(it->maps, WORD(struct nrbpf_raw_program, maps), "program_info: maps");
-    NEED(memcmp(it->name, &name, sizeof name) == 0, "program_info: name");
+    NEED(memcmp(it->name, name, sizeof name) == 0, "program_info: name");
 }
 
 static void call_stats(struct call *call) {
@@ -525,11 +551,16 @@ static void call_lane(struct handle *of) {
 // What a writer does after so many parts.
 static enum ending { STOPS, NEVER_RETURNS, DUMPS_AGAIN, ENDINGS } ending;
 static unsigned parts_before;
+static size_t dumped;                           // how many bytes it has had
 static jmp_buf before_dump;
 
 static int write_part(void *to, const char *bytes, size_t length) {
     NEED(to == &parts_before, "the writer gets another pointer");
-    NEED(length > 0 && length <= 16384 && bytes[length - 1] == 'x', "a part of %zu bytes", length);
+    static uint8_t wanted[16384];
+    NEED(length > 0 && length <= sizeof wanted, "a part of %zu bytes", length);
+    number(wanted, 0, dumped, length);
+    NEED(memcmp(bytes, wanted, length) == 0, "other bytes than those of the text from %zu on", dumped);
+    dumped += length;
     if (parts_before-- > 0) return 0;
     if (ending == NEVER_RETURNS) longjmp(before_dump, 1);
     if (ending == DUMPS_AGAIN) EXPECT(nrbpf_state_dump(state, write_part, to), NRBPF_H2, "a dump in a dump");
@@ -537,14 +568,17 @@ static int write_part(void *to, const char *bytes, size_t length) {
 }
 
 static void dump_state(void) {
-    parts_before = choose(3);
+    static const unsigned pieces[] = {0, 1, 2, 6}; // the longest text has five
+    parts_before = pieces[choose(4)];
     ending = (enum ending)choose(ENDINGS);
+    dumped = 0;
     last.status = NRBPF_E0;
     note("dump, ending %d after %u parts", (int)ending, parts_before);
     if (setjmp(before_dump) == 0) {
         const nrbpf_status told = nrbpf_state_dump(state, write_part, &parts_before);
         const int has_stopped = parts_before == UINT_MAX;
         EXPECT(told, is_dumped ? NRBPF_H2 : last.status ? last.status : has_stopped ? NRBPF_H10 : 0, "dump");
+        if (told == 0) EXPECT(dumped, last.count, "the bytes of a dump");
     } else {
         is_dumped = 1;
     }
@@ -582,13 +616,20 @@ static void ask_number(void) {
 }
 
 static void ask_facts(void) {
+    static const size_t rooms[] = {sizeof(nrbpf_store_facts), sizeof(uint64_t), sizeof(union answers)};
+    const size_t size = rooms[choose(sizeof rooms / sizeof rooms[0])];
+    struct call call = {.told = 0};
     nrbpf_store_facts facts;
-    note("store_info");
-    EXPECT(nrbpf_store_info(store, &facts, sizeof facts), 0, "store_info");
+    note("store_info of %zu bytes", size);
+    memset(&call.out, UNWRITTEN, sizeof call.out);
+    EXPECT(nrbpf_store_info(store, (nrbpf_store_facts *)(void *)&call.out, size), 0, "store_info");
+    expect_ends(&call, END(nrbpf_store_facts, long_bytes), size);
+    memcpy(&facts, &call.out, sizeof facts);
     EXPECT(facts.nodes, WORD(struct nrbpf_raw_facts, nodes), "store_info: nodes");
     EXPECT(facts.slots, WORD(struct nrbpf_raw_facts, slots), "store_info: slots");
+    if (size < sizeof facts) return;
     EXPECT(facts.window, WORD(struct nrbpf_raw_facts, window), "store_info: window");
-    EXPECT(facts.limit == NRBPF_ENDLESS || facts.limit == FILLED, 1, "store_info: limit");
+    EXPECT(facts.limit, last.limit == FILLED ? FILLED : NRBPF_ENDLESS, "store_info: limit");
     EXPECT(facts.spare, WORD(struct nrbpf_raw_facts, spare), "store_info: spare");
     EXPECT(facts.maps, WORD(struct nrbpf_raw_facts, maps), "store_info: maps");
     EXPECT(facts.programs, WORD(struct nrbpf_raw_facts, programs), "store_info: programs");

@@ -75,6 +75,11 @@ static void small_rooms(void) {
     EXPECT(scanned.count == 2 && values[2] == 77 && values[3] == 77);
     EXPECT_STATUS(nrbpf_scan(session, 0, 0, NULL, 0, NULL, 0, &scanned), NRBPF_OK);
     EXPECT(scanned.count == 0 && scanned.next != NRBPF_END);
+    const uint32_t first = scanned.next;
+    EXPECT_STATUS(nrbpf_scan(session, 0, first, keys, sizeof keys, values, 3, &scanned), NRBPF_OK);
+    EXPECT(scanned.count == 0 && scanned.next == first);
+    EXPECT_STATUS(nrbpf_scan(session, 0, first, keys, sizeof keys, values, sizeof values, &scanned), NRBPF_OK);
+    EXPECT(scanned.count == 4 && scanned.next > first);
 }
 
 // A key may be where its value is written, in whole or in part.

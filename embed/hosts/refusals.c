@@ -331,6 +331,24 @@ static void gets(get *call) {
     for (int i = 0; i < 9; i++) EXPECT(value[i] == 77);
 }
 
+// The longest key is one of its map. A longer one is none, and is not cut.
+static void longest_keys(get *call) {
+    const nrbpf_config config = NRBPF_CONFIG(1, 1);
+    const char manifest[] = "map hash 64 1 1\n";
+    uint8_t key[128] = {0}, value = 77;
+    nrbpf_store *opened;
+    nrbpf_session *session;
+    nrbpf_found found = {77, 77};
+    EXPECT_STATUS(nrbpf_open(&config, manifest, strlen(manifest), NULL, 0, &opened, NULL), NRBPF_OK);
+    EXPECT_STATUS(nrbpf_attach(opened, 0, &session), NRBPF_OK);
+    for (size_t length = 65; length <= sizeof key; length++) REFUSE(call(session, 0, key, length, &value, 1, &found), NRBPF_S11);
+    EXPECT(found.point == 77 && value == 77);
+    EXPECT_STATUS(call(session, 0, key, 64, &value, 1, &found), NRBPF_OK);
+    EXPECT(found.point == 0 && found.is_there == 0 && value == 77);
+    EXPECT_STATUS(nrbpf_detach(session), NRBPF_OK);
+    EXPECT_STATUS(nrbpf_close(opened), NRBPF_OK);
+}
+
 typedef nrbpf_status scan(nrbpf_session *, uint32_t, uint32_t, void *, size_t, void *, size_t, nrbpf_scanned *);
 
 static void scans(scan *call) {
@@ -523,7 +541,9 @@ static void calls(void) {
     installs(nrbpf_install);
     installs(nrbpf_try_install);
     gets(nrbpf_get);
+    longest_keys(nrbpf_get);
     gets(nrbpf_try_get);
+    longest_keys(nrbpf_try_get);
     scans(nrbpf_scan);
     scans(nrbpf_try_scan);
     reads_of_many(nrbpf_read_each);

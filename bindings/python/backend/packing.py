@@ -2,8 +2,8 @@
 the same bytes.
 
 With `--config-settings library=FILE` the wheel has that libnrbpf.so.2 too. Then it is for Linux on x86-64 alone, and
-nothing else has to be installed. `local=WORD` adds a word to its version, as in 2.5.0+unproved, and `built=TEXT` a file
-BUILT to what is said of the wheel."""
+nothing else has to be installed. `local=WORD` adds a word to its version, as in 2.5.0+unproved, and `built=TEXT` and
+`changes=TEXT` files BUILT and CHANGELOG.md to what is said of the wheel."""
 
 from __future__ import annotations
 
@@ -14,14 +14,17 @@ import io
 import re
 import tarfile
 import zipfile
+from collections.abc import Mapping
 from pathlib import Path
 
 TOP = Path(__file__).resolve().parent.parent
 SOURCES = ("src/nrbpf/*.py", "src/nrbpf/py.typed")
 PACKED = ("pyproject.toml", "README.md", "backend/packing.py", "examples/*.py", "tests/*.py", *SOURCES)
 PLAIN = "py3-none-any"
-# The library asks for glibc 2.16 or older (`objdump -T`), so this tag, for 2.17, is right.
-LINUX = "py3-none-manylinux_2_17_x86_64"
+NOTHING: Mapping[str, str] = {}
+# The tag of a wheel with the library says the glibc that the library needs: the newest version that it names. If that is
+# older than 2.17, the tag says 2.17, which is manylinux2014.
+OLDEST, NEEDED = (2, 17), re.compile(rb"\0GLIBC_(\d+)\.(\d+)(?=[.\d]*\0)")
 # How a shared library for Linux on x86-64 begins: ELF, 64 bits, low byte first; then its kind (3) and its machine (62).
 SHARED, AT = (b"\x7fELF\x02\x01", b"\x03\x00\x3e\x00"), 16
 
@@ -73,18 +76,25 @@ def _library(file: str) -> bytes:
     return data
 
 
+def _tag(library: bytes) -> str:
+    """The tag of a wheel that has this library."""
+    needed = max([OLDEST, *((int(major), int(minor)) for major, minor in NEEDED.findall(library))])
+    return f"py3-none-manylinux_{needed[0]}_{needed[1]}_x86_64"
+
+
 def _about(tag: str) -> str:
     is_pure = "true" if tag == PLAIN else "false"
     return f"Wheel-Version: 1.0\nGenerator: nrbpf\nRoot-Is-Purelib: {is_pure}\nTag: {tag}\n"
 
 
-def _wheel(folder: str, files: dict[str, bytes], tag: str = PLAIN, local: str = "", built: str = "") -> str:
-    """Writes a wheel of these files, and answers its name."""
+def _wheel(
+    folder: str, files: dict[str, bytes], tag: str = PLAIN, local: str = "", said: Mapping[str, str] = NOTHING
+) -> str:
+    """Writes a wheel of these files, and of these texts that are said of it, and answers its name."""
     about = f"{_named(local)}.dist-info"
-    if built:
-        files = {**files, f"{about}/BUILT": built.encode()}
     files = {
         **files,
+        **{f"{about}/{name}": text.encode() for name, text in said.items() if text},
         f"{about}/METADATA": _metadata(local).encode(),
         f"{about}/WHEEL": _about(tag).encode(),
     }
@@ -106,11 +116,12 @@ def build_wheel(wheel_directory: str, config_settings: object = None, metadata_d
     source = TOP / "src"
     files = {path.relative_to(source).as_posix(): path.read_bytes() for path in _packed(SOURCES)}
     settings = config_settings if isinstance(config_settings, dict) else {}
-    local, built = settings.get("local", ""), settings.get("built", "")
+    local = settings.get("local", "")
+    said = {"BUILT": settings.get("built", ""), "CHANGELOG.md": settings.get("changes", "")}
     if not settings.get("library"):
-        return _wheel(wheel_directory, files, PLAIN, local, built)
-    library = {"nrbpf/libnrbpf.so.2": _library(settings["library"])}
-    return _wheel(wheel_directory, {**files, **library}, LINUX, local, built)
+        return _wheel(wheel_directory, files, PLAIN, local, said)
+    library = _library(settings["library"])
+    return _wheel(wheel_directory, {**files, "nrbpf/libnrbpf.so.2": library}, _tag(library), local, said)
 
 
 def build_editable(wheel_directory: str, config_settings: object = None, metadata_directory: object = None) -> str:

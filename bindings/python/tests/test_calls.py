@@ -152,8 +152,9 @@ class LongPrograms(unittest.TestCase):
                 tail = int.from_bytes(self.ARGUMENT[16_376:], "little")
                 self.assertEqual(other.update(5, self.ARGUMENT), (4, tail))
                 for index in range(100):
-                    told = tried(one, lambda: one.try_install(nrbpf.Mode.READ, 0, five_in(2048)))
-                    self.assertEqual(told, (5 + 2 * index, nrbpf.REPLY_NO_ROOM))
+                    with self.assertRaises(nrbpf.NoPlaceError) as none:
+                        tried(one, lambda: one.try_install(nrbpf.Mode.READ, 0, five_in(2048)))
+                    self.assertEqual(none.exception.point, 5 + 2 * index)
                     self.assertEqual(other.update(5, self.ARGUMENT), (6 + 2 * index, tail))
             self.has_all(store)
 
@@ -229,8 +230,14 @@ class Tries(unittest.TestCase):
             told = tried(session, lambda: session.try_install(nrbpf.Mode.READ, 0, FIVE))
             self.assertEqual(told, (0, 2))
             self.assertEqual(session.read(told.reply), (1, 5))
-            told = tried(session, lambda: session.try_install(nrbpf.Mode.READ, 0, FIVE))
-            self.assertEqual(told, (1, nrbpf.REPLY_NO_ROOM))
+            for point in range(1, 100):
+                with self.assertRaises(nrbpf.NoPlaceError) as none:
+                    if point % 2:
+                        session.install(nrbpf.Mode.READ, 0, FIVE)
+                    else:
+                        tried(session, lambda: session.try_install_within((), nrbpf.Mode.READ, 0, FIVE))
+                self.assertEqual((none.exception.point, none.exception.status, none.exception.code), (point, 0, ""))
+                self.assertEqual(str(none.exception), "there is no free place for the program")
 
     def test_install_within(self):
         with counter(spare=2) as (_, session, _, _):
@@ -263,6 +270,26 @@ class Tries(unittest.TestCase):
             for thread in threads:
                 thread.join()
             self.assertEqual(session.read(peek, u32(3)), (mine + sum(made), mine + sum(made)))
+
+    def test_no_place_beside_others(self):
+        """An install without a place raises too if it was posted."""
+        with counter(slots=4) as (store, session, bump, _):
+            done, made = threading.Event(), []
+            threads = [threading.Thread(target=count_until, args=(store, bump, done, made)) for _ in range(3)]
+            for thread in threads:
+                thread.start()
+            for _ in range(20_000):
+                with self.assertRaises(nrbpf.NoPlaceError):
+                    told = nrbpf.BUSY
+                    while told is nrbpf.BUSY:
+                        told = session.try_install(nrbpf.Mode.READ, 0, FIVE)
+                    session.wait()
+                if told is nrbpf.POSTED:
+                    break
+            done.set()
+            for thread in threads:
+                thread.join()
+            self.assertEqual(session.update(bump, u32(3)).reply, sum(made) + 1)
 
 
 def count_until(store, bump, done, made):

@@ -1,12 +1,15 @@
 """Ctrl-C at each step of an end, and threads that end one thing at once: the library ends it once, and then it is
-ended."""
+ended. What nothing refers to any more is ended too, by who waits for nobody, and by no forked child."""
 
 import contextlib
+import ctypes
 import dis
+import gc
 import itertools
 import os
 import sys
 import threading
+import time
 import unittest
 from unittest import mock
 
@@ -191,7 +194,7 @@ class Posted(unittest.TestCase):
                 with store.attach() as first, store.attach() as later:
                     told = [session.try_update(bump, u32(3)) for session in (first, later)]
                     made.extend(1 for it in told if it is not nrbpf.BUSY)
-                    for session, it in zip((first, later), told):
+                    for session, it in zip((first, later), told, strict=True):
                         if it is nrbpf.POSTED:
                             with self.assertRaises(nrbpf.HostError) as why:
                                 session.read(peek, u32(3))
@@ -204,6 +207,72 @@ class Posted(unittest.TestCase):
                 thread.join()
             with store.attach() as session:
                 self.assertEqual(session.read(peek, u32(3)), (len(made), len(made)))
+
+
+class Lost(unittest.TestCase):
+    """What nothing refers to any more."""
+
+    def collects(self, where):
+        """The collector finds a session that has posted something, while another one waits: where the library polls the
+        one of these numbers. What is polled then is answered, and the other one after it."""
+
+        def post(at, *_):
+            posted.append(ctypes.cast(at, ctypes.c_void_p).value)
+            return nrbpf.POSTED.value
+
+        def poll(at, _):
+            number = posted.index(ctypes.cast(at, ctypes.c_void_p).value)
+            if number == where:
+                gc.collect()
+                answered.append(number)
+            return 0 if answered else nrbpf.POSTED.value
+
+        posted, answered, waited = [], [], []
+        gc.disable()
+        self.addCleanup(gc.enable)
+        with mock.patch.multiple(_native.library, nrbpf_try_update=post, nrbpf_poll=poll):
+            store = nrbpf.open(example("counter"), slots=2)
+            lost, own = store.attach(), store.attach()
+            self.assertEqual([it.try_update(0, u32(3)) for it in (lost, own)], [nrbpf.POSTED] * 2)
+            lost.itself = lost
+            del lost
+            thread = threading.Thread(target=lambda: waited.append(own.wait()), daemon=True)
+            thread.start()
+            thread.join(20)
+            self.assertEqual(len(waited), 1)
+            own.detach()
+            until = time.monotonic() + 20
+            while time.monotonic() < until:  # another thread gives it back
+                with contextlib.suppress(nrbpf.CallError):
+                    store.close()
+                    return
+                time.sleep(0.001)
+        self.fail("the lost session is not given back")
+
+    def test_the_collector_runs_where_the_lost_one_is_polled(self):
+        self.collects(0)
+
+    def test_the_collector_runs_where_another_one_is_polled(self):
+        self.collects(1)
+
+    def test_a_forked_child_ends_nothing(self):
+        store = nrbpf.open(example("counter"), slots=2)
+        session, lane, state = store.attach(), store.attach_lane(0, 1), store.new_state()
+        child = os.fork()
+        if not child:
+            try:
+                for name in ("detach", "detach_lane", "state_free", "close"):
+                    setattr(_native.library, f"nrbpf_{name}", lambda *_: os._exit(1))
+                del store, session, lane, state
+                gc.collect()
+                os._exit(0)
+            finally:
+                os._exit(2)
+        self.assertEqual(os.waitpid(child, 0)[1], 0)
+        lane.detach()
+        session.detach()
+        state.free()
+        store.close()
 
 
 if __name__ == "__main__":

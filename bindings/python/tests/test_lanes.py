@@ -23,6 +23,9 @@ class Lists(unittest.TestCase):
             good, bad = (bump, u32(3)), (bump, b"123")
             for calls, code, slot in (
                 ([good, (9, u32(3)), bad], "S1", 1),
+                ([good, good, (1 << 16, u32(3))], "S1", 2),
+                ([good, (-1, u32(3))], "S1", 1),
+                ([bad, (1 << 16, u32(3))], "S2", 0),
                 ([good, good, bad], "S2", 2),
                 ([(peek, u32(3)), good], "S3", 0),
                 ([good] * 5, "H5", 0),
@@ -31,8 +34,6 @@ class Lists(unittest.TestCase):
                     with self.assertRaises(nrbpf.Error) as why:
                         ask(calls)
                     self.assertEqual((why.exception.code, why.exception.slot), (code, slot))
-            with self.assertRaises(nrbpf.CallError):
-                lane.update_each([(1 << 16, u32(3))])
             with self.assertRaises(nrbpf.HostError) as why:
                 lane.poll_each()
             self.assertEqual(why.exception.status, nrbpf.Status.NOTHING_POSTED)

@@ -58,6 +58,8 @@ class Shared:
         for _ in range(2000):
             try:
                 rolls.choice(self.calls())()
+            except nrbpf.NoPlaceError:
+                pass  # there is one spare place
             except nrbpf.Error as why:
                 self.odd |= {why.code} - REFUSED
             except RuntimeError:

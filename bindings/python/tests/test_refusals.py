@@ -1,6 +1,8 @@
 """What is refused, with its status, and what is not there any more."""
 
+import copy
 import gc
+import pickle
 import unittest
 import warnings
 
@@ -215,6 +217,14 @@ class Calls(Refusals):
             self.refuses(Status.OTHER_MODE, session.read_each, [(peek, u32(3)), (bump, u32(3))], slot=1)
             self.refuses(Status.ARGUMENT_LENGTH, session.read_each, [(peek, b"")], slot=0)
             self.refuses(Status.BAD_CALL, session.read_each, [(peek, u32(3))] * 17)
+            for number in (1 << 16, -1):
+                self.refuses(Status.UNKNOWN_PROGRAM, session.read_each, [(peek, u32(3)), (number, b"")], slot=1)
+                self.refuses(Status.OTHER_MODE, session.read_each, [(bump, u32(3)), (number, b"")], slot=0)
+            pages = session.scan_page, session.try_scan_page, lambda map, room: list(session.scan(map, room=room))
+            for call in pages:
+                for room in (0, -1):
+                    with self.assertRaisesRegex(ValueError, "^room is "):
+                        call(0, room=room)
 
     def test_names(self):
         with nrbpf.open(example("counter")) as store:
@@ -227,6 +237,16 @@ class Calls(Refusals):
                 self.refuses(Status.OTHER_SIZES, session.snapshot, other)
             with nrbpf.State.load(example("counter"), b"", spare=1) as other:
                 self.refuses(Status.OTHER_SIZES, session.snapshot, other)
+
+
+class Errors(Refusals):
+    def test_copies(self):
+        manifest = nrbpf.Manifest(ARRAY + f"program it read 4 {BUMP}\n", example("counter").files)
+        why = self.refuses(Status.FILE_NOT_ACCEPTED, nrbpf.open, manifest, inner="V18", line=2, slot=7)
+        why.kept = "too"
+        for one in (why, nrbpf.NoPlaceError(5)):
+            for other in (copy.copy(one), copy.deepcopy(one), pickle.loads(pickle.dumps(one))):
+                self.assertEqual((type(other), str(other), vars(other)), (type(one), str(one), vars(one)))
 
 
 class Ends(Refusals):

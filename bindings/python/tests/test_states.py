@@ -3,6 +3,7 @@
 import io
 import threading
 import unittest
+from unittest import mock
 
 import nrbpf
 from tests.fixture import FIVE, counter, example, text_of, tried, u32
@@ -87,6 +88,29 @@ class Dumps(unittest.TestCase):
         with nrbpf.State.load(example("counter"), text_of("counter/state").encode()) as state:
             with self.assertRaisesRegex(OSError, "no space is left"):
                 state.dump_to(Full())
+            self.assertEqual(state.dump().decode(), text_of("counter/state"))
+
+    def test_a_file_that_takes_less(self):
+        class Short(io.RawIOBase):
+            def __init__(self, most):
+                self.most, self.taken = most, b""
+
+            def write(self, data):
+                self.taken += data[: self.most] if self.most else b""
+                return min(self.most, len(data)) if self.most is not None else None
+
+        with nrbpf.State.load(example("counter"), text_of("counter/state").encode()) as state:
+            file = Short(5)
+            state.dump_to(file)
+            self.assertEqual(file.taken.decode(), text_of("counter/state"))
+            for most in (0, None):
+                with self.assertRaises(BlockingIOError):
+                    state.dump_to(Short(most))
+
+    def test_a_dump_while_the_interpreter_ends(self):
+        """It begins no thread then."""
+        ends = mock.patch("nrbpf._signals.start_new_thread", side_effect=RuntimeError)
+        with nrbpf.State.load(example("counter"), text_of("counter/state").encode()) as state, ends:
             self.assertEqual(state.dump().decode(), text_of("counter/state"))
 
     def test_one_call_at_a_time(self):

@@ -51,7 +51,7 @@ macro_rules! errors {
         program { $($program:ident = $gl:literal $gn:literal: $gtext:literal,)* }
         install { $($install:ident = $il:literal $in:literal: $itext:literal,)* }
     ) => {
-        /// Why a call refused. `Display` writes the library's text.
+        /// Why a call refused, or an install did nothing. `Display` writes the library's text.
         #[derive(Clone, Copy, Debug, PartialEq, Eq, Hash)]
         #[non_exhaustive]
         #[allow(missing_docs)] // of the fields: a line counts from 1, a slot from 0
@@ -60,6 +60,8 @@ macro_rules! errors {
             $(#[doc = $gtext] $program { line: u32, why: Refusal, slot: u32 },)*
             $(#[doc = $itext] $install { why: Refusal, slot: u32 },)*
             $(#[doc = $ptext] $plain,)*
+            /// An install found no free place. It is in the history, at `point`, and did nothing. It is no refusal: its letter and number are 0.
+            NoPlace { point: u64 },
             /// A refusal that this crate doesn't know.
             Other(Refusal),
         }
@@ -94,6 +96,7 @@ macro_rules! errors {
                     $(Error::$line { .. } => Refusal::new($ll, $ln),)*
                     $(Error::$program { .. } => Refusal::new($gl, $gn),)*
                     $(Error::$install { .. } => Refusal::new($il, $in),)*
+                    Error::NoPlace { .. } => Refusal(0),
                     Error::Other(refusal) => refusal,
                 }
             }
@@ -135,7 +138,7 @@ errors! {
         OtherStore = 'H' 6: "H6: the session is of another store",
         NullPointer = 'H' 7: "H7: a null pointer",
         OtherVersion = 'H' 8: "H8: this crate was made for a header that the library does not know",
-        OtherSizes = 'H' 9: "H9: the state has other maps, or another number of places, than the store",
+        OtherSizes = 'H' 9: "H9: the state has other maps, another number of places or other `long_bytes` than the store",
         Stopped = 'H' 10: "H10: a dump's writer had enough",
         NothingPosted = 'H' 11: "H11: no update is posted on this session or lane",
     }
@@ -165,6 +168,9 @@ errors! {
 
 impl fmt::Display for Error {
     fn fmt(&self, f: &mut fmt::Formatter<'_>) -> fmt::Result {
+        if let Error::NoPlace { .. } = self {
+            return f.write_str("there is no free place for the program");
+        }
         let mut text = [0; 512];
         // SAFETY: the room is as long as the call is told, and there is a zero in it behind the call.
         let text = unsafe {

@@ -11,7 +11,7 @@ use std::ptr::NonNull;
 use std::sync::{Arc, Mutex};
 use std::thread;
 
-/// The reply of an install that found no place that is free. A program replies it too, by custom, where a map has no room for its key.
+/// By custom a program replies it where a map has no room for its key. An install without a place is [`Error::NoPlace`].
 pub const REPLY_NO_ROOM: u64 = u64::MAX - 6;
 
 /// The reply of a call that found no program of its number, mode and argument length at its index.
@@ -32,7 +32,7 @@ pub enum Mode {
 pub struct Answer {
     /// Of an update its index, how many stand before it; of a read how many updates it has seen.
     pub point: u64,
-    /// What the program replied; of an install the number of the program, or [`REPLY_NO_ROOM`].
+    /// What the program replied; of an install the number of the program.
     pub reply: u64,
 }
 
@@ -42,13 +42,21 @@ impl Answer {
         self.reply as i64
     }
 
-    /// Of an install the number of the program, if there was a place for it.
+    /// Of an install the number of the program.
     pub fn program(self) -> Option<u16> {
         u16::try_from(self.reply).ok()
     }
 
     fn of(told: sys::nrbpf_answer) -> Answer {
         Answer { point: told.point, reply: told.reply }
+    }
+
+    /// Of an install that found a place.
+    fn placed(self) -> Result<Answer, Error> {
+        if self.reply == REPLY_NO_ROOM {
+            return Err(Error::NoPlace { point: self.point });
+        }
+        Ok(self)
     }
 }
 
@@ -142,6 +150,8 @@ pub struct Session<'a> {
     of: Of<'a>,
     // Until it is answered.
     posted: Option<Arc<Mutex<Posted>>>,
+    // Whether that is an install.
+    is_install: bool,
     _is_not_sync: PhantomData<Cell<()>>,
 }
 
@@ -150,11 +160,11 @@ unsafe impl Send for Session<'_> {}
 
 impl<'a> Session<'a> {
     pub(crate) fn borrowing(store: &'a Store, at: NonNull<sys::nrbpf_session>) -> Session<'a> {
-        Session { at, of: Of::One(store), posted: None, _is_not_sync: PhantomData }
+        Session { at, of: Of::One(store), posted: None, is_install: false, _is_not_sync: PhantomData }
     }
 
     pub(crate) fn sharing(store: Arc<Store>, at: NonNull<sys::nrbpf_session>) -> Session<'static> {
-        Session { at, of: Of::Several(store), posted: None, _is_not_sync: PhantomData }
+        Session { at, of: Of::Several(store), posted: None, is_install: false, _is_not_sync: PhantomData }
     }
 
     /// Its store.
@@ -175,9 +185,20 @@ impl<'a> Session<'a> {
             sys::NRBPF_BUSY => Ok(Tried::Busy),
             sys::NRBPF_POSTED => {
                 self.posted = Some(self.store().posts.add(Handle::Session(self.at)));
+                self.is_install = false;
                 Ok(Tried::Posted)
             }
             _ => check_with(status, why).map(|()| Tried::Answered(Answer::of(out))),
+        }
+    }
+
+    fn tried_to_install(&mut self, status: u32, out: sys::nrbpf_answer, why: sys::nrbpf_error) -> Result<Tried, Error> {
+        match self.tried(status, out, why)? {
+            Tried::Answered(answer) => answer.placed().map(Tried::Answered),
+            told => {
+                self.is_install |= told == Tried::Posted;
+                Ok(told)
+            }
         }
     }
 
@@ -211,13 +232,13 @@ impl<'a> Session<'a> {
     ///
     /// # Errors
     ///
-    /// S4, S6 to S8, and H3 while an update is posted.
+    /// [`Error::NoPlace`]: no spare place is left. S4, S6 to S8, and H3 while an update is posted.
     pub fn install(&mut self, mode: Mode, argument_len: u32, code: &[u8]) -> Result<Answer, Error> {
         let (mut out, mut why) = (sys::nrbpf_answer::default(), sys::nrbpf_error::default());
         // SAFETY: as above.
         let status = unsafe { sys::nrbpf_install(self.idle()?, mode as u32, argument_len, bytes_at(code), code.len(), &mut out, &mut why) };
         check_with(status, why)?;
-        Ok(Answer::of(out))
+        Answer::of(out).placed()
     }
 
     /// As [`install`](Session::install), for a program that may name these maps alone, by their numbers. A number that no map has says nothing.
@@ -231,7 +252,7 @@ impl<'a> Session<'a> {
         // SAFETY: as above.
         let status = unsafe { sys::nrbpf_install_within(self.idle()?, &program, &mut out, &mut why) };
         check_with(status, why)?;
-        Ok(Answer::of(out))
+        Answer::of(out).placed()
     }
 
     /// As [`update`](Session::update), and waits for nobody.
@@ -268,7 +289,7 @@ impl<'a> Session<'a> {
         // SAFETY: as above.
         let status =
             unsafe { sys::nrbpf_try_install(self.idle()?, mode as u32, argument_len, bytes_at(code), code.len(), &mut out, &mut why) };
-        self.tried(status, out, why)
+        self.tried_to_install(status, out, why)
     }
 
     /// As [`install_within`](Session::install_within), and waits for nobody.
@@ -281,20 +302,24 @@ impl<'a> Session<'a> {
         let program = confined(maps, mode, argument_len, code);
         // SAFETY: as above.
         let status = unsafe { sys::nrbpf_try_install_within(self.idle()?, &program, &mut out, &mut why) };
-        self.tried(status, out, why)
+        self.tried_to_install(status, out, why)
     }
 
     /// Goes on with the update or the install that is posted, and waits for nobody: none where it is not answered yet.
     ///
     /// # Errors
     ///
-    /// S4, with which it is over and has done nothing; H11: nothing is posted.
+    /// S4, with which it is over and has done nothing, as an install is with [`Error::NoPlace`]; H11: nothing is posted.
     pub fn poll(&mut self) -> Result<Option<Answer>, Error> {
         let own = self.posted.as_ref().ok_or(Error::NothingPosted)?;
         let Some((status, outcomes)) = self.store().posts.poll(own) else { return Ok(None) };
         self.posted = None;
         check(status)?;
-        Ok(Some(Answer { point: outcomes[0].point, reply: outcomes[0].reply }))
+        let answer = Answer { point: outcomes[0].point, reply: outcomes[0].reply };
+        if self.is_install {
+            return answer.placed().map(Some);
+        }
+        Ok(Some(answer))
     }
 
     /// Goes on with the update or the install that is posted until it is answered, and with what others of the store have posted.

@@ -148,8 +148,10 @@ fn tries_are_answered() -> Result<(), Error> {
     let five = tried(&mut session, |it| it.try_install(Mode::Read, 0, &FIVE))?;
     assert_eq!((five, five.program()), (answer(100, 2), Some(2)));
     assert_eq!(session.read(2, &[])?, answer(101, 5));
-    let none = session.install(Mode::Read, 0, &FIVE)?;
-    assert_eq!((none, none.program()), (answer(101, REPLY_NO_ROOM), None));
+    assert_eq!(session.install(Mode::Read, 0, &FIVE), Err(Error::NoPlace { point: 101 }));
+    let none = tried(&mut session, |it| it.try_install_within(&[], Mode::Read, 0, &FIVE)).expect_err("there is no place");
+    assert_eq!((none, none.refusal().number()), (Error::NoPlace { point: 102 }, 0));
+    assert_eq!(none.to_string(), "there is no free place for the program");
     Ok(())
 }
 
@@ -185,6 +187,44 @@ fn tries_beside_others() -> Result<(), Error> {
         threads.map(|it| it.join().expect("it ends")).iter().sum()
     });
     assert_eq!(session.read(PEEK, &key(3))?, answer(mine + others, mine + others));
+    Ok(())
+}
+
+/// An install that finds no place is an error, also if it was posted. An update of the same reply that is posted later is none.
+#[test]
+fn no_place_beside_others() -> Result<(), Error> {
+    let store = counter(Config::new(1, 4).spare(1));
+    let is_done = AtomicBool::new(false);
+    let mut session = store.attach(0)?;
+    let replies_7 = bytes_of("b7000000f9ffffff9500000000000000"); // -7
+    session.install(Mode::Update, 0, &replies_7)?;
+    thread::scope(|scope| {
+        for _ in 0..3 {
+            scope.spawn(|| {
+                let mut session = store.attach(0).expect("there is one for each");
+                for _ in 0..300_000 {
+                    if is_done.load(Ordering::Relaxed) {
+                        break;
+                    }
+                    session.update(BUMP, &key(3)).expect("the history has no end");
+                }
+            });
+        }
+        for _ in 0..50_000 {
+            let told = session.try_install(Mode::Read, 0, &FIVE);
+            let posted = told == Ok(Tried::Posted);
+            let told = if posted { session.wait().map(Tried::Answered) } else { told };
+            assert!(matches!(told, Ok(Tried::Busy) | Err(Error::NoPlace { .. })), "{told:?}");
+            if posted {
+                break;
+            }
+        }
+        for _ in 0..1000 {
+            let told = tried(&mut session, |it| it.try_update(2, &[])).expect("the history has no end");
+            assert_eq!(told.reply, REPLY_NO_ROOM);
+        }
+        is_done.store(true, Ordering::Relaxed);
+    });
     Ok(())
 }
 

@@ -3,7 +3,7 @@
 mod fixture;
 
 use fixture::{answer, answered, bytes_of, counter, example, five_in, hex_of, key, text_of, tried, BUMP, FIVE, LAST_HEX, PEEK};
-use nrbpf::{Config, Error, Manifest, Mode, State, Store, REPLY_NO_ROOM};
+use nrbpf::{Config, Error, Manifest, Mode, State, Store};
 use std::io::{self, Write};
 use std::panic::{catch_unwind, AssertUnwindSafe};
 use std::thread;
@@ -167,7 +167,8 @@ fn states_have_long_programs() -> Result<(), Error> {
     for turn in 0..100 {
         assert_eq!(other.read(2, &[])?, answer(2 + 2 * turn, 5));
         assert_eq!(one.update(3, &argument)?, answer(2 + 2 * turn, tail));
-        assert_eq!(tried(&mut one, |it| it.try_install(Mode::Read, 0, &five_in(2_048)))?, answer(3 + 2 * turn, REPLY_NO_ROOM));
+        let none = tried(&mut one, |it| it.try_install(Mode::Read, 0, &five_in(2_048)));
+        assert_eq!(none, Err(Error::NoPlace { point: 3 + 2 * turn }));
     }
     let facts = [one.program_info(2)?.facts, other.program_info(3)?.facts].map(|it| it.expect("it is installed"));
     assert_eq!(facts.map(|it| (it.mode, it.argument_len, it.slots)), [(Mode::Read, 0, 2_048), (Mode::Update, 16_384, 2)]);

@@ -10,7 +10,19 @@ A store is any thread's, a session one thread's at a time. ctypes lets the inter
 so threads wait for each other in the store alone. Make no call in a forked child of a process with threads.
 """
 
-from ._errors import CallError, DumpError, Error, HostError, ManifestError, OpeningError, Pending, Status
+from ._errors import (
+    REPLY_INVALID,
+    REPLY_NO_ROOM,
+    CallError,
+    DumpError,
+    Error,
+    HostError,
+    ManifestError,
+    NoPlaceError,
+    OpeningError,
+    Pending,
+    Status,
+)
 from ._facts import Counts, MapInfo, MapShape, Mode, ProgramFacts, ProgramInfo, StoreInfo
 from ._lane import MOST_SLOTS, Lane
 from ._manifest import LARGE, STANDARD, Limits, Manifest, Sizes
@@ -19,13 +31,10 @@ from ._session import Answer, Found, Page, Replies, Session
 from ._state import State
 from ._store import Store, open
 
+__version__ = "2.7.0"
 BUSY = Pending.BUSY
 POSTED = Pending.POSTED
 ENDLESS = 0
-REPLY_NO_ROOM = 2**64 - 7
-"""An install found no place that is free. A program replies it too, by custom, where a map has no room for its key."""
-REPLY_INVALID = 2**64 - 22
-"""The call found no program of its number, mode and argument length at its index."""
 
 __all__ = [
     "BUSY",
@@ -51,6 +60,7 @@ __all__ = [
     "MapInfo",
     "MapShape",
     "Mode",
+    "NoPlaceError",
     "OpeningError",
     "Page",
     "Pending",
@@ -63,5 +73,6 @@ __all__ = [
     "Status",
     "Store",
     "StoreInfo",
+    "__version__",
     "open",
 ]

@@ -64,6 +64,16 @@ class Status(enum.IntEnum):
         return str(_native.library.nrbpf_status_text(self).decode())
 
 
+REPLY_NO_ROOM = 2**64 - 7
+"""By custom a program replies it if a map has no room for its key. (An install without a place raises NoPlaceError.)"""
+REPLY_INVALID = 2**64 - 22
+"""The call found no program of its number, mode and argument length at its index."""
+
+
+NO_PROGRAM = 2**16 - 1
+"""The number of no program. In a list it is passed for those of more than 16 bits, and the library says which it is."""
+
+
 class Pending(enum.Enum):
     """What a call with `try_` in its name, or `poll`, answers where it has no answer yet."""
 
@@ -95,6 +105,10 @@ class Error(Exception):
         room = ctypes.create_string_buffer(512)
         _native.library.nrbpf_error_text(_native.Fault(status, inner, line, slot), room, len(room))
         super().__init__(room.value.decode())
+        self._given: tuple[int, ...] = status, inner, line, slot
+
+    def __reduce__(self) -> tuple[object, ...]:
+        return type(self), self._given, self.__dict__  # a copy, by what the first one was made of
 
 
 class ManifestError(Error):
@@ -115,6 +129,16 @@ class CallError(Error):
 
 class HostError(Error):
     """H: the host made a mistake."""
+
+
+class NoPlaceError(Error):
+    """An install found no free place. It is in the history, at `point`, and did nothing. Its status is 0."""
+
+    def __init__(self, point: int) -> None:
+        super().__init__(0)
+        self._given = (point,)
+        self.args = ("there is no free place for the program",)
+        self.point = point
 
 
 _KNOWN = frozenset(int(it) for it in Status)

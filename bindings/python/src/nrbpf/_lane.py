@@ -9,10 +9,9 @@ from collections.abc import Callable, Sequence
 from typing import TYPE_CHECKING, Any
 
 from . import _native
-from ._errors import Pending, Status, error_of, pending
+from ._errors import NO_PROGRAM, Pending, Status, pending
 from ._handle import Handle
 from ._manifest import Buffer, as_bytes
-from ._posted import Posted
 from ._session import Answer
 from ._signals import at_once
 
@@ -30,15 +29,14 @@ class Lane(Handle):
     """Some slots of one node, of `Store.attach_lane`. A list of updates is asked for by one call, which costs less than
     as many calls. It is given back by `detach` or a `with`, and is one thread's at a time, as a session."""
 
-    def __init__(self, store: Store, node: int, slots: int) -> None:
-        super().__init__(store)
-        self._slots, self._count = slots, 0  # of the posted list
+    def __init__(self, store: Store, slots: int) -> None:
+        self._outcomes = (_native.Outcome * MOST_SLOTS)()
+        super().__init__(store, _library.nrbpf_poll_each, self._outcomes)
+        self._slots, self._count = slots, 0  # of the last list
         self._arguments = _Arguments(64 * MOST_SLOTS)
         self._calls = (_native.Asked * MOST_SLOTS)()
-        self._outcomes = (_native.Outcome * MOST_SLOTS)()
         self._told = memoryview(self._outcomes).cast("B")
         self._fault = _native.Fault()
-        self._at = store._attached_lane(node, slots)
 
     @property
     def slots(self) -> int:
@@ -80,47 +78,36 @@ class Lane(Handle):
     def _give_back(self) -> int:
         return self._store._given_back(self, _library.nrbpf_detach_lane)
 
-    def _polled(self) -> Posted:
-        assert self._at is not None
-        return Posted(self._lock, _library.nrbpf_poll_each, self._at, self._outcomes)
-
     def _poll_each(self) -> list[Answer | None] | Pending:
         self._fault.status = 0
-        return self._answers(self._poll(), self._count)
+        return self._answers(self._poll())
 
     def _ask(self, call: Callable[..., Any], calls: Sequence[tuple[int, Buffer]]) -> list[Answer | None] | Pending:
-        if self._at is None:
-            raise error_of(Status.DETACHED)
         self._check_idle()
-        count = len(calls)
-        if count <= MOST_SLOTS:
+        self._count = len(calls)
+        if self._count <= MOST_SLOTS:
             self._put(calls)
-        status = call(self._at, self._calls, count, self._outcomes, self._fault)
-        if status == Pending.POSTED.value:
-            self._count = count
-        return self._answers(self._noted(status), count)
+        return self._answers(self._post(call, self._calls, self._count, self._outcomes, self._fault))
 
     def _put(self, calls: Sequence[tuple[int, Buffer]]) -> None:
         """Writes the calls as the library takes them: their arguments one behind another, and a table."""
         given = [argument if type(argument) is bytes else as_bytes(argument) for _, argument in calls]
         at = self._arguments.put(b"".join(given))
         table: list[int] = []
-        for (program, _), argument in zip(calls, given):
-            if program >> 16:
-                raise error_of(Status.UNKNOWN_PROGRAM)
+        for (program, _), argument in zip(calls, given, strict=True):
             length = len(argument)
-            table += (at, length, program)
+            table += (at, length, NO_PROGRAM if program >> 16 else program)
             at += length
         _CALLS[len(given)].pack_into(self._calls, 0, *table)
 
-    def _answers(self, status: int, count: int) -> list[Answer | None] | Pending:
+    def _answers(self, status: int) -> list[Answer | None] | Pending:
         """What a list is told. S4 of the whole list says only that some update got it."""
         if status and status != Status.FULL:
             waits = pending(status, self._fault)
             if waits:
                 return waits
-        new, unpack = tuple.__new__, _OUTCOME.iter_unpack
-        return [None if code else new(Answer, (point, reply)) for point, reply, code in unpack(self._told[: 24 * count])]
+        new, told = tuple.__new__, _OUTCOME.iter_unpack(self._told[: 24 * self._count])
+        return [None if code else new(Answer, (point, reply)) for point, reply, code in told]
 
 
 class _Arguments:

@@ -6,11 +6,11 @@ import ctypes
 import os
 from collections.abc import Mapping
 from pathlib import Path
-from typing import NamedTuple, Union
+from typing import NamedTuple
 
 from . import _native
 
-Buffer = Union[bytes, bytearray, memoryview]
+Buffer = bytes | bytearray | memoryview
 
 
 def as_bytes(given: Buffer) -> bytes:

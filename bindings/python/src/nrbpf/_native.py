@@ -1,4 +1,4 @@
-"""The functions and structs of nrbpf.h, version 2.6, by ctypes, which lets the interpreter's lock go while a call is
+"""The functions and structs of nrbpf.h, version 2.7, by ctypes, which lets the interpreter's lock go while a call is
 made."""
 
 from __future__ import annotations
@@ -8,7 +8,7 @@ import os
 import platform
 import sys
 
-VERSION = 2006
+VERSION = 2007
 
 
 class File(c.Structure):

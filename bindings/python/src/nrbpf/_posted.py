@@ -3,6 +3,7 @@ wait for them."""
 
 from __future__ import annotations
 
+import ctypes
 import threading
 from collections import deque
 from collections.abc import Callable
@@ -12,40 +13,36 @@ from typing import Any
 from ._errors import Pending
 from ._signals import at_once
 
+POSTED = Pending.POSTED.value
+
 
 class Posted:
-    """An update or a list that is posted. Whoever has the lock of its session or lane may poll it. What it answers is
-    in its room."""
+    """The update or the list that a session or a lane has posted last. Whoever has the lock of that one may poll it.
+    What it answers is in its room."""
 
-    def __init__(self, lock: threading.Lock, call: Callable[..., Any], at: int, room: object) -> None:
+    def __init__(self, lock: threading.Lock, call: Callable[..., Any], at: ctypes.c_void_p, room: object) -> None:
         self._lock, self._call, self._given = lock, call, (at, room)
-        self._told = deque([Pending.POSTED.value], maxlen=1)
+        self.told = deque([0], maxlen=1)
+        """The status of the last call. (The call and the note of it are one call, which Ctrl-C can't part.)"""
+
+    def post(self, call: Callable[..., Any], *given: object) -> None:
+        self.told.extend(starmap(call, [given]))
 
     def poll(self) -> int:
-        """Goes on with it, under the lock, until it is answered. (The call and the note of its answer are one call, which
-        Ctrl-C can't part.)"""
-        if self._told[0] == Pending.POSTED.value:
-            self._told.extend(starmap(self._call, [self._given]))
-        return self._told[0]
+        """Goes on with it, under the lock, until it is answered."""
+        if self.told[0] == POSTED:
+            self.told.extend(starmap(self._call, [self._given]))
+        return self.told[0]
 
     def poll_if_idle(self) -> None:
         """The same, unless somebody has the lock."""
         at_once(self._lock, self.poll, lambda: Pending.BUSY.value)
 
 
-class Posts:
+class Posts(set[Posted]):
     """All that is posted on a store."""
 
-    def __init__(self) -> None:
-        self._each: set[Posted] = set()
-
-    def add(self, it: Posted) -> None:
-        self._each.add(it)
-
-    def remove(self, it: Posted) -> None:
-        self._each.discard(it)
-
-    def poll_others(self, own: Posted | None) -> None:
-        for it in list(self._each):
+    def poll_others(self, own: Posted) -> None:
+        for it in list(self):
             if it is not own:
                 it.poll_if_idle()

@@ -8,11 +8,10 @@ from collections.abc import Callable, Iterable, Iterator, Sequence
 from typing import TYPE_CHECKING, Any, NamedTuple
 
 from . import _native
-from ._errors import Error, Pending, Status, check, error_of, pending, within
+from ._errors import NO_PROGRAM, REPLY_NO_ROOM, NoPlaceError, Pending, Status, check, pending, within
 from ._facts import Counts, MapInfo, Mode, ProgramInfo
 from ._handle import Handle
 from ._manifest import Buffer, as_bytes
-from ._posted import Posted
 from ._signals import at_once
 from ._state import State
 
@@ -65,10 +64,10 @@ class Session(Handle):
     answers BUSY.
     """
 
-    def __init__(self, store: Store, node: int) -> None:
-        super().__init__(store)
+    def __init__(self, store: Store) -> None:
         self._polled_answer = _native.Answered()
-        self._at = store._attached(node)
+        super().__init__(store, _library.nrbpf_poll, self._polled_answer)
+        self._is_install = False  # whether what was posted last is an install
 
     # ---- Calls
 
@@ -81,8 +80,8 @@ class Session(Handle):
         return self._answer(_library.nrbpf_read, program, as_bytes(argument))
 
     def install(self, mode: Mode, argument_len: int, code: Buffer) -> Answer:
-        """Adds a program to the store while it runs. The reply is its number from then on, or REPLY_NO_ROOM where no
-        spare place is left."""
+        """Adds a program to the store while it runs. The reply is its number from then on. NoPlaceError: no spare place is
+        left."""
         install = _Install(mode, argument_len, code)
         check(self._use(lambda at: _library.nrbpf_install(at, *install.native())), install.fault)
         return install.told()
@@ -97,16 +96,20 @@ class Session(Handle):
     def try_update(self, program: int, argument: Buffer = b"") -> Answer | Pending:
         """As `update`, and waits for nobody. Of POSTED the store has the update, once: `poll` or `wait` is the
         session's next call then."""
-        return self._try_answer(_library.nrbpf_try_update, program, as_bytes(argument))
+        answer, program, text = _native.Answered(), within(program, 16, Status.UNKNOWN_PROGRAM), as_bytes(argument)
+        status = self._try_to_post(_library.nrbpf_try_update, program, text, len(text), answer)
+        return pending(status) or Answer(answer.point, answer.reply)
 
     def try_read(self, program: int, argument: Buffer = b"") -> Answer | Pending:
         """As `read`, and waits for nobody."""
-        return self._try_answer(_library.nrbpf_try_read, program, as_bytes(argument))
+        answer, program, text = _native.Answered(), within(program, 16, Status.UNKNOWN_PROGRAM), as_bytes(argument)
+        status = self._try(lambda at: _library.nrbpf_try_read(at, program, text, len(text), answer))
+        return pending(status) or Answer(answer.point, answer.reply)
 
     def try_install(self, mode: Mode, argument_len: int, code: Buffer) -> Answer | Pending:
         """As `install`, and waits for nobody."""
         install = _Install(mode, argument_len, code)
-        status = self._try(lambda at: _library.nrbpf_try_install(at, *install.native()))
+        status = self._try_to_post(_library.nrbpf_try_install, *install.native(), is_install=True)
         return pending(status, install.fault) or install.told()
 
     def try_install_within(
@@ -114,7 +117,7 @@ class Session(Handle):
     ) -> Answer | Pending:
         """As `install_within`, and waits for nobody."""
         install = _Install(mode, argument_len, code)
-        status = self._try(lambda at: _library.nrbpf_try_install_within(at, *install.confined(maps)))
+        status = self._try_to_post(_library.nrbpf_try_install_within, *install.confined(maps), is_install=True)
         return pending(status, install.fault) or install.told()
 
     def poll(self) -> Answer | Pending:
@@ -238,28 +241,28 @@ class Session(Handle):
     def _give_back(self) -> int:
         return self._store._given_back(self, _library.nrbpf_detach)
 
-    def _polled(self) -> Posted:
-        assert self._at is not None
-        return Posted(self._lock, _library.nrbpf_poll, self._at, self._polled_answer)
-
     def _poll_answer(self) -> Answer | Pending:
-        answer = self._polled_answer
-        return pending(self._poll()) or Answer(answer.point, answer.reply)
+        told = pending(self._poll())
+        if told is not None:
+            return told
+        answer = Answer(self._polled_answer.point, self._polled_answer.reply)
+        return _placed(answer) if self._is_install else answer
+
+    def _try_to_post(self, call: Callable[..., Any], *given: object, is_install: bool = False) -> int:
+        def post() -> int:
+            self._check_idle()
+            self._is_install = is_install
+            return self._post(call, *given)
+
+        return at_once(self._lock, post, lambda: Pending.BUSY.value)
 
     def _answer(self, call: Callable[..., Any], program: int, argument: bytes) -> Answer:
         answer, program = _native.Answered(), within(program, 16, Status.UNKNOWN_PROGRAM)
         with self._lock:
-            if self._at is None:
-                raise error_of(Status.DETACHED)
             self._check_idle()
             status = call(self._at, program, argument, len(argument), answer)
         check(status)
         return Answer(answer.point, answer.reply)
-
-    def _try_answer(self, call: Callable[..., Any], program: int, argument: bytes) -> Answer | Pending:
-        answer, program = _native.Answered(), within(program, 16, Status.UNKNOWN_PROGRAM)
-        status = self._try(lambda at: call(at, program, argument, len(argument), answer))
-        return pending(status) or Answer(answer.point, answer.reply)
 
     def _room(self, map: int) -> ctypes.Array[ctypes.c_char]:
         """Room for a value of a map."""
@@ -272,6 +275,13 @@ def _place(start: int) -> int:
 
 def _found(room: ctypes.Array[ctypes.c_char], found: _native.FoundThere) -> Found:
     return Found(found.point, room.raw if found.is_there else None)
+
+
+def _placed(answer: Answer) -> Answer:
+    """The answer to an install that found a place."""
+    if answer.reply == REPLY_NO_ROOM:
+        raise NoPlaceError(answer.point)
+    return answer
 
 
 class _Install:
@@ -292,7 +302,7 @@ class _Install:
         return program, self.answer, self.fault
 
     def told(self) -> Answer:
-        return Answer(self.answer.point, self.answer.reply)
+        return _placed(Answer(self.answer.point, self.answer.reply))
 
 
 class _Rooms:
@@ -300,6 +310,8 @@ class _Rooms:
 
     def __init__(self, store: Store, map: int, room: int) -> None:
         _, self.key, self.value, _ = store.shape(map)
+        if room < 1:
+            raise ValueError("room is a number of entries from 1 on: a scan with less comes to no end")
         self.keys = ctypes.create_string_buffer(self.key * room)
         self.values = ctypes.create_string_buffer(self.value * room)
         self.scanned = _native.Scanned()
@@ -320,7 +332,7 @@ class _Questions:
     """Questions, and room for what is told."""
 
     def __init__(self, questions: Sequence[tuple[int, Buffer]]) -> None:
-        given = [(within(program, 16, Status.UNKNOWN_PROGRAM), as_bytes(argument)) for program, argument in questions]
+        given = [(NO_PROGRAM if program >> 16 else program, as_bytes(argument)) for program, argument in questions]
         asked = [_native.Asked(argument, len(argument), program) for program, argument in given]
         self.asked = (_native.Asked * len(asked))(*asked)
         self.replies = (ctypes.c_uint64 * len(asked))()

@@ -16,29 +16,28 @@ from ._lane import MOST_SLOTS, Lane
 from ._manifest import ONE_SESSION, STANDARD, Limits, Manifest, Sizes
 from ._posted import Posts
 from ._session import Session
-from ._signals import end
+from ._signals import Owner, end
 from ._state import State
 
 _library = _native.library
 
 
-class Store:
+class Store(Owner):
     """A store of a manifest's maps and programs, each program verified. It is ended by `close` or a `with`, once all
     its sessions are given back."""
 
     def __init__(self, manifest: Manifest, sizes: Sizes = ONE_SESSION, state: State | None = None) -> None:
-        self._at: int | None = None
+        super().__init__()
         self._lock = threading.RLock()  # a session may be given back by the collector, in the middle of a call here
-        self._is_left = False
+        self._is_lost = False
         self._posts = Posts()
-        out, fault = ctypes.c_void_p(), _native.Fault()
-        given = (sizes.native(), *manifest.native())
+        self._last = State()  # where close_into puts the state
+        fault, given = _native.Fault(), (sizes.native(), *manifest.native())
         if state is None:
-            status = _library.nrbpf_open(*given, out, fault)
+            status = _library.nrbpf_open(*given, self._at, fault)
         else:
-            status = state.use(lambda at: _library.nrbpf_open_on(*given, at, out, fault))
+            status = state.use(lambda at: _library.nrbpf_open_on(*given, at, self._at, fault))
         check(status, fault)
-        self._at = out.value
         with self.attach() as first:  # no session is attached yet, so none is in the way
             self._maps = tuple(first.map_info(map).shape for map in range(self.info().maps))
 
@@ -69,33 +68,35 @@ class Store:
 
     def attach(self, node: int = 0) -> Session:
         """A free session of a node, counted from 0."""
-        return Session(self, node)
+        return Session(self)._attached(_library.nrbpf_attach, within(node, 32, Status.NO_SESSION))
 
     def attach_lane(self, node: int = 0, slots: int = MOST_SLOTS) -> Lane:
         """Some free sessions of a node as one lane: 1 to 16."""
-        return Lane(self, node, slots)
+        given = within(node, 32, Status.NO_SESSION), within(slots, 32, Status.BAD_CALL)
+        return Lane(self, slots)._attached(_library.nrbpf_attach_lane, *given)
 
     def new_state(self) -> State:
         """A state for snapshots of this store, any number of them. It takes the memory of one node's maps."""
-        out = ctypes.c_void_p()
+        state = State()
         with self._lock:
-            check(_library.nrbpf_state_new(self._open(), out))
-        return State(out.value)
+            check(_library.nrbpf_state_new(self._open(), state._at))
+        return state
 
     def close(self) -> None:
         """Ends the store and gives its memory back. Refused with S5 while a session is attached; once it is ended this
         does nothing."""
         with self._lock:
-            if self._at is not None:
+            if self._at.value is not None:
                 check(end(self, _library.nrbpf_close))
 
     def close_into(self) -> State:
-        """Ends the store, and gives the state that it ends in. Refused with S5 while a session is attached."""
-        out = ctypes.c_void_p()
+        """Ends the store, and gives the state that it ends in. Until that is freed a second call gives it again, for
+        Ctrl-C may take the first answer. Refused with S5 while a session is attached."""
         with self._lock:
-            self._open()
-            check(end(self, _library.nrbpf_close_into, out))
-        return State(out.value)
+            if self._last._at.value is None:
+                self._open()
+                check(end(self, _library.nrbpf_close_into, self._last._at))
+        return self._last
 
     def __enter__(self) -> Store:
         return self
@@ -106,43 +107,34 @@ class Store:
         self.close()
 
     def __del__(self) -> None:
-        if getattr(self, "_at", None) is None:
+        if not self._is_left:
             return
         warnings.warn(f"unclosed store {self!r}", ResourceWarning, source=self, stacklevel=2)
         with self._lock:
-            self._is_left = True
-            self._close_left()
+            self._is_lost = True
+            self._close_lost()
 
     # ---- What sessions call
 
-    def _open(self) -> int:
-        if self._at is None:
+    def _open(self) -> ctypes.c_void_p:
+        if self._at.value is None:
             raise RuntimeError("the store is closed")
         return self._at
 
-    def _attached(self, node: int) -> int | None:
-        out = ctypes.c_void_p()
+    def _attach(self, handle: Handle, attach: Callable[..., int], *given: object) -> None:
         with self._lock:
-            check(_library.nrbpf_attach(self._open(), within(node, 32, Status.NO_SESSION), out))
-        return out.value
-
-    def _attached_lane(self, node: int, slots: int) -> int | None:
-        out = ctypes.c_void_p()
-        with self._lock:
-            given = within(node, 32, Status.NO_SESSION), within(slots, 32, Status.BAD_CALL)
-            check(_library.nrbpf_attach_lane(self._open(), *given, out))
-        return out.value
+            check(attach(self._open(), *given, handle._at))
 
     def _given_back(self, handle: Handle, detach: Callable[[int], int]) -> int:
         with self._lock:
             status = end(handle, detach)
-            self._close_left()
+            self._close_lost()
         return status
 
-    def _close_left(self) -> None:
+    def _close_lost(self) -> None:
         """Ends a store that nothing refers to any more, once its last session is given back. Until then the library
         refuses."""
-        if self._is_left and self._at is not None:
+        if self._is_lost and self._at.value is not None:
             end(self, _library.nrbpf_close)
 
 
