@@ -4,9 +4,10 @@ use lib.ListN.{get_elem?}
 use mathlib.Core.Option.{some-injective}
 use Rattle.atomic_table.proofs.Lists.{set_again}
 use Rattle.ownlock.specs.declared.known.Known.{Known}
-use Rattle.ownlock.proofs.Export.{adds_on}
+use Rattle.ownlock.proofs.Export.{stepped_by}
+use Rattle.ownlock.specs.declared.known.ShelfStep.TheVariants.{Took}
 use Rattle.ownlock.specs.Rules.{Rules}
-use Rattle.ownlock.specs.Seats.{At, place_of}
+use Rattle.ownlock.specs.Seats.{Adds, At, place_of}
 use Rattle.ownlock.specs.Knowledge.{Acquired, Possible}
 use Rattle.oplog.specs.declared.configuration.Sizes.{Sizes}
 use Rattle.oplog.specs.History.{Meaning}
@@ -62,7 +63,7 @@ module _ {C M V : Type 0} {E : Meaning C M} {R : Rules (Progress C) SessionNote 
         session = ap (λ z. z.session) won.1;
         note = ap (λ z. z.note) won.1;
         held = ap (λ z. z.held) won.1;
-        steps = (ap (λ z. z.steps) won.1, adds_on k _ _ _ now.run won.4);
+        steps = stepped_by k now (Took p v) (ap (λ z. z.session) won.1) (ap (λ z. z.steps) won.1) (subst (λ (z : Progress C × SessionNote). Adds k (Took p v) z.0 z.1 now.run) (λ i. (sym is i, sym (ap (λ z. z.note) won.1) i)) won.4);
         extends = subst (λ z. Extends k.progress z) (sym is) (ok.extends k.progress won.0 won.2.0);
         sized = (agreed p k now v won).1;
         notes = won.3.0;

@@ -4,7 +4,7 @@ use Rattle.std.specs.Prelude.{◌≡◌, ℕ, ◌-◌, ◌≤◌, List, [], ◌�
 use Rattle.ownlock.specs.declared.known.Known.{Known}
 use Rattle.ownlock.specs.declared.known.ShelfStep.TheVariants.{Put}
 use Rattle.ownlock.specs.Rules.{Rules}
-use Rattle.ownlock.specs.Seats.{At, Continues, HasStepped, Run, without, left_with}
+use Rattle.ownlock.specs.Seats.{At, Continues, Run, without, left_with}
 use Rattle.ownlock.specs.Knowledge.{Possible, MayPut}
 use Rattle.oplog.specs.declared.configuration.Sizes.{Sizes}
 use Rattle.oplog.specs.History.{Meaning, History}
@@ -62,7 +62,7 @@ module _ {C M V : Type 0} (E : Meaning C M) (R : Rules (Progress C) SessionNote 
   pub record IsPut (p : ℕ) (w : V) (k now : Known (Progress C) SessionNote V) : Type 0 where
     pub session : now.session ≡ k.session
     pub held : now.held ≡ without p k.held
-    pub steps : HasStepped k (Put p w) now
+    pub steps : (now.steps ≡ Put p w ∷ k.steps) × Continues k.run now.run
     pub extends : Extends k.progress now.progress
     pub notes : List SessionNote
     pub accounts : Accounts E now.progress notes

@@ -1,6 +1,7 @@
 -- What a command wrote, over what the writer held, from what it made.
 use Rattle.std.specs.Prelude.{◌≡◌, ◌⊎◌, ⊤, ℕ, List, Option, Some, None, Result, Ok, Err, MatchOption}
 use Rattle.std.specs.Io.KnownBytes.{Appends, Keeps}
+use Rattle.engine.specs.declared.replies.Notes.{Notes}
 use Rattle.engine.specs.declared.replies.Status.{Status}
 use Rattle.engine.specs.declared.replies.Status.TheVariants as statuses
 use Rattle.engine.specs.declared.performing.Performed.{Performed}
@@ -28,9 +29,20 @@ IfAnswered statuses.CannotRead P = ⊤
 IfAnswered statuses.CannotWrite P = ⊤
 IfAnswered status P = P
 
+-- what was made, and what was told beside it, are of the same texts
+abbrev pub AreOfSame : {M : Type 0} → (Option TextsRead → M → Type 0) → (Option TextsRead → Notes → Notes → Type 0)
+    → Notes → Notes → M → Type 0
+AreOfSame may_make may_tell old new m = (t : Option TextsRead) × may_make t m × may_tell t old new
+
 -- `Reports`, but of what may be made of the texts that are read of these bytes, in a writer by what it holds
 abbrev pub ReportsRead : {M W : Type 0} → (M → Answer) → (Option TextsRead → M → Type 0) → (W → Option (List ℕ)) → W → W → Status → Given → Type 0
 ReportsRead answer may_make contents old new status g = Reports answer (may_make (read g)) (contents old) (contents new) status
+
+-- `Reports`, but of what may be made of some texts, and what may be told of the same was told beside it
+abbrev pub ReportsNoting : {M W : Type 0} → (M → Answer) → (Option TextsRead → M → Type 0) → (Option TextsRead → Notes → Notes → Type 0)
+    → Notes → Notes → (W → Option (List ℕ)) → W → W → Status → Type 0
+ReportsNoting answer may_make may_tell before after contents old new status =
+    Reports answer (AreOfSame may_make may_tell before after) (contents old) (contents new) status
 
 -- what is written where this was made
 abbrev pub Writes : {M : Type 0} → (M → Answer) → Option (List ℕ) → Option (List ℕ) → Status → Result M ReadFault → Type 0
@@ -55,6 +67,12 @@ Performs answer Is old new done =
 -- `Performs`, but of what may be made of the texts that are read of these bytes, in a writer by what it holds
 abbrev pub PerformsRead : {M W : Type 0} → (M → Answer) → (Option TextsRead → M → Type 0) → (W → Option (List ℕ)) → W → W → Performed M → Given → Type 0
 PerformsRead answer may_make contents old new done g = Performs answer (may_make (read g)) (contents old) (contents new) done
+
+-- `Performs`, but of what may be made of some texts, and what may be told of the same was told beside it
+abbrev pub PerformsNoting : {M W : Type 0} → (M → Answer) → (Option TextsRead → M → Type 0) → (Option TextsRead → Notes → Notes → Type 0)
+    → Notes → Notes → (W → Option (List ℕ)) → W → W → Performed M → Type 0
+PerformsNoting answer may_make may_tell before after contents old new done =
+    Performs answer (AreOfSame may_make may_tell before after) (contents old) (contents new) done
 
 -- what was made, where its answer was not broken off
 abbrev pub handed_back : {M : Type 0} → Status → Result M ReadFault → Option M

@@ -5,6 +5,7 @@ use Rattle.std.specs.List.{find}
 use Rattle.maps.specs.declared.shapes.MapLimits.{MapLimits}
 use Rattle.maps.specs.Shapes.{standard, widest}
 use Rattle.engine.specs.declared.reading.TheConstants.{LINE_ARG_LEN}
+use Rattle.loader.specs.declared.installed.TheConstants.{MOST_LONG}
 use Rattle.loader.specs.Loading.{Outcome, loaded_within}
 use Rattle.loader.specs.NamedFiles.{named_in}
 use Rattle.loader.specs.ProgramFiles.{Files}
@@ -76,6 +77,11 @@ read g =
 abbrev pub limits_of : MapSizes → MapLimits
 limits_of Standard = standard
 limits_of Large = record widest { argument = LINE_ARG_LEN }
+
+-- the most bytes of a program that is installed, and of its argument, if that is more than 192 and 64: none, or as many as a store may take
+abbrev pub long_of : MapSizes → ℕ
+long_of Standard = 0
+long_of Large = MOST_LONG
 
 -- the catalogue that the manifest and its files say
 abbrev pub loaded_by : TextsRead → Outcome

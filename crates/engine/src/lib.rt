@@ -16,7 +16,7 @@ pub use in_memory::{Held, HeldFiles, Page};
 pub use opening::{Loaded, Opened, load_texts, open_texts, places_within};
 pub use parted::{Destination, Handed, Parted};
 pub use performing::{
-    Command, Performed, hand_back, perform, perform_kept, prepare, report, write_pieces, write_text,
+    Command, Performed, hand_back, perform, perform_kept, prepare, report, write_text,
 };
 pub use reading::{
     Folder, Gathered, Inputs, LINE_ARG_LEN, MapSizes, NamedText, Stranger, Texts, gather, lent,

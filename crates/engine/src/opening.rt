@@ -1,8 +1,8 @@
 // What a command runs on: the catalogue that a manifest and its files say, and the state that it opens on.
 
 ghost use Rattle.std.specs.Prelude.{◌≡◌, ◌≤◌, ◌++◌, IfOk, IfSome, None, OnOk, Ok, string_bytes};
-ghost use Rattle.loader.specs.declared.installed.TheConstants.{MAX_SPARE};
-ghost use Rattle.engine.specs.Opening.{IsOpened, LoadedIs, on_which, opening, places_within};
+ghost use Rattle.loader.specs.declared.installed.TheConstants.{MAX_SPARE, MOST_LONG};
+ghost use Rattle.engine.specs.Opening.{IsOpened, LoadedIs, on_which, opening_within, places_within};
 ghost use Rattle.engine.specs.Reading.{loaded_by, texts_read};
 ghost use Rattle.engine.specs.StateAnswer.{opened_by, reason_text, refusal_text};
 
@@ -111,8 +111,8 @@ pub fn places_within(spare: u32) -> Option<usize>
 }
 
 /// Loads the manifest that was read, with so many places behind its programs, and the state that was read. A refused manifest gets only
-/// its refusal; without a number of places it is `refused O1`, and a refused state gets `line N: En`. The watcher is told how much of the
-/// state is loaded.
+/// its refusal; without a number of places it is `refused O1`, and a refused state gets `line N: En`. A program at a place, and its
+/// argument, may have `long` bytes, if that is more than 192 and 64. The watcher is told how much of the state is loaded.
 ///
 /// # Errors
 ///
@@ -121,18 +121,20 @@ pub fn open_texts<V: Watcher>(
     alloc: Global,
     texts: &Texts,
     places: Option<usize>,
+    long: usize,
     watcher: &V,
 ) -> Result<Opened, AllocError>
     requires few { IfSome places (λ n. n ≤ MAX_SPARE) }
+    requires short { long ≤ MOST_LONG }
     // The catalogue opens on the state that was read.
     ensures opened { IfOk result IsOpened }
-    ensures answered { IfOk result (λ o. on_which o ≡ opening places (texts_read texts.now)) }
+    ensures answered { IfOk result (λ o. on_which o ≡ opening_within places long (texts_read texts.now)) }
 {
     match (load_texts(alloc, texts)?, places) {
         (Loaded::Refused(reply), _) => Ok(Opened::Refused(reply)),
         (Loaded::Catalogue(_), None) => Ok(Opened::Refused(sizes_refused(alloc)?)),
         (Loaded::Catalogue(catalogue), Some(places)) => {
-            let catalogue = catalogue.with_places(places);
+            let catalogue = catalogue.with_long_places(places, long);
             open_on(alloc, catalogue, texts.state.as_str(), watcher)
         }
     }

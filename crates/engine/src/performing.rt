@@ -8,7 +8,7 @@ ghost use Rattle.engine.specs.Notes.{IsQuiet};
 ghost use Rattle.engine.specs.ReadFaults.{IfCannotRead};
 ghost use Rattle.engine.specs.Reading.{FailedInTurn, IfGiven, StopsAtStranger, TextsRead, read, texts_in};
 ghost use Rattle.engine.specs.Report.{Failed, Sends, whole_text};
-ghost use Rattle.engine.specs.Engine.{IfAnswered, Performs, PerformsRead, Reports, ReportsRead, Writes, handed_back};
+ghost use Rattle.engine.specs.Engine.{IfAnswered, Performs, PerformsNoting, PerformsRead, Reports, ReportsNoting, ReportsRead, Writes, handed_back};
 
 use crate::reading::{Folder, Gathered, Inputs, gather};
 use crate::replies::{AnswerText, Answering, Notes, Status, status_of};
@@ -91,8 +91,8 @@ pub fn write_text<W: Sink>(writer: &mut W, text: &[u8], status: Status) -> Statu
     }
 }
 
-/// Writes what is left of the text of a state piece by piece, and ends so, or as one that cannot write.
-pub fn write_pieces<W: Sink>(writer: &mut W, mut pieces: Pieces<'_>, status: Status) -> Status
+// Writes what is left of the text of a state piece by piece, and ends so, or as one that cannot write.
+fn write_pieces<W: Sink>(writer: &mut W, mut pieces: Pieces<'_>, status: Status) -> Status
     ensures sent { Sends (W.contents writer.old) (W.contents writer.new) result pieces.entry status }
     ensures failed { (result ≡ status) ⊎ ((result ≡ statuses.CannotWrite) × W.has_failed writer.new) }
     ensures spared { result ≢ statuses.CannotWrite → W.has_failed writer.new → W.has_failed writer.old }
@@ -184,8 +184,8 @@ where
     ensures spared { result.status ≢ statuses.CannotWrite → W.has_failed writer.new → W.has_failed writer.old }
     // Whatever they give, or where they fail.
     ensures ended { Performs C.Made.answer (λ m. (t : Option TextsRead) × C.may_make command.now t m) (W.contents writer.old) (W.contents writer.new) result }
-    // What is handed back, and what is told beside it, are of the same texts.
-    ensures noted { IfSome result.made (λ m. (t : Option TextsRead) × C.may_make command.now t m × C.may_tell command.now t notes.old notes.new) }
+    // What is told beside an answer is of the texts that the answer is of, also where the answer breaks off.
+    ensures noted { PerformsNoting C.Made.answer (C.may_make command.now) (C.may_tell command.now) notes.old notes.new W.contents writer.old writer.new result }
     // However it ends, a text is read only if all texts before it are UTF-8.
     ensures stops { IfGiven F.holds R.remaining inputs.old (StopsAtStranger inputs.old inputs.new) }
     // Where nothing is to be told beside the answer, nothing is.
@@ -215,8 +215,8 @@ where
     ensures spared { result ≢ statuses.CannotWrite → W.has_failed writer.new → W.has_failed writer.old }
     // Whatever they give, or where they fail.
     ensures ended { Reports C.Made.answer (λ m. (t : Option TextsRead) × C.may_make command.now t m) (W.contents writer.old) (W.contents writer.new) result }
-    // What is told beside an answer that is written whole is of some texts.
-    ensures noted { IfAnswered result ((t : Option TextsRead) × C.may_tell command.now t notes.old notes.new) }
+    // What is told beside an answer is of the texts that the answer is of, also where the answer breaks off.
+    ensures noted { ReportsNoting C.Made.answer (C.may_make command.now) (C.may_tell command.now) notes.old notes.new W.contents writer.old writer.new result }
     // However it ends, a text is read only if all texts before it are UTF-8.
     ensures stops { IfGiven F.holds R.remaining inputs.old (StopsAtStranger inputs.old inputs.new) }
     // Where nothing is to be told beside the answer, nothing is.

@@ -1,18 +1,19 @@
 // What a command reads: a manifest and the files that it names, the file that it is about, a state and a history.
 
-ghost use Rattle.std.specs.Prelude.{◌≡◌, ℕ, List, Option, None, Some, IfOk, IfErr, IfSome, IsSomeAnd, MatchOption, MatchResult, option_map, string_bytes};
+ghost use Rattle.std.specs.Prelude.{◌≡◌, ◌≤◌, ℕ, List, Option, None, Some, IfOk, IfErr, IfSome, IsSomeAnd, MatchOption, MatchResult, option_map, string_bytes};
 ghost use Rattle.maps.specs.Shapes.{AreLimits};
+ghost use Rattle.loader.specs.declared.installed.TheConstants.{MOST_LONG};
 ghost use Rattle.loader.specs.NamedFiles.{named_in};
 ghost use Rattle.loader.specs.ProgramFiles.{files_of};
 ghost use Rattle.engine.specs.declared.reading.Unread.TheVariants as faults;
 ghost use Rattle.engine.specs.Files.{Contents};
 ghost use Rattle.engine.specs.ReadFaults.{IfCannotRead};
-ghost use Rattle.engine.specs.Reading.{FailedInTurn, FileFailedOr, GoesBy, IfGiven, NothingAfter, StopsAtStranger, first_stranger, given_text, limits_of, named_texts, naming, naming_text, read, strange_text, texts_in};
+ghost use Rattle.engine.specs.Reading.{FailedInTurn, FileFailedOr, GoesBy, IfGiven, NothingAfter, StopsAtStranger, first_stranger, given_text, limits_of, long_of, named_texts, naming, naming_text, read, strange_text, texts_in};
 ghost use Rattle.engine.specs.Unread.{AreRead, FailsAs, FoundAs, Gathered, IfUnread, IsStrangeFile, TextIs};
 
 use crate::transfer::{ReadFault, Source};
 use insn::MAX_INSTALLED_SLOTS;
-use loader::named_files;
+use loader::{MOST_LONG, named_files};
 use maps::MapLimits;
 use std::alloc::{AllocError, AllocFailed, Global};
 
@@ -58,6 +59,18 @@ impl MapSizes {
                 argument: LINE_ARG_LEN as u32,
                 ..MapLimits::widest()
             },
+        }
+    }
+
+    /// The most bytes of a program that is installed, and of its argument, if that is more than 192 and 64: none, or as many as a store of
+    /// any host may take.
+    pub fn long(self) -> usize
+        ensures long { result ≡ long_of self }
+        ensures few { result ≤ MOST_LONG }
+    {
+        match self {
+            MapSizes::Standard => 0,
+            MapSizes::Large => MOST_LONG,
         }
     }
 }

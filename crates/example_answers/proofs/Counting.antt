@@ -44,18 +44,22 @@ put entries n = finite_map.insert entries first (value n)
 abbrev pub counted : Entries → ℕ → Entries
 counted entries n = put (put (put (put (put (put (put (put entries n) n) n) n) n) n) n) n
 
-pub one : (entries : Entries) → finite_map.get entries first ≡ Some (value 0) → effect bump (with_values entries) first ≡ Some (effect_of 9 1 (with_values (counted entries 1)))
+pub one : (entries : Entries) → finite_map.get entries first ≡ Some (value 0)
+    → effect bump (with_values entries) first ≡ Some (effect_of 9 1 (with_values (counted entries 1)))
 unfolding effect
 one entries h = simp (h, inserted) refl
 
-pub two : (entries : Entries) → finite_map.get entries first ≡ Some (value 1) → effect bump (with_values entries) first ≡ Some (effect_of 9 2 (with_values (counted entries 2)))
+pub two : (entries : Entries) → finite_map.get entries first ≡ Some (value 1)
+    → effect bump (with_values entries) first ≡ Some (effect_of 9 2 (with_values (counted entries 2)))
 unfolding effect
 two entries h = simp (h, inserted) refl
 
-pub read_two : (entries : Entries) → finite_map.get entries first ≡ Some (value 2) → effect peek (with_values entries) first ≡ Some (effect_of 6 2 (with_values entries))
+pub read_two : (entries : Entries) → finite_map.get entries first ≡ Some (value 2)
+    → effect peek (with_values entries) first ≡ Some (effect_of 6 2 (with_values entries))
 unfolding effect
 read_two entries h = simp h refl
 
-pub none_there : (entries : Entries) → finite_map.get entries absent ≡ None → effect bump (with_values entries) absent ≡ Some (effect_of 6 18446744073709551615 (with_values entries))
+pub none_there : (entries : Entries) → finite_map.get entries absent ≡ None
+    → effect bump (with_values entries) absent ≡ Some (effect_of 6 18446744073709551615 (with_values entries))
 unfolding effect
 none_there entries h = simp h refl

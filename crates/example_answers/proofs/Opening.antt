@@ -19,7 +19,8 @@ is_other q [] = true
 is_other q (None ∷ ks) = is_other q ks
 is_other q (Some k ∷ ks) = not (is_same q k) && is_other q ks
 
-beside : (entries : Entries) (k v q : List ℕ) → is_same q k ≡ false → finite_map.get (finite_map.insert entries k v) q ≡ finite_map.get entries q
+beside : (entries : Entries) (k v q : List ℕ) → is_same q k ≡ false
+    → finite_map.get (finite_map.insert entries k v) q ≡ finite_map.get entries q
 beside entries k v q e = get-insert nat_list_cmp_total entries k v q ∙ ap (λ b. cond b (Some v) (finite_map.get entries q)) e
 
 both : (a b : Bool) → not a && b ≡ true → (a ≡ false) × (b ≡ true)
@@ -27,7 +28,8 @@ both false true e = (refl, refl)
 both false false e = absurd cc
 both true b e = absurd cc
 
-not_placed : (q : List ℕ) (ks : List (Option (List ℕ))) (f : ℕ → List ℕ) (n : ℕ) → is_other q ks ≡ true → finite_map.get (placed ks f n) q ≡ None
+not_placed : (q : List ℕ) (ks : List (Option (List ℕ))) (f : ℕ → List ℕ) (n : ℕ) → is_other q ks ≡ true
+    → finite_map.get (placed ks f n) q ≡ None
 not_placed q [] f n e = get-empty (slice_cmp nat_cmp) q
 not_placed q (None ∷ ks) f n e = not_placed q ks f (suc n) e
 not_placed q (Some k ∷ ks) f n e =
@@ -49,5 +51,6 @@ counts entries n = inserted _ first (value n)
 aside : (entries : Entries) (n : ℕ) → finite_map.get (put entries n) absent ≡ finite_map.get entries absent
 aside entries n = beside entries first (value n) absent refl
 
-pub none_counts : (entries : Entries) (n : ℕ) → finite_map.get entries absent ≡ None → finite_map.get (counted entries n) absent ≡ None
+pub none_counts : (entries : Entries) (n : ℕ) → finite_map.get entries absent ≡ None
+    → finite_map.get (counted entries n) absent ≡ None
 none_counts entries n e = simp (aside, e) refl

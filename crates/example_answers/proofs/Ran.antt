@@ -24,7 +24,9 @@ use Rattle.example_answers.proofs.Counting.{running}
 use Rattle.example_answers.proofs.Checked.{counter_loads}
 use Rattle.example_answers.proofs.Script.{once, twice, thrice, bump_once, bump_twice, peek_then, bump_none, nope}
 
-line : (c : CatalogueView) (n : ℕ) (h : History) (l : List ℕ) (ls : List (List ℕ)) (t : Turn) → line_turn MAX_LIMIT c h l ≡ Some t → lines_answer MAX_LIMIT c n h (l ∷ ls) ≡ behind t.text (lines_answer MAX_LIMIT c (next_line n) t.history ls)
+line : (c : CatalogueView) (n : ℕ) (h : History) (l : List ℕ) (ls : List (List ℕ)) (t : Turn)
+    → line_turn MAX_LIMIT c h l ≡ Some t
+    → lines_answer MAX_LIMIT c n h (l ∷ ls) ≡ behind t.text (lines_answer MAX_LIMIT c (next_line n) t.history ls)
 unfolding lines_answer
 line c n h l ls t e = ap (λ o. option_map_or (λ turn. behind turn.text (lines_answer MAX_LIMIT c (next_line n) turn.history ls)) o (bad_line n)) e
 
@@ -60,6 +62,7 @@ counter_runs =
     ∙ ap (λ o. (script_kept counter_script (opening_of (Some RUN_PLACES) o [])).answer) counter_loads ∙ lines
 
 -- what is made of these calls has this answer
-pub kept_so : {E : Type 0} (r : Result Kept E) (k : KeptRun) (a : Answer) → k.answer ≡ a → IfOk r (λ m. kept_of m ≡ k) → IfOk r (λ m. (kept_of m).answer ≡ a)
+pub kept_so : {E : Type 0} (r : Result Kept E) (k : KeptRun) (a : Answer) → k.answer ≡ a
+    → IfOk r (λ m. kept_of m ≡ k) → IfOk r (λ m. (kept_of m).answer ≡ a)
 kept_so (Ok m) k a is made = ap (λ (x : KeptRun). x.answer) made ∙ is
 kept_so (Err e) k a is made = tt

@@ -38,7 +38,8 @@ pub record EndsIn (steps : List Step) (seen : Seen) : Type 0 where
   pub is : steps ≡ last ∷ before
   pub part : of_part last ≡ seen
 
-ends : (since : List Step) (t : Step) (before : List Step) → EndsIn (and_then (t ∷ before) since) (last_or (of_part t) (map of_part since))
+ends : (since : List Step) (t : Step) (before : List Step)
+    → EndsIn (and_then (t ∷ before) since) (last_or (of_part t) (map of_part since))
 unfolding last_or
 ends [] t before = record { last = t; before = before; is = refl; part = refl }
 ends (s ∷ since) t before = ends since s (t ∷ before)
@@ -61,7 +62,8 @@ PutsTail point (Put p x) = HasTail point x
 PutsTail point (Read n) = ⊥
 PutsTail point (Raised n) = ⊥
 
-of_value : (point : ℕ) (v : Value) → HasTail point (part_of v) → MatchOption (replica_of v) ⊥ (λ n. n.replica.tail ≡ point)
+of_value : (point : ℕ) (v : Value) → HasTail point (part_of v)
+    → MatchOption (replica_of v) ⊥ (λ n. n.replica.tail ≡ point)
 unfolding HasTail
 of_value point (Log g) h = absurd h
 of_value point (Replica n) h = h
@@ -88,7 +90,8 @@ module _ (old new : SessionView) (point : ℕ) (by : LooksBy (known_of old) (kno
   unfolding PutsTail HasTail
   puts = sym by.at
 
-  up_by : (last : Step) (before : List Step) → new.steps ≡ last ∷ before → of_part last ≡ step → HasCaughtUp old new point
+  up_by : (last : Step) (before : List Step) → new.steps ≡ last ∷ before → of_part last ≡ step
+      → HasCaughtUp old new point
   unfolding PutsTail place_in
   up_by (Took p v) before is e = absurd (subst (PutsTail point) (sym e) puts)
   up_by (Read n) before is e = absurd (subst (PutsTail point) (sym e) puts)
@@ -102,7 +105,8 @@ module _ (old new : SessionView) (point : ℕ) (by : LooksBy (known_of old) (kno
     last = is ∙ ap (λ q. Put q v ∷ before) (ap place_in e);
   }
 
-  up_since : (since : List Step) → map of_part since ≡ earlier ++ step ∷ [] → new.steps ≡ and_then old.steps since → HasCaughtUp old new point
+  up_since : (since : List Step) → map of_part since ≡ earlier ++ step ∷ [] → new.steps ≡ and_then old.steps since
+      → HasCaughtUp old new point
   unfolding last_or PutsTail
   up_since [] are all = absurd (subst (PutsTail point) (sym (ap (last_or (Read 0)) are ∙ last_is (Read 0) earlier step)) puts)
   up_since (s ∷ since) are all =

@@ -9,7 +9,8 @@ alone None = refl
 alone (Some a) = refl
 
 -- of places with one more at the end
-pub back_more : (ps : List (Option Attached)) (p : Option Attached) → sessions_back (ps ++ p ∷ []) ≡ sessions_at p ++ sessions_back ps
+pub back_more : (ps : List (Option Attached)) (p : Option Attached)
+    → sessions_back (ps ++ p ∷ []) ≡ sessions_at p ++ sessions_back ps
 back_more [] p = alone p
 back_more (q ∷ ps) p = ap (λ z. z ++ sessions_at q) (back_more ps p) ∙ append_assoc (sessions_at p) (sessions_back ps) (sessions_at q)
 

@@ -1,4 +1,3 @@
-mod Sessions
 mod Posted
 mod Looking
 mod Reasons

@@ -11,11 +11,11 @@ use Rattle.store_steps.specs.declared.questions.QuestionRefused.{QuestionRefused
 use Rattle.store_steps.specs.declared.steps.Question.{Question}
 use Rattle.store_steps.specs.Questions.{first_refused_in}
 use Rattle.store_steps.specs.Views.{SessionView}
-use Rattle.store_steps.proofs.Export.{store_laws}
 use Rattle.store.specs.Opening.{AreOf}
 use Rattle.store.specs.Pipelines.{EachGoesOn, OthersStay}
 use Rattle.store.specs.PolledPipelines.{AreWaiting, EachAsks}
-use Rattle.store.specs.Sessions.{SessionGoesOn, StoreView}
+use Rattle.store.specs.Sessions.{StoreView}
+use Rattle.store.proofs.Export.{goes_then}
 use Rattle.host_calls.specs.declared.handles.Outcome.{Outcome}
 use Rattle.host_calls.specs.declared.lanes.Listed.{Listed}
 use Rattle.host_calls.specs.declared.lanes.Listed.TheVariants.{Busy, Again, Answered, Refused, NotOpen, NoWord}
@@ -32,29 +32,20 @@ new_list calls before after old posted new (Refused status number) asks t = absu
 new_list calls before after old posted new NotOpen asks t = absurd t
 new_list calls before after old posted new NoWord asks t = absurd t
 
-one_on : (store : StoreView) (a b c : SessionView) → SessionGoesOn store a b → SessionGoesOn store b c → SessionGoesOn store a c
-one_on store a b c x y = record {
-  own = y.own;
-  same = (y.same.0 ∙ x.same.0, y.same.1 ∙ x.same.1);
-  grown = store_laws.extends_on _ _ _ x.grown y.grown;
-  well_formed = y.well_formed;
-}
-
-pub on_and_on : (store : StoreView) (old mid new : List SessionView) → EachGoesOn store old mid → EachGoesOn store mid new → EachGoesOn store old new
+pub on_and_on : (store : StoreView) (old mid new : List SessionView) → EachGoesOn store old mid
+    → EachGoesOn store mid new → EachGoesOn store old new
 on_and_on store old mid new x y = (
   y.0 ∙ x.0,
   λ j s t at there.
       let below = at_below old j s at in
       let long = x.0 in
       let m = at_there mid j (omega (arith, below, long)) in
-      one_on store s m.0 t (x.1 j s m.0 at m.1) (y.1 j m.0 t m.1 there),
+      goes_then store s m.0 t (x.1 j s m.0 at m.1) (y.1 j m.0 t m.1 there),
 )
 
-pub stay_and_stay : (count : ℕ) (old mid new : List SessionView) → OthersStay count old mid → OthersStay count mid new → OthersStay count old new
-stay_and_stay count old mid new x y = λ j s below at. y j s below (x j s below at)
-
 -- those that have posted their calls wait
-pub waits_now : (old posted : List SessionView) (calls : List Question) → length posted ≡ length old → length calls ≤ length old → AreWaiting 0 old → EachAsks old posted calls
+pub waits_now : (old posted : List SessionView) (calls : List Question) → length posted ≡ length old
+    → length calls ≤ length old → AreWaiting 0 old → EachAsks old posted calls
     → OthersStay (length calls) old posted → AreWaiting (length calls) posted
 waits_now old posted calls same few idle asks others j t at = (λ below. first below, λ above. rest above)
   where
@@ -73,7 +64,8 @@ waits_now old posted calls same few idle asks others j t at = (λ below. first b
         subst (λ (z : SessionView). z.note.pending ≡ None) (at_one posted j was.0 t there at) ((idle j was.0 was.1).1 (omega arith))
 
 -- a list that is out is none that isn't
-pub is_out : (count : ℕ) (ss : List SessionView) → 0 < count → count ≤ length ss → AreWaiting count ss → AreWaiting 0 ss → ⊥
+pub is_out : (count : ℕ) (ss : List SessionView) → 0 < count → count ≤ length ss → AreWaiting count ss
+    → AreWaiting 0 ss → ⊥
 is_out count ss some few out idle =
     let s = at_there ss 0 (omega (arith, some, few)) in
     let o = (out 0 s.0 s.1).0 some in

@@ -10,9 +10,11 @@ use Rattle.accounts.specs.Accounts.{Extends}
 use Rattle.accounts.specs.Moves.{answered_with}
 use Rattle.accounts.specs.Told.{Tells}
 use Rattle.store_steps.specs.Polling.{HasAskedFor}
-use Rattle.store_steps.specs.Views.{SessionView}
-use Rattle.store.specs.Polled.{HasPostedFor}
+use Rattle.store_steps.specs.Views.{SessionView, known_of}
 use Rattle.store_steps.proofs.Export.{store_laws}
+use Rattle.store_laws.specs.CallsMade.{GoneOn}
+use Rattle.store.specs.Polled.{HasPostedFor}
+use Rattle.store.proofs.Export.{gone_then}
 use Rattle.host_calls.specs.declared.attached.CallResult.{CallResult}
 use Rattle.host_calls.specs.declared.attached.CallResult.TheVariants.{Busy, Again, Answered, Refused, NotOpen, IsOut, NoWord, Allowed}
 use Rattle.host_calls.specs.CallResults.{HasGrown, TellsOut, TellsPosting, TellsRefused, TellsUpdate}
@@ -36,7 +38,8 @@ out_from old mid new o IsOut same note t = t
 out_from old mid new o NoWord same note t = t
 out_from old mid new o Allowed same note t = t
 
-posting : (op : Operation) (old new : SessionView) (o : Pending) (told : CallResult) → o.op ≡ op → length old.progress.history ≤ o.seen → TellsOut old new o told → TellsPosting op old new told
+posting : (op : Operation) (old new : SessionView) (o : Pending) (told : CallResult) → o.op ≡ op
+    → length old.progress.history ≤ o.seen → TellsOut old new o told → TellsPosting op old new told
 posting op old new o Busy is seen t = absurd t
 posting op old new o Again is seen t = (o, is, seen, t)
 posting op old new o (Answered place reply) is seen t = (o, is, seen, t)
@@ -50,11 +53,13 @@ posting op old new o Allowed is seen t = absurd t
 pub asked_for : (old mid : SessionView) (op : Operation) → HasPostedFor old mid op → HasAskedFor old mid op
 asked_for old mid op (o, is, seen, note) = (o, is, seen, ap (λ (n : SessionNote). record n { batch = [] }) note)
 
-pub posted_then : (op : Operation) (refused : Option StoreRefused) (old mid new : SessionView) (told : CallResult) → old.note.pending ≡ None → refused ≡ None → HasAskedFor old mid op → mid.session ≡ old.session
-    → Extends old.progress mid.progress → HasGrown mid new → ((o : Pending) → mid.note.pending ≡ Some o → TellsOut mid new o told) → TellsUpdate op refused old new told
-posted_then op refused old mid new told idle none (o, is, seen, note) same grew grown tells =
+pub posted_then : (op : Operation) (refused : Option StoreRefused) (old mid new : SessionView) (told : CallResult)
+    → old.note.pending ≡ None → refused ≡ None → HasAskedFor old mid op → mid.session ≡ old.session
+    → Extends old.progress mid.progress → GoneOn (known_of old) (known_of mid) → HasGrown mid new
+    → ((o : Pending) → mid.note.pending ≡ Some o → TellsOut mid new o told) → TellsUpdate op refused old new told
+posted_then op refused old mid new told idle none (o, is, seen, note) same grew went grown tells =
     let at = posting op old new o told is seen (out_from old mid new o told same note (tells o (ap (λ (n : SessionNote). n.pending) note))) in (
-      record { grown = store_laws.extends_on _ _ _ grew grown.grown; well_formed = grown.well_formed },
+      record { grown = store_laws.extends_on _ _ _ grew grown.grown; well_formed = grown.well_formed; gone = gone_then (known_of old) (known_of mid) (known_of new) went grown.gone },
       subst (λ p. MatchOption p (MatchOption refused (TellsPosting op old new told) (λ why. TellsRefused old new told why)) (λ o'. TellsOut old new o' told)) (sym idle)
           (subst (λ r. MatchOption r (TellsPosting op old new told) (λ why. TellsRefused old new told why)) (sym none) at),
     )

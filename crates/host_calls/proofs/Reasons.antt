@@ -8,6 +8,7 @@ use Rattle.host_calls.specs.declared.opening.NotOpened.TheVariants.{Loading}
 use Rattle.host_calls.specs.Loadings.{IsLoadReason}
 use Rattle.host_calls.specs.Openings.{IsReason}
 
-pub of_manifest : (o : Asked) (text : List ℕ) (e : LoadError) → IsReason o None (Loading e) → IsLoadReason o text (Manifest e)
+pub of_manifest : (o : Asked) (text : List ℕ) (e : LoadError) → IsReason o None (Loading e)
+    → IsLoadReason o text (Manifest e)
 of_manifest o text errors.NoMemory reason = reason
 of_manifest o text (errors.Refused bad) reason = reason

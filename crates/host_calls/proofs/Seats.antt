@@ -10,7 +10,8 @@ use Rattle.host_calls.specs.Views.{AttachedView}
 same : (a n : ℕ) → suc a + n ≡ a + suc n
 same a n = omega arith
 
-snoc : (s : StoreView) (a n : ℕ) → fresh_sessions s.id s.config s.catalogue a (suc n) ≡ fresh_sessions s.id s.config s.catalogue a n ++ fresh_session s.id s.config s.catalogue (a + n) ∷ []
+snoc : (s : StoreView) (a n : ℕ)
+    → fresh_sessions s.id s.config s.catalogue a (suc n) ≡ fresh_sessions s.id s.config s.catalogue a n ++ fresh_session s.id s.config s.catalogue (a + n) ∷ []
 snoc s a zero = ap (λ z. fresh_session s.id s.config s.catalogue z ∷ []) (omega arith)
 snoc s a (suc n) = ap (λ z. fresh_session s.id s.config s.catalogue a ∷ z) (snoc s (suc a) n ∙ ap (λ z. fresh_sessions s.id s.config s.catalogue (suc a) n ++ fresh_session s.id s.config s.catalogue z ∷ []) (same a n))
 
@@ -41,7 +42,8 @@ pub record IsPopped (s : StoreView) (xs ys : List SessionView) (x : SessionView)
   pub last : x ≡ fresh_session s.id s.config s.catalogue (length ys)
   pub more : length xs ≡ suc (length ys)
 
-pub popped : (s : StoreView) (xs ys : List SessionView) (x : SessionView) → xs ≡ ys ++ x ∷ [] → xs ≡ fresh_of s (length xs) → IsPopped s xs ys x
+pub popped : (s : StoreView) (xs ys : List SessionView) (x : SessionView) → xs ≡ ys ++ x ∷ []
+    → xs ≡ fresh_of s (length xs) → IsPopped s xs ys x
 popped s xs ys x is fresh =
     let n = length ys in
     let more : length xs ≡ suc n = ap length is ∙ (length-append ys (x ∷ []) ∙ omega arith) in
@@ -56,8 +58,10 @@ abbrev pub seat_of : StoreView → ℕ → SessionView → AttachedView
 seat_of s m z = record { store = s; place = m; session = z }
 
 -- once it is put, the places from its own on have their sessions
-pub put_there : (s : StoreView) (places : List (Option Attached)) (m count : ℕ) (a : Attached) → length places ≡ count → m < count → a ≡ fresh_seat s m
-    → ((k : ℕ) → suc m ≤ k → k < count → IsSeat s places k) → (k : ℕ) → m ≤ k → k < count → IsSeat s (set places m (Some a)) k
+pub put_there : (s : StoreView) (places : List (Option Attached)) (m count : ℕ) (a : Attached)
+    → length places ≡ count → m < count → a ≡ fresh_seat s m
+    → ((k : ℕ) → suc m ≤ k → k < count → IsSeat s places k) → (k : ℕ) → m ≤ k → k < count
+    → IsSeat s (set places m (Some a)) k
 put_there s places m count a room there is rest k from below = ⊎_elim
     (λ e. subst (λ i. IsSeat s (set places m (Some a)) i) (sym e) (subst (λ o. MatchOption o ⊥ (λ b. b ≡ fresh_seat s m)) (sym (get_or-set_same places m (Some a) None (omega (arith, there, room)))) is))
     (λ n. subst (λ o. MatchOption o ⊥ (λ b. b ≡ fresh_seat s k)) (sym (get_or-set_other places m k (Some a) None n)) (rest k (omega (arith, from, n)) below))

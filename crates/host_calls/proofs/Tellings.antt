@@ -15,7 +15,7 @@ use Rattle.host_calls.specs.Homes.{AreAtHome, attached_of}
 use Rattle.host_calls.specs.Lanes.{AreOneLane, AreSame, HasRoomFor, TellsBegun, TellsList, TellsOutList, sessions_in}
 use Rattle.host_calls.specs.Views.{AttachedView}
 use Rattle.host_calls.proofs.Homes.{as_long, home_on, same_on, same_self, seen, sessions_are, store_of}
-use Rattle.host_calls.proofs.Sessions.{stands}
+use Rattle.store.proofs.Export.{stands}
 
 -- the first home
 pub first_at : (homes : List Home) (h : Home) → 0 < length homes → h ≡ get_or homes 0 h → At 0 h homes
@@ -32,7 +32,8 @@ module _ (homes : List Home) (ss : List SessionView) (lane : List AttachedView) 
     waiting : AreWaiting out (sessions_in lane) × (out ≤ length lane)
     waiting = let long = long_lane in (subst (AreWaiting out) (sym sessions) waits, omega (arith, few, long))
 
-    pub tells_short : (new : List AttachedView) → new ≡ lane → 0 < out → length before < out → TellsList asked before before lane new NoWord
+    pub tells_short : (new : List AttachedView) → new ≡ lane → 0 < out → length before < out
+        → TellsList asked before before lane new NoWord
     tells_short new same some less = record {
       out = out;
       waiting = waiting;
@@ -44,7 +45,8 @@ module _ (homes : List Home) (ss : List SessionView) (lane : List AttachedView) 
       long = λ none _. absurd (omega (arith, none, some));
     }
 
-    pub tells_long : (new : List AttachedView) → new ≡ lane → out ≡ 0 → (HasRoomFor asked before lane → ⊥) → TellsList asked before before lane new NoWord
+    pub tells_long : (new : List AttachedView) → new ≡ lane → out ≡ 0 → (HasRoomFor asked before lane → ⊥)
+        → TellsList asked before before lane new NoWord
     tells_long new same none never = record {
       out = out;
       waiting = waiting;
@@ -56,7 +58,8 @@ module _ (homes : List Home) (ss : List SessionView) (lane : List AttachedView) 
       long = λ _ _. (refl, refl, same);
     }
 
-    pub tells_none : (new : List AttachedView) → new ≡ lane → out ≡ 0 → length asked ≡ 0 → TellsList asked before before lane new (Answered 0)
+    pub tells_none : (new : List AttachedView) → new ≡ lane → out ≡ 0 → length asked ≡ 0
+        → TellsList asked before before lane new (Answered 0)
     tells_none new same none empty = record {
       out = out;
       waiting = waiting;
@@ -78,7 +81,8 @@ module _ (homes : List Home) (ss : List SessionView) (lane : List AttachedView) 
       same : AreSame lane (attached_of homes new)
       same = subst (λ (z : List AttachedView). AreSame z (attached_of homes new)) is (same_on homes ss new store home.count on)
 
-      both : (P : List SessionView → List SessionView → Type 0) → P ss new → P (sessions_in lane) (sessions_in (attached_of homes new))
+      both : (P : List SessionView → List SessionView → Type 0) → P ss new
+          → P (sessions_in lane) (sessions_in (attached_of homes new))
       both P p = subst (λ (z : List SessionView × List SessionView). P z.0 z.1) (λ i. ((sym sessions) i, (sym now) i)) p
 
       goes : (z : StoreView) → AreOneLane z lane → EachGoesOn z (sessions_in lane) (sessions_in (attached_of homes new))
@@ -87,7 +91,8 @@ module _ (homes : List Home) (ss : List SessionView) (lane : List AttachedView) 
       pub still_home : AreAtHome homes new
       still_home = home_on homes ss new store home on (λ i g at. home.one i 0 g h at first ∙ its)
 
-      pub tells_on : 0 < out → OthersStay out ss new → TellsOutList before after ss new out told → out ≤ length before → TellsList asked before after lane (attached_of homes new) told
+      pub tells_on : 0 < out → OthersStay out ss new → TellsOutList before after ss new out told
+          → out ≤ length before → TellsList asked before after lane (attached_of homes new) told
       tells_on some others t room = record {
         out = out;
         waiting = waiting;
@@ -99,7 +104,8 @@ module _ (homes : List Home) (ss : List SessionView) (lane : List AttachedView) 
         long = λ none _. absurd (omega (arith, none, some));
       }
 
-      pub tells_begun : out ≡ 0 → 0 < length asked → length asked ≤ length ss → length asked ≤ length before → OthersStay (length asked) ss new → TellsBegun store asked before after ss new told
+      pub tells_begun : out ≡ 0 → 0 < length asked → length asked ≤ length ss → length asked ≤ length before
+          → OthersStay (length asked) ss new → TellsBegun store asked before after ss new told
           → TellsList asked before after lane (attached_of homes new) told
       tells_begun none some fits room others t = record {
         out = out;

@@ -13,7 +13,8 @@ module _ {A B : Type 0} (f : A → B) where
       → set (map f (take k xs) ++ drop k ys) k (f (get_or xs k d)) ≡ map f (take (k + 1) xs) ++ drop (k + 1) ys
   put xs ys k d below room = let next : suc k ≡ k + 1 = omega arith in put_one xs ys k d below room ∙ ap (λ m. map f (take m xs) ++ drop m ys) next
 
-  pub put_on : (xs : List A) (ys : List B) (k : ℕ) (d : A) → k < length xs → length xs ≤ length ys → (zs : List B) → zs ≡ map f (take k xs) ++ drop k ys
+  pub put_on : (xs : List A) (ys : List B) (k : ℕ) (d : A) → k < length xs → length xs ≤ length ys → (zs : List B)
+      → zs ≡ map f (take k xs) ++ drop k ys
       → set zs k (f (get_or xs k d)) ≡ map f (take (k + 1) xs) ++ drop (k + 1) ys
   put_on xs ys k d below room zs is = ap (λ z. set z k (f (get_or xs k d))) is ∙ put xs ys k d below room
 
@@ -21,5 +22,6 @@ module _ {A B : Type 0} (f : A → B) where
   whole [] = refl
   whole (x ∷ xs) = ap (λ z. x ∷ z) (whole xs)
 
-  pub all_put : (xs : List A) (ys : List B) (k : ℕ) → k ≡ length xs → map f (take k xs) ++ drop k ys ≡ map f xs ++ drop (length xs) ys
+  pub all_put : (xs : List A) (ys : List B) (k : ℕ) → k ≡ length xs
+      → map f (take k xs) ++ drop k ys ≡ map f xs ++ drop (length xs) ys
   all_put xs ys k is = ap (λ m. map f (take m xs) ++ drop m ys) is ∙ ap (λ z. map f z ++ drop (length xs) ys) (whole xs)

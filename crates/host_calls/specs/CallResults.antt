@@ -10,7 +10,8 @@ use Rattle.replica.specs.declared.refusals.StoreRefused.{StoreRefused}
 use Rattle.replica.specs.declared.refusals.StoreRefused.TheVariants.{Ended as TheEnd}
 use Rattle.accounts.specs.declared.sessions.Pending.{Pending}
 use Rattle.accounts.specs.Accounts.{Extends, IsWellFormed}
-use Rattle.store_steps.specs.Views.{SessionView}
+use Rattle.store_steps.specs.Views.{SessionView, known_of}
+use Rattle.store_laws.specs.CallsMade.{GoneOn}
 use Rattle.store.specs.Looks.{HasReply}
 use Rattle.store_steps.specs.Sights.{SightTells}
 use Rattle.store.specs.Sessions.{IsFresh}
@@ -19,13 +20,15 @@ use Rattle.store_steps.specs.Stages.{TellsDone}
 use Rattle.host_calls.specs.declared.attached.CallResult.{CallResult}
 use Rattle.host_calls.specs.declared.attached.CallResult.TheVariants.{Busy, Again, Answered, Refused, NotOpen, IsOut, NoWord, Allowed}
 
--- the session knows a history that has grown, and that its store may have
+-- the session knows a history that has grown, and that its store may have; the run that it knows has gone on by steps of others and by its own
 pub record HasGrown (old new : SessionView) : Type 0 where
   pub grown : Extends old.progress new.progress
   pub well_formed : IsWellFormed store_meaning new.progress
+  pub gone : GoneOn (known_of old) (known_of new)
 
 -- P is so of the state at the answer's point, and the point is not below the tail that was completed when the session looked
-abbrev pub IsSeen : {A : Type 0} → (A → CatalogueView → StoreState → Type 0) → (A → ℕ) → (old new : SessionView) → A → Type 0
+abbrev pub IsSeen : {A : Type 0} → (A → CatalogueView → StoreState → Type 0) → (A → ℕ) → (old new : SessionView) → A
+    → Type 0
 IsSeen P point old new answer = IsFresh old new (point answer) × SightTells (P answer) new.progress old.progress.completed (point answer)
 
 -- the request is out: it is posted, once, and not answered; or it is answered, with its place in the history that the session knows now and

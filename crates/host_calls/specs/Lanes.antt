@@ -22,6 +22,7 @@ use Rattle.host_calls.specs.declared.lanes.Listed.{Listed}
 use Rattle.host_calls.specs.declared.lanes.Listed.TheVariants.{Busy, Again, Answered, Refused, NotOpen, NoWord}
 use Rattle.host_calls.specs.Statuses.{again, busy, done, ended, is_out, no_memory, no_word, not_open, not_ours, refusal, letter_S}
 use Rattle.host_calls.specs.Views.{AttachedView, IsSame}
+use Rattle.host_calls.specs.Words.{HasNewWords, only_lane}
 
 -- the sessions of a lane
 abbrev pub sessions_in : List AttachedView → List SessionView
@@ -42,7 +43,13 @@ pub record AreSame (old new : List AttachedView) : Type 0 where
 
 -- a new handle has a lane without sessions; or none, where there is no memory
 abbrev pub IsNewLane : LaneHandle → Type 0
-IsNewLane given = MatchOption given.own (given.answered.status ≡ no_memory) (λ l. (l ≡ []) × (given.answered.status ≡ done))
+IsNewLane given =
+    MatchOption given.own (given.answered ≡ only_lane no_memory) (λ l. (l ≡ []) × (given.answered ≡ only_lane done))
+
+-- the handle has no lane any more, and its words stay
+pub record Ends (before after : LaneHandle) : Type 0 where
+  pub own : after.own ≡ None
+  pub answered : after.answered ≡ before.answered
 
 -- ---- join
 
@@ -75,7 +82,8 @@ TellsNewList calls before after old new Busy = (after ≡ before) × EachLooks o
 TellsNewList calls before after old new told = (posted : List SessionView) × EachAsks old posted calls × TellsOutList before after posted new (length calls) told
 
 -- of no list that is out
-abbrev pub TellsBegun : StoreView → List Question → List Outcome → List Outcome → (old new : List SessionView) → Listed → Type 0
+abbrev pub TellsBegun : StoreView → List Question → List Outcome → List Outcome → (old new : List SessionView)
+    → Listed → Type 0
 TellsBegun store calls before after old new told =
     MatchOption (first_refused_in Update store.catalogue 0 calls) (TellsNewList calls before after old new told)
     (λ (why : QuestionRefused). (told ≡ Refused (refusal letter_S (store_fault_number why.refused)) why.number) × (after ≡ before) × (new ≡ old))
@@ -93,10 +101,12 @@ pub record TellsList (asked : List Question) (before after : List Outcome) (old 
   pub out : ℕ
   pub waiting : AreWaiting out (sessions_in old) × (out ≤ length old)
   pub same : AreSame old new
-  pub goes_on : 0 < out → out ≤ length before → OthersStay out (sessions_in old) (sessions_in new) × TellsOutList before after (sessions_in old) (sessions_in new) out told
+  pub goes_on : 0 < out → out ≤ length before
+      → OthersStay out (sessions_in old) (sessions_in new) × TellsOutList before after (sessions_in old) (sessions_in new) out told
       × ((store : StoreView) → AreOneLane store old → EachGoesOn store (sessions_in old) (sessions_in new))
   pub short : 0 < out → length before < out → TellsNoList before after old new told NoWord
-  pub begins : out ≡ 0 → 0 < length asked → HasRoomFor asked before old → OthersStay (length asked) (sessions_in old) (sessions_in new)
+  pub begins : out ≡ 0 → 0 < length asked → HasRoomFor asked before old
+      → OthersStay (length asked) (sessions_in old) (sessions_in new)
       × ((store : StoreView) → AreOneLane store old → EachGoesOn store (sessions_in old) (sessions_in new) × TellsBegun store asked before after (sessions_in old) (sessions_in new) told)
   pub none : out ≡ 0 → length asked ≡ 0 → TellsNoList before after old new told (Answered 0)
   pub long : out ≡ 0 → (HasRoomFor asked before old → ⊥) → TellsNoList before after old new told NoWord
@@ -130,6 +140,10 @@ pub record UpdatesEach (asked : List Question) (outcomes given : List Outcome) (
   pub noted : after.answered ≡ list_noted before.answered told
   pub tells : MatchOption before.own ((told ≡ NotOpen) × (after.own ≡ None) × (given ≡ outcomes)) (λ l. MatchOption after.own ⊥ (λ l'. TellsList asked outcomes given l l' told))
 
+-- of the words that are answered, none but the status is another
+abbrev pub IsStatusAlone : (before after : LaneAnswered) → Type 0
+IsStatusAlone before after = after ≡ record before { status = after.status }
+
 -- the sessions of both handles, where they have some, are of one store
 abbrev pub JoinsOneStore : LaneHandle → SessionHandle → Type 0
 JoinsOneStore h session = IfSome h.own (λ (l : Lane). IfSome session.own (λ (a : Attached). AreOneLane a.store l))
@@ -153,6 +167,7 @@ pub record JoinsTo (lane now : List AttachedView) (a : AttachedView) (session le
   pub out : (AreIdleBoth lane a → ⊥) → StaysOut lane now session left status is_out
 
 pub record Joins (before : LaneHandle) (session : SessionHandle) (after : LaneHandle) (left : SessionHandle) : Type 0 where
+  pub answered : IsStatusAlone before.answered after.answered
   pub joins : MatchOption before.own ((after.own ≡ None) × (left ≡ session) × (after.answered.status ≡ not_open))
       (λ l. MatchOption after.own ⊥ (λ l'. MatchOption session.own (StaysOut l l' session left after.answered.status not_open) (λ a. JoinsTo l l' a session left after.answered.status)))
 
@@ -165,6 +180,7 @@ pub record LeavesFrom (lane now : List AttachedView) (given : SessionHandle) (st
   pub out : (IsIdleLane lane → ⊥) → (given.own ≡ None) × (now ≡ lane) × (status ≡ is_out)
 
 pub record Leaves (before after : LaneHandle) (given : SessionHandle) : Type 0 where
-  pub same : given.answered.status ≡ after.answered.status
+  pub answered : IsStatusAlone before.answered after.answered
+  pub words : HasNewWords given after.answered.status
   pub leaves : MatchOption before.own ((after.own ≡ None) × (given.own ≡ None) × (after.answered.status ≡ not_open))
       (λ l. MatchOption after.own ⊥ (λ l'. LeavesFrom l l' given after.answered.status))

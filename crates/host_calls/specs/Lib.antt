@@ -1,5 +1,6 @@
 -- Handles of C: what lies there, and what the calls of a host tell.
 pub mod Statuses
+pub mod Words
 pub mod Views
 pub mod Codes
 pub mod CallResults

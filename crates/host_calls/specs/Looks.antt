@@ -43,7 +43,8 @@ abbrev pub TellsNo : (kept : Type 0) → (words : Looked) → (old new : Session
 TellsNo kept words old new told = (told ≡ words) × (new ≡ old) × kept
 
 -- a look, which the store refuses in these words or doesn't: it is refused while an update is out, too, and what the session waits for stays what it was
-abbrev pub TellsLook : {E : Type 0} → Option E → (E → Looked) → (kept : Type 0) → (Looked → Type 0) → (old new : SessionView) → Looked → Type 0
+abbrev pub TellsLook : {E : Type 0} → Option E → (E → Looked) → (kept : Type 0) → (Looked → Type 0)
+    → (old new : SessionView) → Looked → Type 0
 TellsLook refused words kept P old new told =
     MatchOption old.note.pending (HasGrown old new × (new.note ≡ old.note) × MatchOption refused (TellsSight kept P told) (λ why. TellsNo kept (words why) old new told))
     (λ o. TellsNo kept IsOut old new told)
@@ -84,7 +85,8 @@ abbrev pub TellsPage : (map from : ℕ) → (keys keys' values values' : List �
 TellsPage map from keys keys' values values' old new told =
     (s : Scan) × (told ≡ seen_scan s) × IsSeen (λ (s : Scan) (c : CatalogueView) (state : StoreState). GivesIn c state map from (length keys) (length values) keys' values' s) (λ (s : Scan). s.point) old new s
 
-abbrev pub TellsScanned : (map from : ℕ) → (keys keys' values values' : List ℕ) → (old new : AttachedView) → Looked → Type 0
+abbrev pub TellsScanned : (map from : ℕ) → (keys keys' values values' : List ℕ) → (old new : AttachedView) → Looked
+    → Type 0
 TellsScanned map from keys keys' values values' old new told =
     TellsLook (scan_refusal old.store.catalogue map from) no_scan ((keys' ≡ keys) × (values' ≡ values))
     (TellsPage map from keys keys' values values' old.session new.session) old.session new.session told
@@ -143,7 +145,8 @@ TellsState left old new told = (point : ℕ) × (told ≡ Seen point 0 AT_END) �
 pub record TellsTaken (state left : StoreState) (old new : AttachedView) (told : Looked) : Type 0 where
   pub sized : sizes_of state ≡ sizes_for old.store.catalogue
       → HasGrown old.session new.session × (new.session.note ≡ old.session.note) × TellsSight (left ≡ state) (TellsState left old.session new.session) told
-  pub other : (sizes_of state ≡ sizes_for old.store.catalogue → ⊥) → TellsNo (left ≡ state) (Refused other_sizes 0) old.session new.session told
+  pub other : (sizes_of state ≡ sizes_for old.store.catalogue → ⊥)
+      → TellsNo (left ≡ state) (Refused other_sizes 0) old.session new.session told
 
 -- none is taken while an update is out
 abbrev pub TellsSnapped : (state left : StoreState) → (old new : AttachedView) → Looked → Type 0

@@ -33,6 +33,7 @@ use Rattle.host_calls.specs.declared.opening.NotOpened.TheVariants.{BadLimits, N
 use Rattle.host_calls.specs.declared.pool.Pool.{Pool}
 use Rattle.host_calls.specs.Statuses.{done, letter_C, letter_D, letter_O, letter_V, no_text, out_of_limits, refusal}
 use Rattle.host_calls.specs.Views.{AttachedView}
+use Rattle.host_calls.specs.Words.{no_store_words}
 
 -- ---- what is asked
 
@@ -143,7 +144,8 @@ words_of (Loading why) = record { status = refusal letter_C (number_of why); lin
 
 -- ---- the handle
 
--- the handle is closed, and says why; or it is open, with a store as it was asked for, on this state, or on a new one where there is none
-abbrev pub IsOpened : Asked → Option StoreState → StoreHandle → Type 0
-IsOpened o on after =
-    MatchOption after.own ((why : NotOpened) × IsReason o on why × (after.answered ≡ words_of why)) (λ b. IsPoolOf o on b.value × (after.answered ≡ only done))
+-- The handle asks nothing. It is closed, and says why; or it is open, with a store as it was asked for, on this state,
+-- or on a new one where there is none.
+pub record IsOpened (o : Asked) (on : Option StoreState) (after : StoreHandle) : Type 0 where
+  pub asked : after.asked ≡ no_store_words
+  pub opened : MatchOption after.own ((why : NotOpened) × IsReason o on why × (after.answered ≡ words_of why)) (λ b. IsPoolOf o on b.value × (after.answered ≡ only done))

@@ -1,5 +1,5 @@
 -- States that are made beside a store, and their texts.
-use Rattle.std.specs.Prelude.{◌≡◌, ℕ, ◌≤◌, List, [], ◌++◌, length, take, None, Some, Option, MatchOption}
+use Rattle.std.specs.Prelude.{◌≡◌, ℕ, ◌≤◌, List, [], ◌++◌, drop, length, take, None, Some, Option, MatchOption}
 use Rattle.std.specs.Option.{option_map}
 use Rattle.std.specs.Arc.{arc_value}
 use Rattle.loader.specs.CatalogueView.{sizes_for}
@@ -30,6 +30,13 @@ pub record Makes (before after : StoreHandle) (given : StateHandle) : Type 0 whe
   pub makes : MatchOption before.own ((given.own ≡ None) × (after.answered.status ≡ not_open))
       (λ b. MatchOption given.own (after.answered.status ≡ no_memory) (λ s. (s ≡ new_state_of (arc_value b.value.store)) × (after.answered.status ≡ done)))
 
+-- ---- the end of a state
+
+-- the handle has no state any more, and its words stay
+pub record GivesUp (before after : StateHandle) : Type 0 where
+  pub own : after.own ≡ None
+  pub answered : after.answered ≡ before.answered
+
 -- ---- the text of a state: its handle has the state until the text ends
 
 abbrev pub text_words : (status length : ℕ) → TextAnswered
@@ -51,13 +58,14 @@ pub record Dumps (before after : StateHandle) (given : TextHandle) : Type 0 wher
       (λ s. MatchOption given.own ((after.own ≡ Some s) × (given.answered ≡ text_words no_text_room 0))
       (λ t. (t ≡ whole_text s) × (after.own ≡ None) × (given.answered ≡ text_words done 0)))
 
--- the first bytes of the room are the next ones of what was left, and the rest of it is left now. There are none only at the end, or where a line has no
--- room. The state stays
-pub record GivesPart (before after : TextHandle) (room : List ℕ) : Type 0 where
+-- The first bytes of the room are the next ones of what was left, and the rest of it is left now. There are none only at
+-- the end, or where a line has no room. The other bytes of the room stay, and so does the state.
+pub record GivesPart (before after : TextHandle) (held room : List ℕ) : Type 0 where
   pub state : state_in after.own ≡ state_in before.own
   pub status : after.answered.status ≡ before.answered.status
   pub bound : after.answered.length ≤ length room
   pub part : left_in before.own ≡ take after.answered.length room ++ left_in after.own
+  pub others : drop after.answered.length room ≡ drop after.answered.length held
   pub end : after.answered.length ≡ 0 → DUMP_LINE_BYTES ≤ length room → left_in before.own ≡ []
 
 -- the text ends, and its state goes back to a handle, which else stays as it is

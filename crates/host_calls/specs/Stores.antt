@@ -13,6 +13,7 @@ use Rattle.host_calls.specs.declared.handles.SessionHandle.{SessionHandle}
 use Rattle.host_calls.specs.declared.handles.TheConstants.{NAME_ROOM}
 use Rattle.host_calls.specs.declared.pool.Pool.{Pool}
 use Rattle.host_calls.specs.Statuses.{done, is_attached, is_out, no_program, no_session, no_text, not_open, not_ours}
+use Rattle.host_calls.specs.Words.{HasNewWords}
 
 -- ---- the pool of a store
 
@@ -70,6 +71,7 @@ GivesFrom p q node after given =
 pub record Gives (before after : StoreHandle) (given : SessionHandle) : Type 0 where
   pub asked : after.asked ≡ before.asked
   pub answered : IsStatusAlone before.answered after.answered
+  pub words : HasNewWords given after.answered.status
   pub gives : MatchOption before.own ((after.own ≡ None) × (given.own ≡ None) × AreAnswered after given not_open)
       (λ b. MatchOption after.own ⊥ (λ b'. GivesFrom b.value b'.value before.asked.node after given))
 
@@ -117,8 +119,10 @@ pub record Closes (before left : StoreHandle) : Type 0 where
 pub record IsNumber (h : StoreHandle) (found : Result ℕ ℕ) : Type 0 where
   pub closed : h.own ≡ None → found ≡ Err not_open
   pub longer : (b : Box Pool Global) → h.own ≡ Some b → NAME_ROOM < h.asked.length → found ≡ Err no_program
-  pub unclear : (b : Box Pool Global) → h.own ≡ Some b → h.asked.length ≤ NAME_ROOM → (IsUtf8 (take h.asked.length h.asked.name) → ⊥) → found ≡ Err no_text
-  pub named : (b : Box Pool Global) → h.own ≡ Some b → h.asked.length ≤ NAME_ROOM → IsUtf8 (take h.asked.length h.asked.name)
+  pub unclear : (b : Box Pool Global) → h.own ≡ Some b → h.asked.length ≤ NAME_ROOM
+      → (IsUtf8 (take h.asked.length h.asked.name) → ⊥) → found ≡ Err no_text
+  pub named : (b : Box Pool Global) → h.own ≡ Some b → h.asked.length ≤ NAME_ROOM
+      → IsUtf8 (take h.asked.length h.asked.name)
       → MatchOption (number_named (arc_value b.value.store).catalogue.programs (take h.asked.length h.asked.name)) (found ≡ Err no_program) (λ n. found ≡ Ok n)
 
 -- the words with what is found: without a number that one stays which stood there

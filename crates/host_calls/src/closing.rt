@@ -6,6 +6,7 @@ ghost use Rattle.std.specs.Arc.{arc_value};
 ghost use Rattle.store.specs.Sessions.{IsOf, StoreView};
 ghost use Rattle.host_calls.specs.Leaving.{IsLastOf, Leaves, sessions_at, sessions_back};
 ghost use Rattle.host_calls.specs.Seating.{IsIdleSeat, IsSeatOf};
+ghost use Rattle.host_calls.specs.States.{GivesUp};
 
 use crate::attached::Attached;
 use crate::handles::{StateAnswered, StateHandle, StoreHandle};
@@ -92,9 +93,9 @@ pub fn close_into(alloc: Global, handle: &mut StoreHandle) -> StateHandle
     StateHandle::new(state, StateAnswered::of(status))
 }
 
-/// Gives a state up.
+/// Gives a state up. Its handle has none then, and is as good as room.
 pub fn drop_state(handle: &mut StateHandle)
-    ensures { handle.new.own ≡ None }
+    ensures gives_up { GivesUp handle.old handle.new }
 {
     handle.own = None;
 }

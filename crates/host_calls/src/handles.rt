@@ -1,6 +1,7 @@
 // What crosses: what a store is opened with, and what lies at its handles.
 
 ghost use Rattle.std.specs.Prelude.{◌≡◌};
+ghost use Rattle.host_calls.specs.Words.{no_store_words, no_words, only_lane, only_session};
 
 use crate::attached::Attached;
 use crate::lanes::Lane;
@@ -232,6 +233,7 @@ impl StoreHandle {
     /// A handle with nothing asked.
     pub fn new(own: Option<Box<Pool>>, answered: StoreAnswered) -> StoreHandle
         ensures own { result.own ≡ own }
+        ensures asked { result.asked ≡ no_store_words }
         ensures answered { result.answered ≡ answered }
     {
         let asked = StoreAsked {
@@ -301,7 +303,7 @@ impl LaneHandle {
     /// A handle with this lane, and this status.
     pub fn new(own: Option<Lane>, status: u64) -> LaneHandle
         ensures own { result.own ≡ own }
-        ensures status { result.answered ≡ record { status = status; slot = 0; count = 0 } }
+        ensures status { result.answered ≡ only_lane status }
     {
         let answered = LaneAnswered {
             status,
@@ -316,7 +318,8 @@ impl SessionHandle {
     /// A handle with nothing asked, and this status.
     pub fn new(own: Option<Attached>, status: u64) -> SessionHandle
         ensures own { result.own ≡ own }
-        ensures status { result.answered.status ≡ status }
+        ensures asked { result.asked ≡ no_words }
+        ensures status { result.answered ≡ only_session status }
     {
         let asked = Asked {
             call: 0,

@@ -5,7 +5,7 @@ ghost use Rattle.std.specs.Arc.{arc_value};
 ghost use Rattle.store.specs.Opening.{AreOf};
 ghost use Rattle.store.specs.Pipelines.{EachGoesOn, OthersStay};
 ghost use Rattle.store.specs.PolledPipelines.{AreWaiting};
-ghost use Rattle.host_calls.specs.Lanes.{AreOneLane, IsIdleLane, IsNewLane, JoinsOneStore, Joins, Leaves, MayJoin, TellsBegun, TellsList, TellsOutList, UpdatesEach, has_outcomes, list_noted, list_status, outcome_of};
+ghost use Rattle.host_calls.specs.Lanes.{AreOneLane, Ends, IsIdleLane, IsNewLane, JoinsOneStore, Joins, Leaves, MayJoin, TellsBegun, TellsList, TellsOutList, UpdatesEach, has_outcomes, list_noted, list_status, outcome_of};
 
 use crate::attached::Attached;
 use crate::handles::{LaneAnswered, LaneHandle, MOST_ASKED, Outcome, SessionHandle};
@@ -261,9 +261,9 @@ pub fn make_lane(alloc: Global) -> LaneHandle
     }
 }
 
-/// Ends a lane. Its handle is room then.
+/// Ends a lane. Its handle has none then, and is as good as room.
 pub fn drop_lane(handle: &mut LaneHandle)
-    ensures { handle.new.own ≡ None }
+    ensures ends { Ends handle.old handle.new }
 {
     handle.own = None;
 }

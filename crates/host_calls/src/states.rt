@@ -45,9 +45,9 @@ pub fn dump_state(alloc: Global, state: &mut StateHandle) -> TextHandle
 }
 
 /// Puts the next bytes of a text at the front of `out`, and answers how many: none only at the end, or if `out` is shorter than
-/// [`DUMP_LINE_BYTES`].
+/// [`DUMP_LINE_BYTES`]. The other bytes of `out` stay.
 pub fn part(text: &mut TextHandle, out: &mut [u8])
-    ensures part { GivesPart text.old text.new out.new }
+    ensures part { GivesPart text.old text.new out.old out.new }
 {
     text.answered.length = 0;
     if out.len() < DUMP_LINE_BYTES {

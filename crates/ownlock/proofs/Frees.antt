@@ -13,7 +13,7 @@ use Rattle.ownlock.specs.declared.known.ShelfStep.TheVariants.{Took, Put}
 use Rattle.ownlock.specs.Rules.{Rules, Laws, Move, IsAmong}
 use Rattle.ownlock.specs.Words.{word_of, slot_of}
 use Rattle.ownlock.specs.Runs.{Puts, Takes}
-use Rattle.ownlock.specs.Seats.{At, Opened, Run, Continues, Adds, own_steps, place_of, without, left_with, settled_with, taken_by, TookLast}
+use Rattle.ownlock.specs.Seats.{At, Opened, Run, OthersStepped, Adds, own_steps, place_of, without, left_with, settled_with, taken_by, TookLast}
 use Rattle.ownlock.specs.Knowledge.{HeldAgree, Possible, MayPut}
 use Rattle.ownlock.specs.Invariant.{emptied, SessionInvariant, LockInvariant, StepsAs, fronted, freed, settled}
 use Rattle.ownlock.proofs.Spread.{one_slot}
@@ -223,7 +223,7 @@ module _ {P N V : Type 0} (R : Rules P N V) (laws : Laws R) (opened : Opened P N
         × ((run : Run P N V) × Adds z.1 (Put z.0 z.2) (grown progress) (noting z.1.note) run
         × (me (giver s r id p k at inside x y a top grown noting may) c ≡ me (left_with z.1 z.0 z.2 (grown progress) (noting z.1.note) run) z.3)))
         (λ i. (one_place p p2 same i, only_one k k2 (ap (λ m. m.0) sits) i, one_out y y2 p p2 c c2 (ap (λ m. m.1) sits) i, ap (λ m. rest m.1) sits i))
-        (r.progress, (r.notes, (mine_of R laws opened s r id k at).possible), (entry s r id p k at inside x y a top grown noting may ∷ r.run, (r.run, (mine_of R laws opened s r id k at).goes_on, refl), refl)),
+        (r.progress, (r.notes, (mine_of R laws opened s r id k at).possible), (entry s r id p k at inside x y a top grown noting may ∷ r.run, (r.run, ((mine_of R laws opened s r id k at).goes_on, (mine_of R laws opened s r id k at).own), refl), refl)),
   )
     where
       inside : p < opened.places
@@ -237,7 +237,7 @@ module _ {P N V : Type 0} (R : Rules P N V) (laws : Laws R) (opened : Opened P N
     tt,
     settles_stand s r id p k at inside x y 0 top grown noting moves us first ((slot_of p, Some y) ∷ c),
     λ k2 p2 y2 c2 sits same. subst
-        (λ (z : ℕ × K × V × List (ℕ × Option V)). (progress : P) × ((notes : List N) × Possible R z.1 progress notes) × ((run : Run P N V) × Continues z.1.run run
+        (λ (z : ℕ × K × V × List (ℕ × Option V)). (progress : P) × ((notes : List N) × Possible R z.1 progress notes) × ((run : Run P N V) × OthersStepped z.1 run
         × ((notes : List N) × Possible R (settled_with z.1 z.0 z.2 (grown progress) (noting z.1.note) run) (grown progress) notes)
         × (me (settled_with k p y (grown r.progress) (noting k.note) r.run) ((slot_of p, Some y) ∷ c) ≡ me (settled_with z.1 z.0 z.2 (grown progress) (noting z.1.note) run) ((slot_of z.0, Some z.2) ∷ z.3))))
         (λ i. (one_place p p2 same i, only_one k k2 (ap (λ m. m.0) sits) i, one_out y y2 p p2 c c2 (ap (λ m. m.1) sits) i, ap (λ m. rest m.1) sits i)) (
@@ -245,7 +245,7 @@ module _ {P N V : Type 0} (R : Rules P N V) (laws : Laws R) (opened : Opened P N
           (r.notes, (mine_of R laws opened s r id k at).possible),
           (
             r.run,
-            (mine_of R laws opened s r id k at).goes_on,
+            ((mine_of R laws opened s r id k at).goes_on, (mine_of R laws opened s r id k at).own),
             (notes_after s r id p k at inside x y 0 top grown noting moves, again_possible s r id p k at inside x y 0 top grown noting moves),
             refl,
           ),

@@ -16,7 +16,7 @@ use Rattle.ownlock.specs.declared.known.ShelfStep.TheVariants.{Took, Put}
 use Rattle.ownlock.specs.Rules.{Rules, Laws, Move, IsAmong}
 use Rattle.ownlock.specs.Words.{word_of, slot_of}
 use Rattle.ownlock.specs.Runs.{Puts, Takes}
-use Rattle.ownlock.specs.Seats.{At, Opened, Run, Continues, own_steps, HoldsNone, place_of, without, holding, putting, taking, taken_by, handed}
+use Rattle.ownlock.specs.Seats.{At, Opened, Run, Continues, OthersStepped, own_steps, HoldsNone, place_of, without, holding, putting, taking, taken_by, handed}
 use Rattle.ownlock.specs.Knowledge.{HeldAgree, Later, Possible, MayPut, MayHandOn}
 use Rattle.ownlock.specs.Invariant.{SessionInvariant, HeldBySome, KnownBySome, LockInvariant, handed_on, emptied, out_of}
 use Rattle.ownlock.proofs.Keeps.{LockState, LockSeat, at_one, one_place, place_there}
@@ -97,8 +97,11 @@ module _ {P N V : Type 0} (R : Rules P N V) (laws : Laws R) (opened : Opened P N
     put_own : own_steps k.session (put_entry ∷ r.run) ≡ Put p y ∷ k.steps
     put_own = own_here k.session put_entry r.run refl ∙ ap (λ es. Put p y ∷ es) was.own
 
+    next_own : own_steps m.session (put_entry ∷ r.run) ≡ m.steps
+    next_own = own_else m.session put_entry r.run (λ same. next_apart (sym same)) ∙ next.own
+
     took_own : own_steps m.session run_after ≡ Took p y ∷ m.steps
-    took_own = own_here m.session took_entry (put_entry ∷ r.run) refl ∙ ap (λ es. Took p y ∷ es) (own_else m.session put_entry r.run (λ same. next_apart (sym same)) ∙ next.own)
+    took_own = own_here m.session took_entry (put_entry ∷ r.run) refl ∙ ap (λ es. Took p y ∷ es) next_own
 
     goes_on_after : (known : Run P N V) → Continues known r.run → Continues known run_after
     goes_on_after known h = continues_more known (put_entry ∷ r.run) took_entry (continues_more known r.run put_entry h)
@@ -356,7 +359,7 @@ module _ {P N V : Type 0} (R : Rules P N V) (laws : Laws R) (opened : Opened P N
     tt,
     hands_stand s r id p k m ms at inside x y alone idle grown noting moves allowed ((slot_of p, Some y) ∷ []),
     λ k2 m2 ms2 p2 y2 sits same. subst
-        (λ (z : ℕ × K × K × List K × V). (progress : P) × ((notes : List N) × Possible R z.1 progress notes) × ((run : Run P N V) × Continues z.1.run run × Continues z.2.run run
+        (λ (z : ℕ × K × K × List K × V). (progress : P) × ((notes : List N) × Possible R z.1 progress notes) × ((run : Run P N V) × OthersStepped z.1 run × OthersStepped z.2 (taken_by z.1 (Put z.0 z.4) (grown progress) (noting z.1.note) ∷ run)
         × ((notes : List N) × Possible R (holding z.2 (grown progress) z.0 z.4 run) (grown progress) notes) × Later R z.2 (grown progress)
         × (seat_of (handed k m ms p y (grown r.progress) (noting k.note) r.run) ((slot_of p, Some y) ∷ []) ≡ seat_of (handed z.1 z.2 z.3 z.0 z.4 (grown progress) (noting z.1.note) run) ((slot_of z.0, Some z.4) ∷ []))))
         (λ i. (one_place p p2 same i, ap (λ v. get_or v.0 0 k) sits i, ap (λ v. get_or (tail_of v.0) 0 m) sits i, ap (λ v. tail_of (tail_of v.0)) sits i, same_value y y2 p p2 [] [] (ap (λ v. v.1) sits) i)) (
@@ -364,8 +367,8 @@ module _ {P N V : Type 0} (R : Rules P N V) (laws : Laws R) (opened : Opened P N
           (r.notes, (r.each id 0 (k ∷ m ∷ ms) k at refl).0.possible),
           (
             r.run,
-            (r.each id 0 (k ∷ m ∷ ms) k at refl).0.goes_on,
-            (r.each id 1 (k ∷ m ∷ ms) m at refl).0.goes_on,
+            ((r.each id 0 (k ∷ m ∷ ms) k at refl).0.goes_on, (r.each id 0 (k ∷ m ∷ ms) k at refl).0.own),
+            (continues_more m.run r.run _ (r.each id 1 (k ∷ m ∷ ms) m at refl).0.goes_on, next_own s r id p k m ms at inside x y alone idle grown noting moves allowed),
             (notes_after s r id p k m ms at inside x y alone idle grown noting moves allowed, taker_possible s r id p k m ms at inside x y alone idle grown noting moves allowed),
             (
               laws.extends_on m.progress r.progress (grown r.progress) (r.each id 1 (k ∷ m ∷ ms) m at refl).0.possible.0.0 (grows s r id p k m ms at inside x y alone idle grown noting moves allowed),

@@ -116,7 +116,7 @@ module _ {P N V : Type 0} (R : Rules P N V) (laws : Laws R) (opened : Opened P N
         λ k2 sits. subst
             (λ (z : K). (progress : P) × ((notes : List N) × Possible R z progress notes) × (found ≡ R.completed progress)
             × ((more : Run P N V) × Adds z (Read found) progress z.note more × (me (having_read k r.progress found run) c ≡ me (having_read z progress found more) c)))
-            (only_one k k2 sits) (r.progress, (r.notes, now s r id k at), tail, (run, (r.run, fit.goes_on, refl), refl)),
+            (only_one k k2 sits) (r.progress, (r.notes, now s r id k at), tail, (run, (r.run, (fit.goes_on, fit.own), refl), refl)),
       )
 
   raises_at : (slots places id n : ℕ) (k : K) (c : List (ℕ × Option V)) → slots ≡ slot_of places → R.Reaches k.progress n
@@ -140,7 +140,7 @@ module _ {P N V : Type 0} (R : Rules P N V) (laws : Laws R) (opened : Opened P N
         λ k2 sits. subst
             (λ (z : K). (before : P) × Later R z before × ((notes : List N) × Possible R z (R.raised before n) notes)
             × ((more : Run P N V) × Adds z (Raised n) (R.raised before n) z.note more × (me (having_raised k progress n run) c ≡ me (having_raised z (R.raised before n) n more) c)))
-            (only_one k k2 sits) (r.progress, known.0, (r.notes, now_raised k r.progress r.notes n may known), (run, (r.run, fit.goes_on, refl), refl)),
+            (only_one k k2 sits) (r.progress, known.0, (r.notes, now_raised k r.progress r.notes n may known), (run, (r.run, (fit.goes_on, fit.own), refl), refl)),
       )
 
   -- the completed tail is read

@@ -122,7 +122,7 @@ module _ {P N V : Type 0} (R : Rules P N V) (laws : Laws R) (opened : Opened P N
             (λ (z : ℕ × K). Told z.0 (me k (map emptied k.held)) (get_or s.words (word_of p) 0) (me after ((slot_of p, Some t.0) ∷ map emptied k.held)) z.1)
             (λ i. (one_place p p2 same i, one_session (k ∷ [], map emptied k.held) k k2 refl sits i)) (
               (λ ne. absurd (ne hit)),
-              (λ _. (after, t.0, (r.progress, refl, (mine_of R laws opened s r id k at).possible.0, (r.notes, after_take s r id p k at inside may t.0 t.1 t.2), (r.run, (mine_of R laws opened s r id k at).goes_on, refl)), refl)),
+              (λ _. (after, t.0, (r.progress, refl, (mine_of R laws opened s r id k at).possible.0, (r.notes, after_take s r id p k at inside may t.0 t.1 t.2), (r.run, ((mine_of R laws opened s r id k at).goes_on, (mine_of R laws opened s r id k at).own), refl)), refl)),
             ),
       ))
       (λ miss. (k ∷ [], keeps, tt, unmoved R laws opened s r id (word_of p) k (map emptied k.held) at, λ k2 p2 sits same. ((λ _. refl), (λ hit. absurd (miss hit)))))

@@ -9,7 +9,7 @@ use Rattle.ownlock.specs.Rules.{Rules}
 use Rattle.ownlock.specs.Words.{word_of, completed_word, slot_of}
 use Rattle.ownlock.specs.Spreading.{HasGaps}
 use Rattle.ownlock.specs.Runs.{Runs}
-use Rattle.ownlock.specs.Seats.{At, View, Opened, Run, Continues, Adds, EndsWithOwn, own_steps, place_of, without, left_with, holding, settled_with, handed, having_raised, having_read}
+use Rattle.ownlock.specs.Seats.{At, View, Opened, Run, Continues, OthersStepped, Adds, EndsWithOwn, own_steps, place_of, taken_by, without, left_with, holding, settled_with, handed, having_raised, having_read}
 use Rattle.ownlock.specs.Knowledge.{Later, Possible, Acquired, MayFind}
 
 -- the slot of a place that is held has no value
@@ -93,13 +93,13 @@ module _ {P N V : Type 0} (R : Rules P N V) where
   -- and once it has settled the value y at the place p, which it keeps
   abbrev pub StepsSettling : (P → P) → (N → N) → Me (Option V) (View P N V) → ℕ → V → Me (Option V) (View P N V) → Type 0
   StepsSettling grown noted m p y m' = (k : Known P N V) → StepsAs m k
-      → (progress : P) × MayFind R k progress × ((run : Run P N V) × Continues k.run run
+      → (progress : P) × MayFind R k progress × ((run : Run P N V) × OthersStepped k run
       × MayFind R (settled_with k p y (grown progress) (noted k.note) run) (grown progress) × StepsAs m' (settled_with k p y (grown progress) (noted k.note) run))
 
   -- and once its first session has handed the place p on to the next
   abbrev pub StepsHanding : (P → P) → (N → N) → Me (Option V) (View P N V) → ℕ → V → Me (Option V) (View P N V) → Type 0
   StepsHanding grown noted me p y me' = (k m : Known P N V) (ms : View P N V) → me ≡ (k ∷ m ∷ ms, (slot_of p, None) ∷ [])
-      → (progress : P) × MayFind R k progress × ((run : Run P N V) × Continues k.run run × Continues m.run run
+      → (progress : P) × MayFind R k progress × ((run : Run P N V) × OthersStepped k run × OthersStepped m (taken_by k (Put p y) (grown progress) (noted k.note) ∷ run)
       × MayFind R (holding m (grown progress) p y run) (grown progress) × Later R m (grown progress)
       × (me' ≡ (handed k m ms p y (grown progress) (noted k.note) run, (slot_of p, None) ∷ [])))
 
@@ -119,7 +119,7 @@ module _ {P N V : Type 0} (R : Rules P N V) where
   -- the value y in the slot of a held place is put back and taken again in one step, at which the word stays as it is
   abbrev pub settled : (P → P) → (N → N) → Step (Option V) → Me (Option V) (View P N V) → ℕ → Me (Option V) (View P N V) → Type 0
   settled grown noted st m r m' = (k : Known P N V) (p : ℕ) (y : V) (out : List (ℕ × Option V)) → m ≡ (k ∷ [], (slot_of p, Some y) ∷ out) → st.word ≡ word_of p
-      → (progress : P) × ((notes : List N) × Possible R k progress notes) × ((run : Run P N V) × Continues k.run run
+      → (progress : P) × ((notes : List N) × Possible R k progress notes) × ((run : Run P N V) × OthersStepped k run
       × ((notes : List N) × Possible R (settled_with k p y (grown progress) (noted k.note) run) (grown progress) notes)
       × (m' ≡ (settled_with k p y (grown progress) (noted k.note) run ∷ [], (slot_of p, Some y) ∷ out)))
 
@@ -127,7 +127,7 @@ module _ {P N V : Type 0} (R : Rules P N V) where
   -- word stays as it is
   abbrev pub handed_on : (P → P) → (N → N) → Step (Option V) → Me (Option V) (View P N V) → ℕ → Me (Option V) (View P N V) → Type 0
   handed_on grown noted st me n me' = (k m : Known P N V) (ms : View P N V) (p : ℕ) (y : V) → me ≡ (k ∷ m ∷ ms, (slot_of p, Some y) ∷ []) → st.word ≡ word_of p
-      → (progress : P) × ((notes : List N) × Possible R k progress notes) × ((run : Run P N V) × Continues k.run run × Continues m.run run
+      → (progress : P) × ((notes : List N) × Possible R k progress notes) × ((run : Run P N V) × OthersStepped k run × OthersStepped m (taken_by k (Put p y) (grown progress) (noted k.note) ∷ run)
       × ((notes : List N) × Possible R (holding m (grown progress) p y run) (grown progress) notes) × Later R m (grown progress)
       × (me' ≡ (handed k m ms p y (grown progress) (noted k.note) run, (slot_of p, Some y) ∷ [])))
 

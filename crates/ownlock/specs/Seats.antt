@@ -80,19 +80,33 @@ module _ {P N V : Type 0} where
   abbrev pub taken_by : Known P N V → ShelfStep V → P → N → SharedStep P N V
   taken_by k step progress note = record { session = k.session; step = step; progress = progress; before = k.note; note = note }
 
-  -- the run has gone on from what k knew of it, and then k has taken this step, with this progress and this note after it
-  abbrev pub Adds : Known P N V → ShelfStep V → P → N → Run P N V → Type 0
-  Adds k step progress note run = (before : Run P N V) × Continues k.run before × (run ≡ taken_by k step progress note ∷ before)
+  -- the run has gone on from what k knew of it, by steps of others alone
+  abbrev pub OthersStepped : Known P N V → Run P N V → Type 0
+  OthersStepped k later = Continues k.run later × (own_steps k.session later ≡ k.steps)
 
-  -- k has taken this step, and is `after` then: the step is the last of its own, and the run has gone on
-  abbrev pub HasStepped : Known P N V → ShelfStep V → Known P N V → Type 0
-  HasStepped k step after = (after.steps ≡ step ∷ k.steps) × Continues k.run after.run
+  -- others have stepped, and then k has taken this step, with this progress and this note after it
+  abbrev pub Adds : Known P N V → ShelfStep V → P → N → Run P N V → Type 0
+  Adds k step progress note run = (before : Run P N V) × OthersStepped k before × (run ≡ taken_by k step progress note ∷ before)
+
+  -- by this step k has become `after`
+  abbrev pub StepsTo : Known P N V → ShelfStep V → Known P N V → Type 0
+  StepsTo k step after = Adds k step after.progress after.note after.run
 
   -- what k knows of the run has exactly the steps of k, and ends with the last of them, after which k has its progress and its note
   pub record EndsWithOwn (k : Known P N V) : Type 0 where
     pub seen : own_steps k.session k.run ≡ k.steps
     pub last : ((k.run ≡ []) × (k.steps ≡ []))
         ⊎ ((before : Run P N V) × (e : SharedStep P N V) × (k.run ≡ e ∷ before) × (e.session ≡ k.session) × (e.progress ≡ k.progress) × (e.note ≡ k.note))
+
+  -- the session k of a shelf that was opened so has exactly its own steps in what it knows of the run, and that ends with the last of them. Before
+  -- its first step it has the progress and the note that the shelf was opened with.
+  pub record EndsSince (opened : Opened P N) (k : Known P N V) : Type 0 where
+    pub ends : EndsWithOwn k
+    pub fresh : k.run ≡ [] → (k.progress ≡ opened.progress) × At k.session k.note opened.notes
+
+  -- k has taken this step, and is `after` then: the step is the last of its own, and the run has gone on, and ends with it
+  abbrev pub HasStepped : Known P N V → ShelfStep V → Known P N V → Type 0
+  HasStepped k step after = (after.steps ≡ step ∷ k.steps) × Continues k.run after.run × EndsWithOwn after
 
   -- what the first session of a seat knows of the run
   abbrev pub run_of : View P N V → Run P N V

@@ -16,15 +16,12 @@ use Rattle.accounts.proofs.Export.{at_below, at_joined, at_map, at_none}
 use Rattle.store_steps.specs.declared.pipelines.Member.{Member}
 use Rattle.store_steps.specs.declared.steps.Caller.{Caller}
 use Rattle.store_steps.specs.EachMember.{AscendEach}
-use Rattle.store_steps.specs.Standing.{SessionKnown, StoreSeat}
+use Rattle.store_steps.specs.Standing.{StoreSeat}
 use Rattle.store_steps.specs.Views.{IsIdle, SessionView, session_view}
 use Rattle.store_steps.proofs.Export.{seen_as}
 use Rattle.store.specs.Opening.{AreOf}
 use Rattle.store.specs.Pipelines.{AreJoined, AreAscending, IsOnNode, views_of}
 use Rattle.store.specs.Sessions.{HasRoom, IsOf, StoreView, known_of}
-
-abbrev K : Type 0
-K = SessionKnown
 
 -- ---- slots by their numbers
 
@@ -267,6 +264,3 @@ leaving_more all before out m ms room rooms s g seen is = record {
     rooms_are = λ j n r at there. g.members.rooms_are (suc j) n r at there;
   };
 }
-
-pub all_left : (all out : List SessionView) (ms : List Member) (rooms : List InstalledView) → Leaving all out ms rooms → ms ≡ [] → out ≡ all
-all_left all out ms rooms g none = sym (append-nil out) ∙ (ap (λ z. out ++ views_of z) (sym none) ∙ g.split)

@@ -27,11 +27,13 @@ use Rattle.store_steps.specs.Pipelines.{AreMembers, HasLooked, KnownAt, MayAskAt
 use Rattle.store_steps.specs.Standing.{SessionKnown}
 use Rattle.store_steps.specs.Updating.{UpdatesBy}
 use Rattle.store_steps.specs.Views.{IsIdle, SessionView, session_view}
-use Rattle.store_steps.proofs.Export.{goes_seen, seen_as, store_laws, view_known, was_at}
+use Rattle.store_steps.proofs.Export.{goes_seen, seen_as, view_known, was_at}
 use Rattle.store.specs.declared.answers.Answer.{Answer}
 use Rattle.store.specs.Opening.{AreOf}
 use Rattle.store.specs.Pipelines.{AreInOrder, AreJoined, EachGoes, EachGoesOn, LooksAndUpdates, LooksPostsCollects, OthersStay, TellsEach, views_of}
 use Rattle.store.specs.Sessions.{HasRoom, IsOf, SessionGoesOn, StoreView, TellsUpdate, said}
+use Rattle.store.proofs.Between.{goes_still}
+use Rattle.store.proofs.Gone.{gone_then, update_goes, visits_go}
 use Rattle.store.proofs.Invoked.{Invoked, goes_on, has_grown, invoked, is_idle, may_ask, tells_update}
 
 abbrev K : Type 0
@@ -112,9 +114,9 @@ has_updated store m n op reply new j at spot i own a = record {
   idle = subst (λ c. IsIdle n.seat c) (sym (ap (λ z. z.0) spot)) (is_idle k f op reply v m.seat n.seat m.caller i refl there);
   shapes = λ r has. (has.0 ∙ ap (λ (x : CatalogueView). x.shapes) grown.catalogue, has.1 ∙ ap (λ (x : CatalogueView). x.long) grown.catalogue, has.2);
   session = ap (λ (z : SessionView). z.session) now ∙ (v.session ∙ ap (λ (z : SessionView). z.session) (sym was));
-  goes_on = goes_on store (session_view m.seat) (session_view n.seat) m.seat.shelf n.seat.shelf k f op reply v was now own (ap (λ z. z.1) spot);
+  goes_on = goes_on store (session_view m.seat) (session_view n.seat) m.seat.shelf n.seat.shelf k f op reply v was now own (ap (λ z. z.1) spot) (gone_then _ goes.0 _ (visits_go _ _ goes.1.visits) (update_goes _ _ op _ goes.2.2));
   tells = tells_update store (session_view m.seat) (session_view n.seat) m.seat.shelf n.seat.shelf k f op reply v was now i.pending i.batch;
-  goes = goes_seen (λ x y. (looked : K) × HasLooked x looked × ((r : Reply) × (said reply ≡ said r) × UpdatesBy looked y op r)) m.seat n.seat (session_view m.seat) k f i.is i.free.held refl there v.held (a.looked, a.looks, (reply, refl, a.goes));
+  goes = goes;
   alone = λ later. goes_seen (λ x y. (looked : K) × HasLooked x looked × ((r : Reply) × (said reply ≡ said r) × ((by : UpdatesBy looked y op r) × (by.completes.waited ≡ by.asked)))) m.seat n.seat (session_view m.seat) k f i.is i.free.held refl there v.held (a.looked, a.looks, (reply, refl, (a.goes, a.alone later)));
 }
   where
@@ -135,6 +137,9 @@ has_updated store m n op reply new j at spot i own a = record {
 
     now : session_view n.seat ≡ view_known n.seat.shelf f
     now = seen_as n.seat f there
+
+    goes : LooksAndUpdates (session_view m.seat) (session_view n.seat) op (said reply)
+    goes = goes_seen (λ x y. (looked : K) × HasLooked x looked × ((r : Reply) × (said reply ≡ said r) × UpdatesBy looked y op r)) m.seat n.seat (session_view m.seat) k f i.is i.free.held refl there v.held (a.looked, a.looks, (reply, refl, a.goes))
 
     grown : Extends (session_view m.seat).progress (session_view n.seat).progress
     grown = has_grown store (session_view m.seat) (session_view n.seat) m.seat.shelf n.seat.shelf k f op reply v was now
@@ -236,12 +241,7 @@ stays_on store ms rooms joined own = (refl, λ j s t at there. subst (SessionGoe
     here j s at =
         let m = at_mapped (λ (z : Member). session_view z.seat) ms j s at in
         let i = joined.idle j m.0 m.1 in
-        record {
-          own = own j s at;
-          same = (refl, refl);
-          grown = store_laws.extends_self s.progress;
-          well_formed = subst (λ (z : SessionView). IsWellFormed store_meaning z.progress) (sym (m.2 ∙ seen_as m.0.seat i.known i.is)) i.well_formed;
-        }
+        goes_still store s s refl (own j s at) (subst (λ (z : SessionView). IsWellFormed store_meaning z.progress) (sym (m.2 ∙ seen_as m.0.seat i.known i.is)) i.well_formed)
 
 module _ (store : StoreView) (ms : List Member) (rooms : List InstalledView) (joined : AreJoined ms rooms) (own : AreOf store (views_of ms)) (calls : List Question) (replies : List Reply) (new : List Member) (n : ℕ) (fits : n ≤ length ms) (count : n ≡ length calls) (long : length new ≡ n)
     (same : SameSpots (take n ms) new) (asks : AsksEach (take n ms) new calls replies) where

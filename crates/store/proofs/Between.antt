@@ -1,5 +1,5 @@
 -- A session between two calls that wait for nobody.
-use Rattle.std.proofs.Common.{◌≡◌, ℕ, ◌+◌, ◌≤◌, [], length, sym, refl, ap, ◌∙◌, subst, arith, Some, None}
+use Rattle.std.proofs.Common.{◌≡◌, ◌+◌, ◌≤◌, [], length, sym, refl, ap, ◌∙◌, subst, arith, Some, None}
 use Rattle.std.proofs.lemmas.Option.{none-some}
 use Rattle.ownlock.specs.Seats.{IsSession}
 use Rattle.loader.specs.CatalogueView.{CatalogueView}
@@ -9,14 +9,11 @@ use Rattle.oplog.specs.declared.configuration.Sizes.{Sizes}
 use Rattle.oplog.specs.declared.configuration.TheConstants.{MAX_NODES}
 use Rattle.loader.specs.Installed.{InstalledView}
 use Rattle.combiner.specs.Desks.{BatchView}
-use Rattle.combiner.specs.declared.slots.Reply.{Reply}
 use Rattle.replica.specs.StoreMeaning.{store_meaning}
 use Rattle.replica.specs.Views.{RepliesView}
 use Rattle.accounts.specs.declared.sessions.Pending.{Pending}
 use Rattle.accounts.specs.declared.sessions.SessionNote.{SessionNote}
 use Rattle.accounts.specs.Accounts.{Extends, IsWellFormed}
-use Rattle.accounts.specs.Moves.{answered_with}
-use Rattle.accounts.specs.Told.{Tells}
 use Rattle.accounts.proofs.Export.{grown_long}
 use Rattle.store_steps.specs.declared.deeds.Stage.{Stage}
 use Rattle.store_steps.specs.declared.deeds.Stage.TheVariants.{Idle, Asked, Claimed, Ready}
@@ -24,13 +21,14 @@ use Rattle.store_steps.specs.declared.steps.Caller.{Caller}
 use Rattle.store_steps.specs.declared.steps.Shared.{Shared}
 use Rattle.store_steps.specs.Knowing.{IsOn, Knows}
 use Rattle.store_steps.specs.Requests.{HasPosted}
-use Rattle.store_steps.specs.Stages.{IsAsked, IsAsking, IsOnItsWay, IsOut, IsPolled, TellsDone}
+use Rattle.store_steps.specs.Stages.{IsAsked, IsAsking, IsOnItsWay, IsOut, IsPolled}
 use Rattle.store.specs.Polled.{HasPostedFor}
-use Rattle.store_steps.specs.Views.{IsIdle, SessionView, session_view}
+use Rattle.store_steps.specs.Views.{IsIdle, SessionView, known_of, session_view}
 use Rattle.store.specs.Sessions.{HasRoom, IsOf, SessionGoesOn, StoreView}
 use Rattle.store_steps.specs.Standing.{SessionKnown, StoreSeat}
-use Rattle.store_steps.specs.Trying.{IsStill}
-use Rattle.store_steps.proofs.Export.{asks, both, seen_as, free_by, store_laws, well_formed}
+use Rattle.store_laws.specs.CallsMade.{GoneOn}
+use Rattle.store_steps.proofs.Export.{asks, both, goes_seen, seen_as, free_by, store_laws, well_formed}
+use Rattle.store.proofs.Gone.{gone_self, gone_then}
 use Rattle.store.proofs.Invoked.{has_asked}
 
 abbrev K : Type 0
@@ -45,13 +43,13 @@ own_on store old new grown same own = record { shelf = same ∙ own.shelf; confi
 -- a session that is as it was goes on
 pub goes_still : (store : StoreView) (old new : SessionView) → new ≡ old → IsOf store old → IsWellFormed store_meaning old.progress → SessionGoesOn store old new
 goes_still store old new same own well =
-    subst (SessionGoesOn store old) (sym same) (record { own = own; same = (refl, refl); grown = store_laws.extends_self old.progress; well_formed = well })
+    subst (SessionGoesOn store old) (sym same) (record { own = own; same = (refl, refl); grown = store_laws.extends_self old.progress; well_formed = well; gone = gone_self (known_of old) })
 
 -- so does one that has learned; its user saw it as `was`
 pub goes_on : (store : StoreView) (old was new : SessionView) → old ≡ was → IsOf store was → new.shelf ≡ old.shelf → new.session ≡ old.session → Extends old.progress new.progress → IsWellFormed store_meaning new.progress
-    → SessionGoesOn store was new
-goes_on store old was new seen own shelf session grown well =
-    subst (λ z. SessionGoesOn store z new) seen (record { own = own_on store old new grown shelf (subst (IsOf store) (sym seen) own); same = (shelf, session); grown = grown; well_formed = well })
+    → GoneOn (known_of old) (known_of new) → SessionGoesOn store was new
+goes_on store old was new seen own shelf session grown well gone =
+    subst (λ z. SessionGoesOn store z new) seen (record { own = own_on store old new grown shelf (subst (IsOf store) (sym seen) own); same = (shelf, session); grown = grown; well_formed = well; gone = gone })
 
 -- after two calls, too
 pub goes_then : (store : StoreView) (old mid new : SessionView) → SessionGoesOn store old mid → SessionGoesOn store mid new → SessionGoesOn store old new
@@ -60,6 +58,7 @@ goes_then store old mid new a b = record {
   same = (b.same.0 ∙ a.same.0, b.same.1 ∙ a.same.1);
   grown = store_laws.extends_on old.progress mid.progress new.progress a.grown b.grown;
   well_formed = b.well_formed;
+  gone = gone_then (known_of old) (known_of mid) (known_of new) a.gone b.gone;
 }
 
 -- ---- the stages
@@ -161,10 +160,11 @@ pub record StaysIdle (old new : S) (caller : Caller) : Type 0 where
   pub note : (session_view new).note ≡ (session_view old).note
   pub extends : Extends (session_view old).progress (session_view new).progress
   pub well_formed : IsWellFormed store_meaning (session_view new).progress
+  pub gone : GoneOn (known_of (session_view old)) (known_of (session_view new))
 
 module _ (old new : S) (caller : Caller) (i : IsIdle old caller) (m : K) (is : IsSession new m) where
-  pub stays_idle : m.session ≡ i.known.session → m.held ≡ [] → m.note ≡ i.known.note → Extends i.known.progress m.progress → IsWellFormed store_meaning m.progress → StaysIdle old new caller
-  stays_idle session held note extends well = record {
+  pub stays_idle : m.session ≡ i.known.session → m.held ≡ [] → m.note ≡ i.known.note → Extends i.known.progress m.progress → IsWellFormed store_meaning m.progress → GoneOn i.known m → StaysIdle old new caller
+  stays_idle session held note extends well gone = record {
     idle = record {
       known = m;
       is = is;
@@ -178,18 +178,10 @@ module _ (old new : S) (caller : Caller) (i : IsIdle old caller) (m : K) (is : I
     note = both old new i.known m i.is is (λ x y. y.note ≡ x.note) note;
     extends = both old new i.known m i.is is (λ x y. Extends x.progress y.progress) extends;
     well_formed = both old new i.known m i.is is (λ x y. IsWellFormed store_meaning y.progress) well;
+    gone = goes_seen GoneOn old new (session_view old) i.known m i.is i.free.held refl is held gone;
   }
-
-  pub idle_still : IsStill i.known m → StaysIdle old new caller
-  idle_still s = stays_idle s.session s.held s.note s.extends (s.well_formed i.well_formed)
 
 -- ---- several deeds
 
 pub way_then : (old mid new : SessionView) → IsOnItsWay old mid → IsOnItsWay mid new → IsOnItsWay old new
 way_then old mid new a b = (b.0 ∙ a.0, b.1 ∙ a.1)
-
-pub done_then : (old mid new : SessionView) (o : Pending) (reply : Reply) → IsOnItsWay old mid → mid.session ≡ old.session → TellsDone mid new o reply → TellsDone old new o reply
-done_then old mid new o reply w same d = (
-  subst (λ (z : ℕ × ℕ). Tells store_meaning new.progress z.0 z.1 o reply) (λ i. (same i, length (w.1 i))) d.0,
-  d.1 ∙ (λ i. answered_with (record { answered = w.1 i; pending = w.0 i; batch = [] }) o.op reply),
-)

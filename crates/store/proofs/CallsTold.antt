@@ -1,8 +1,7 @@
 -- What a session's calls say of an answer may be told.
-use Rattle.std.proofs.Common.{◌≡◌, [], ◌∷◌, ◌++◌, Option, Result, Ok, Err, Some, None, inl, refl, inr, sym, ap, ◌∙◌, subst}
+use Rattle.std.proofs.Common.{◌≡◌, [], ◌∷◌, ◌++◌, Option, Result, Ok, Err, Some, None, inl, refl, inr, ℕ, ◌<◌, zero, suc, replicate, arith, sym, ap, ◌∙◌, subst}
 use Rattle.std.proofs.lemmas.Option.{none-some}
-use Rattle.ownlock.specs.Seats.{Continues}
-use Rattle.ownlock.proofs.Export.{continues_on, continues_self}
+use Rattle.ownlock.specs.Seats.{At}
 use Rattle.verifier.specs.declared.refusal.Mode.TheVariants.{Read}
 use Rattle.loader.specs.CatalogueView.{CatalogueView}
 use Rattle.oplog.specs.Operations.{Operation}
@@ -13,19 +12,26 @@ use Rattle.replica.specs.declared.refusals.StoreRefused.{StoreRefused}
 use Rattle.accounts.specs.declared.sessions.Pending.{Pending}
 use Rattle.accounts.specs.declared.sessions.SessionNote.{SessionNote}
 use Rattle.accounts.specs.Moves.{answered_with}
-use Rattle.store_steps.specs.Pipelines.{Stays, Visit, Visits}
 use Rattle.store_steps.specs.Standing.{SessionKnown, StoreSeat}
 use Rattle.store_steps.specs.declared.steps.Caller.{Caller}
 use Rattle.store_steps.specs.declared.deeds.Stage.TheVariants.{Asked, Claimed, Idle, Ready}
 use Rattle.store_steps.specs.Stages.{IsAsking}
-use Rattle.store_steps.specs.Updating.{Answers, Begins, ClaimsIt, Combines, DeedBy, Deeds, Gives, Looks, PostsBy, Rests as NoDeed, Rounds, Then, Tries, UpdatesBy, Waits}
+use Rattle.store_steps.specs.Updating.{Deeds, PostsBy, Rests as NoDeed, Then}
 use Rattle.store_steps.specs.Views.{SessionView, first_in, session_view}
-use Rattle.store.specs.CallsTold.{Asks, ClosesTold, GoesOn, IsUnderWay, PipelinesAreTold, PolledRest, PolledUpdatesAreTold, Posts, ReadsAreTold, Rests, SessionsRest, UpdatesAreTold}
+use Rattle.store.specs.CallsTold.{Asks, ClosesTold, GoesOn, IsUnderWay, PipelinesAreTold, PolledRest, PolledUpdatesAreTold, Posts, ReadsAreTold, Rests, SessionsBegin, SessionsRest, UpdatesAreTold}
 use Rattle.store.specs.Opening.{setup_of}
+use Rattle.accounts.specs.LogSteps.{fresh_note}
+use Rattle.store_steps.specs.Shelving.{sessions_of}
 use Rattle.store.specs.Sessions.{TellsUpdate, known_of, said}
 use Rattle.store.specs.declared.answers.Answer.{Answer}
-use Rattle.store_laws.specs.CallsMade.{PollsBy, noted_with}
+use Rattle.store_laws.specs.CallsMade.{GoneOn, PollsBy, noted_with}
 use Rattle.store_laws.proofs.Export.{calls_are_explained}
+use Rattle.store.proofs.Gone.{deeds_go, gone_did, gone_then, update_goes, visits_go}
+
+at_replicated : {A : Type 0} (n a : ℕ) (x : A) → a < n → At a x (replicate n x)
+at_replicated zero a x low = absurd (omega (arith, low))
+at_replicated (suc n) zero x low = refl
+at_replicated (suc n) (suc a) x low = at_replicated n a x (omega (arith, low))
 
 pub sessions_rest : SessionsRest
 sessions_rest seat caller idle =
@@ -40,19 +46,8 @@ reads_are_told store old new program argument a of rests bytes free goes tells =
     goes = goes;
     answered = tells;
   },
-  goes.0.did.goes_on,
+  gone_did goes.0.did,
 )
-
-rounds_go : (k m : SessionKnown) → Rounds k m → Continues k.run m.run
-rounds_go k m (Begins j) = continues_self k.run
-rounds_go k m (Waits j i after batch rounds turn) = continues_on k.run i.run m.run (rounds_go k i rounds) turn.at.did.goes_on
-rounds_go k m (Combines j i claiming after batch answered rounds turn combine) =
-    continues_on k.run claiming.run m.run (continues_on k.run i.run claiming.run (rounds_go k i rounds) turn.at.did.goes_on) combine.did.goes_on
-
-update_goes : (k after : SessionKnown) (op : Operation) (reply : Reply) → UpdatesBy k after op reply → Continues k.run after.run
-update_goes k after op reply u =
-    let waited = u.completes.waited in
-    continues_on k.run waited.run after.run (continues_on k.run u.asked.run waited.run u.posts.at.did.goes_on (rounds_go u.asked waited u.completes.rounds)) u.completes.collects.at.did.goes_on
 
 noted_so : (old new : SessionView) (op : Operation) (reply : Reply) → TellsUpdate old new op (said reply) → new.note ≡ noted_with old.note op reply
 noted_so old new op (Placed i reply) tells = tells.1
@@ -67,10 +62,6 @@ updates_are_told old new op result rests goes tells = (
 )
 
 -- ---- an update of a pipeline
-
-visits_go : (k m : SessionKnown) → Visits k m → Continues k.run m.run
-visits_go k m (Stays j) = continues_self k.run
-visits_go k m (Visit j i after slot x visits at) = continues_on k.run i.run m.run (visits_go k i visits) at.did.goes_on
 
 pub pipelines_are_told : PipelinesAreTold
 pipelines_are_told old new op result rests goes tells =
@@ -93,17 +84,6 @@ pipelines_are_told old new op result rests goes tells =
     )
 
 -- ---- a polled update
-
-deed_goes : (k after : SessionKnown) → DeedBy k after → Continues k.run after.run
-deed_goes k after (Tries steps nothing did) = did.goes_on
-deed_goes k after (Looks batch turn) = turn.at.did.goes_on
-deed_goes k after (ClaimsIt batch turn) = turn.at.did.goes_on
-deed_goes k after (Answers node batch kept noted answers) = answers.did.goes_on
-deed_goes k after (Gives node batch kept hands) = hands.did.goes_on
-
-deeds_go : (k after : SessionKnown) → Deeds k after → Continues k.run after.run
-deeds_go k after (NoDeed j) = continues_self k.run
-deeds_go k after (Then j m i deeds deed) = continues_on k.run m.run after.run (deeds_go k m deeds) (deed_goes m after deed)
 
 deeds_on : (k m after : SessionKnown) → Deeds k m → Deeds m after → Deeds k after
 deeds_on k m after first (NoDeed j) = first
@@ -173,8 +153,8 @@ polled_updates_are_told old asked new op o result rests under waits goes tells =
   reply,
   goes.1,
   record { idle = rests; goes = inr polls; answered = note },
-  continues_on old.run u.asked.run new.run u.posts.at.did.goes_on
-      (continues_on u.asked.run goes.2.0.run new.run polls_go goes.2.2.1.at.did.goes_on),
+  gone_then (known_of old) u.asked (known_of new) (gone_did u.posts.at.did)
+      (gone_then u.asked goes.2.0 (known_of new) polls_go (gone_did goes.2.2.1.at.did)),
 )
   where
     u : UnderWay old op asked
@@ -189,7 +169,7 @@ polled_updates_are_told old asked new op o result rests under waits goes tells =
     polls : PollsBy (known_of old) (known_of new) op reply
     polls = record { asked = u.asked; posts = u.posts; waited = goes.2.0; deeds = deeds; collects = goes.2.2 }
 
-    polls_go : Continues u.asked.run goes.2.0.run
+    polls_go : GoneOn u.asked goes.2.0
     polls_go = deeds_go u.asked goes.2.0 deeds
 
     -- what was told is what was collected
@@ -215,3 +195,8 @@ polled_rest seat caller batch kept Ready is none = not_out seat caller is.0 is.1
 
 pub closes_told : ClosesTold
 closes_told store sessions closed is told = calls_are_explained (setup_of store) is.run is.progress is.notes is.leads told
+
+-- ---- no calls
+
+pub sessions_begin : SessionsBegin
+sessions_begin store a low = record { ends = record { seen = refl; last = inl (refl, refl) }; fresh = λ none. (refl, at_replicated (sessions_of store.config) a fresh_note low) }

@@ -1,6 +1,6 @@
 -- What room for a program holds that was just emptied and filled, and what is refused of it.
 use Rattle.std.proofs.Common.{◌≡◌, ℕ, ◌≤◌, Bool, true, cond, List, Option, Some, refl, ap, ◌∙◌, arith}
-use Rattle.std.specs.Prelude.{◌&&◌, nat_le, length, slice_get, Result, Ok, Err, IsOk}
+use Rattle.std.specs.Prelude.{◌&&◌, length, slice_get, Result, Ok, Err, IsOk}
 use Rattle.std.proofs.lemmas.Bool.{false≢true}
 use Rattle.std.proofs.lemmas.Bool.Decides.{nat_tests}
 use Rattle.maps.specs.declared.shapes.Shape.{Shape}
@@ -11,7 +11,7 @@ use Rattle.oplog.specs.Calls.{NewProgram}
 use Rattle.replica.specs.Refusals.{is_small}
 use Rattle.replica.specs.declared.refusals.StoreRefused.{StoreRefused}
 use Rattle.replica.specs.declared.refusals.StoreRefused.TheVariants.{TooLarge}
-use Rattle.store.specs.Within.{outside_refusal, reading_within, refused_as, within_refusal}
+use Rattle.store.specs.Within.{outside_refusal, reading_within, within_refusal}
 
 -- the one program in it is what was read
 pub record Filled (shapes : List Shape) (read : Result Checked InstallRefusal) (room : InstalledView) : Type 0 where
@@ -33,6 +33,3 @@ module _ (shapes : List Shape) (long maps : ℕ) (new : NewProgram) (few : lengt
   -- of a program that was read and is accepted, and of one that is not
   pub refused_within : (c : Checked) → installed_program shapes new.mode new.arg_len new.bytes ≡ Ok c → within_refusal shapes long maps new ≡ outside_refusal maps c.program
   refused_within c is = ap by_size small ∙ ap (reading_within maps) is
-
-  pub refused_read : (e : InstallRefusal) → installed_program shapes new.mode new.arg_len new.bytes ≡ Err e → within_refusal shapes long maps new ≡ Some (refused_as e)
-  refused_read e is = ap by_size small ∙ ap (reading_within maps) is

@@ -1,2 +1,7 @@
 -- The lemmas that other crates may cite.
-pub use Rattle.store.proofs.EachSession.{all_of_at, at_of_all}
+pub use Rattle.store.proofs.Ascending.{at_read}
+pub use Rattle.store.proofs.AskedEach.{at_taken, lent_back}
+pub use Rattle.store.proofs.Between.{goes_then}
+pub use Rattle.store.proofs.EachSession.{all_of_at, at_of_all, is_read, stands}
+pub use Rattle.store.proofs.Gone.{gone_self, gone_then}
+pub use Rattle.store.proofs.Joined.{last_place}

@@ -79,9 +79,6 @@ module _ (config : Sizes) (c : CatalogueView) where
   fresh_long id a zero = refl
   fresh_long id a (suc n) = let long = fresh_long id (suc a) n in omega (arith, long)
 
-  pub seated_first : (id : ShelfId) (total : ℕ) (seat : S) (sessions : List SessionView) → seat.shelf ≡ id → seat.sessions ≡ left_from 0 total → sessions ≡ [] → Seated id total 0 seat sessions
-  seated_first id total seat sessions shelf is none = record { shelf = shelf; left = total; count = omega arith; seats = is; sessions_are = none }
-
   pub seated_more : (id : ShelfId) (total a b : ℕ) (seat next own : S) (sessions more : List SessionView) (s : SessionView) → b ≡ a + 1 → a < total → Seated id total a seat sessions → next.shelf ≡ seat.shelf → own.shelf ≡ seat.shelf
       → ((k : SessionKnown) (ks : List SessionKnown) → seat.sessions ≡ k ∷ ks → (next.sessions ≡ ks) × (own.sessions ≡ k ∷ [])) → s ≡ session_view own → more ≡ sessions ++ s ∷ [] → Seated id total b next more
   seated_more id total a b seat next own sessions more s is lt g same apart split view grown =

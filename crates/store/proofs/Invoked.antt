@@ -20,8 +20,9 @@ use Rattle.store_steps.specs.AtOnce.{IsAlone}
 use Rattle.store_steps.specs.AtDesk.{HasAsked}
 use Rattle.store_steps.specs.Requests.{HasCompleted, HasPosted}
 use Rattle.store.specs.Sessions.{said, IsOf, SessionGoesOn, StoreView, TellsUpdate}
-use Rattle.store_steps.specs.Views.{IsIdle, SessionView, request_of}
+use Rattle.store_steps.specs.Views.{IsIdle, SessionView, known_of, request_of}
 use Rattle.store_steps.specs.Standing.{IsFree, SessionKnown, Stands}
+use Rattle.store_laws.specs.CallsMade.{GoneOn}
 use Rattle.store_steps.proofs.Export.{free_by, store_laws, well_formed, view_known}
 
 abbrev K : Type 0
@@ -130,12 +131,13 @@ module _ (store : StoreView) (old new : SessionView) (id shelf : ShelfId) (k f :
   stays_well : IsWellFormed store_meaning new.progress
   stays_well = both (λ a b. IsWellFormed store_meaning b.progress) (well_formed f.progress v.stands.notes v.stands.accounts)
 
-  pub goes_on : IsOf store old → shelf ≡ old.shelf → SessionGoesOn store old new
-  goes_on own same = record {
+  pub goes_on : IsOf store old → shelf ≡ old.shelf → GoneOn (known_of old) (known_of new) → SessionGoesOn store old new
+  goes_on own same gone = record {
     own = still_of own (same ∙ own.shelf);
     same = (ap (λ (z : SessionView). z.shelf) now ∙ same, same_session);
     grown = has_grown;
     well_formed = stays_well;
+    gone = gone;
   }
 
   pub tells_update : k.note.pending ≡ None → k.note.batch ≡ [] → TellsUpdate old new op (said reply)

@@ -21,7 +21,7 @@ only : {A : Type 0} (a b : A) (i : ℕ) → At i b (a ∷ []) → b ≡ a
 only a b zero e = sym (some-injective a b e)
 only a b (suc i) e = absurd (at_none i b e)
 
-last_place : {A : Type 0} (xs : List A) (a : A) → At (length xs) a (xs ++ a ∷ [])
+pub last_place : {A : Type 0} (xs : List A) (a : A) → At (length xs) a (xs ++ a ∷ [])
 last_place xs a = subst (λ i. At i a (xs ++ a ∷ [])) (no_more (length xs)) (at_behind xs (a ∷ []) 0 a refl)
   where
     no_more : (n : ℕ) → n + 0 ≡ n
@@ -92,9 +92,6 @@ next_of store id all before rest s t own g is =
 
 pub first_of : (store : StoreView) (all rest : List SessionView) (s : SessionView) → AreOf store all → all ≡ rest ++ s ∷ [] → s.shelf ≡ store.id
 first_of store all rest s own is = (own (length rest) s (subst (λ z. At (length rest) s z) (sym is) (last_place rest s))).shelf
-
-pub holds_none : (id : ShelfId) (all rest : List SessionView) (t : S) → Gathered id all rest t → HoldsNone t.sessions
-holds_none id all rest t g = subst (λ z. HoldsNone z) (sym g.joined) (back_holds_none g.popped)
 
 pub one_holds_none : (v : List SessionKnown) (s : SessionView) → v ≡ known_of s ∷ [] → HoldsNone v
 one_holds_none v s is a k at = ap (λ (z : SessionKnown). z.held) (only (known_of s) k a (subst (λ z. At a k z) is at))

@@ -4,6 +4,7 @@ pub mod Left
 pub mod Following
 pub mod Fresh
 pub mod Joined
+pub mod Gone
 pub mod Invoked
 pub mod Between
 pub mod Looked

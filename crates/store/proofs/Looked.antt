@@ -1,5 +1,6 @@
 -- What a session was told that looked at its node's replica, as its user sees it; it is idle still.
 use Rattle.std.proofs.Common.{◌≡◌, ℕ, ◌+◌, ◌≤◌, [], None, ap, subst, sym, ◌∙◌}
+use Rattle.std.specs.Prelude.{Result, Ok, Err, IfErr, IfOk}
 use Rattle.loader.specs.CatalogueView.{CatalogueView}
 use Rattle.loader.specs.StoreState.{StoreState}
 use Rattle.oplog.specs.declared.configuration.TheConstants.{MAX_NODES}
@@ -10,13 +11,18 @@ use Rattle.store_steps.specs.declared.deeds.Stage.{Stage}
 use Rattle.store_steps.specs.declared.steps.Caller.{Caller}
 use Rattle.store_steps.specs.declared.steps.Shared.{Shared}
 use Rattle.store_steps.specs.Sights.{HasSeen, HasSight, SightBy, SightTells}
-use Rattle.store_steps.specs.Knowing.{IsOn, Knows}
+use Rattle.store_steps.specs.Knowing.{IsOn, Knows, Learns}
+use Rattle.store_steps.specs.Measuring.{HasMeasured}
+use Rattle.store_steps.specs.Trying.{IsStill}
+use Rattle.store_steps.specs.declared.measuring.Stats.{Stats}
 use Rattle.store_steps.specs.Stages.{IsPolled}
 use Rattle.store_steps.specs.Standing.{IsFree, SessionKnown, StoreSeat}
 use Rattle.store_steps.specs.Views.{IsIdle, SessionView, known_of, session_view}
+use Rattle.store_steps.specs.Whole.{LooksBy}
 use Rattle.store_steps.proofs.Export.{both, goes_seen, on_known}
 use Rattle.loader.specs.Installed.{InstalledView}
 use Rattle.store.specs.Sessions.{HasRoom, IsFresh, IsOf, SessionGoesOn, StoreView}
+use Rattle.store.proofs.Gone.{gone_did}
 use Rattle.store.proofs.Between.{StaysIdle, goes_on, idle_at, idle_stage, on_at, room_on, stays_idle}
 
 module _ (old new : StoreSeat) (k m : SessionKnown) (is : IsSession old k) (now : IsSession new m) (was : SessionView) (seen : session_view old ≡ was) (none : k.held ≡ []) where
@@ -35,8 +41,25 @@ lent_to P x y e h = subst P e h
 pub lent_both : {A : Type 0} (P : A → A → Type 0) (x y z w : A) → x ≡ y → z ≡ w → P x z → P y w
 lent_both P x y z w e f h = subst (P y) f (subst (λ a. P a z) e h)
 
-pub idle_seen : (old new : StoreSeat) (caller : Caller) (i : IsIdle old caller) (m : SessionKnown) → IsSession new m → (point : ℕ) → HasSeen i.known m point → StaysIdle old new caller
-idle_seen old new caller i m is point r = stays_idle old new caller i m is r.session r.held r.note r.extends r.well_formed
+pub idle_seen : (old new : StoreSeat) (caller : Caller) (i : IsIdle old caller) (m : SessionKnown) → IsSession new m → (point : ℕ) → HasSeen i.known m point → LooksBy i.known m point → StaysIdle old new caller
+idle_seen old new caller i m is point r by = stays_idle old new caller i m is r.session r.held r.note r.extends r.well_formed (gone_did by.did)
+
+-- so is one that has measured
+pub idle_measured : (old new : StoreSeat) (caller : Caller) (i : IsIdle old caller) (m : SessionKnown) → IsSession new m → (stats : Stats) → HasMeasured stats i.known m → StaysIdle old new caller
+idle_measured old new caller i m is stats h = stays_idle old new caller i m is h.session h.held h.note h.extends h.well_formed (gone_did h.by.did)
+
+-- and one that found a place held
+pub idle_still : (old new : StoreSeat) (caller : Caller) (i : IsIdle old caller) (m : SessionKnown) → IsSession new m → IsStill i.known m → StaysIdle old new caller
+idle_still old new caller i m is s = stays_idle old new caller i m is s.session s.held s.note s.extends (s.well_formed i.well_formed) (gone_did s.did)
+
+-- its user sees it go on
+pub idle_goes_on : (store : StoreView) (old new : StoreSeat) (caller : Caller) (was : SessionView) → session_view old ≡ was → IsOf store was → new.shelf ≡ old.shelf → StaysIdle old new caller → SessionGoesOn store was (session_view new)
+idle_goes_on store old new caller was seen own shelf idle = goes_on store (session_view old) was (session_view new) seen own shelf idle.session idle.extends idle.well_formed idle.gone
+
+-- so is one that has tried to measure
+pub idle_tried : (old new : StoreSeat) (caller : Caller) (i : IsIdle old caller) (r : Result Stats ℕ) → IfErr r (λ _. Learns old new IsStill) → IfOk r (λ stats. Learns old new (HasMeasured stats)) → StaysIdle old new caller
+idle_tried old new caller i (Ok stats) still measured = let t = measured i.known i.is in idle_measured old new caller i t.0 t.1 stats t.2
+idle_tried old new caller i (Err place) still measured = let t = still i.known i.is in idle_still old new caller i t.0 t.1 t.2
 
 -- ---- a session whose calls wait for nobody, and of which no update is out
 
@@ -59,7 +82,7 @@ module _ (s : StoreSeat) (caller : Caller) (b : BatchView) (kept : RepliesView) 
 
   pub has_looked : (store : StoreView) (new : StoreSeat) (room : InstalledView) → IsOf store was → new.shelf ≡ s.shelf → HasRoom room s → StaysIdle s new caller → HasLooked store was new caller b kept stage room
   has_looked store new room own same has idle = record {
-    session = goes_on store (session_view s) was (session_view new) seen own same idle.session idle.extends idle.well_formed;
+    session = idle_goes_on store s new caller was seen own same idle;
     note = idle.note ∙ ap (λ (z : SessionView). z.note) seen;
     polled =
         let at = idle_stage s caller b kept stage v (ap (λ (z : SessionView). z.note.pending) seen ∙ none) in

@@ -38,6 +38,8 @@ use Rattle.store.specs.Opening.{AreOf}
 use Rattle.store.specs.Pipelines.{AreJoined, EachGoesOn, OthersStay, views_of}
 use Rattle.store.specs.PolledPipelines.{AreListed, AreWaiting, EachAsks, EachIsTold, EachLooks, IsTold, SetsFirst}
 use Rattle.store.specs.Sessions.{HasRoom, IsOf, SessionGoesOn, StoreView, known_of, said}
+use Rattle.store_laws.specs.CallsMade.{GoneOn}
+use Rattle.store.proofs.Gone.{begin_goes, done_goes, visits_go}
 use Rattle.store.proofs.AskedEach.{IsShared, at_replaced, at_taken, replaced_long, stays_behind}
 use Rattle.store.proofs.Held.{HoldNothing}
 use Rattle.store.proofs.Between.{goes_on, goes_still, known_at, on_at, well_at}
@@ -150,24 +152,25 @@ pub record GoesOnAt (store : StoreView) (m o : Member) : Type 0 where
   pub goes_on : SessionGoesOn store (session_view m.seat) (session_view o.seat)
 
 on_by : (store : StoreView) (m o : Member) → spot_of o ≡ spot_of m → IsOf store (session_view m.seat) → (session_view o.seat).session ≡ (session_view m.seat).session → Extends (session_view m.seat).progress (session_view o.seat).progress
-    → IsWellFormed store_meaning (session_view o.seat).progress → GoesOnAt store m o
-on_by store m o spot own session extends well = record {
+    → IsWellFormed store_meaning (session_view o.seat).progress → GoneOn (known_of (session_view m.seat)) (known_of (session_view o.seat)) → GoesOnAt store m o
+on_by store m o spot own session extends well gone = record {
   caller = ap (λ z. z.0) spot;
   session = session;
   shapes = λ r has. (has.0 ∙ ap (λ (x : CatalogueView). x.shapes) extends.catalogue, has.1 ∙ ap (λ (x : CatalogueView). x.long) extends.catalogue, has.2);
-  goes_on = goes_on store (session_view m.seat) (session_view m.seat) (session_view o.seat) refl own (ap (λ z. z.1) spot) session extends well;
+  goes_on = goes_on store (session_view m.seat) (session_view m.seat) (session_view o.seat) refl own (ap (λ z. z.1) spot) session extends well gone;
 }
 
 -- it only looked
 module _ (store : StoreView) (m o : Member) (i : IsIdle m.seat m.caller) (f : K) (is : IsSession o.seat f) (h : HasLooked i.known f) where
+  pub looked_seen : HasLooked (known_of (session_view m.seat)) (known_of (session_view o.seat))
+  looked_seen = goes_seen HasLooked m.seat o.seat (session_view m.seat) i.known f i.is i.free.held refl is (h.held ∙ i.free.held) h
+
   pub looked_on : spot_of o ≡ spot_of m → IsOf store (session_view m.seat) → GoesOnAt store m o
   looked_on spot own = on_by store m o spot own
       (both m.seat o.seat i.known f i.is is (λ x y. y.session ≡ x.session) h.session)
       (both m.seat o.seat i.known f i.is is (λ x y. Extends x.progress y.progress) h.extends)
       (both m.seat o.seat i.known f i.is is (λ x y. IsWellFormed store_meaning y.progress) (h.well_formed i.well_formed))
-
-  pub looked_seen : HasLooked (known_of (session_view m.seat)) (known_of (session_view o.seat))
-  looked_seen = goes_seen HasLooked m.seat o.seat (session_view m.seat) i.known f i.is i.free.held refl is (h.held ∙ i.free.held) h
+      (visits_go _ _ looked_seen.visits)
 
 -- it has gone on with its update
 module _ (m o : Member) (c : BatchView) (now : RepliesView) (next : Stage) where
@@ -315,7 +318,7 @@ module _ (store : StoreView) (ms : List Member) (rooms : List InstalledView) (po
     pub each_began : (j : ℕ) (m o : Member) → At j m (take n ms) → At j o new → GoesOnAt store m o
     each_began j m o at_m at_o =
         let d = (began j m o at_m at_o).2 in
-        on_by store m o (spot_at j m o at_m at_o) (mine j m (at_taken n ms j m at_m)) d.session d.extends d.well_formed
+        on_by store m o (spot_at j m o at_m at_o) (mine j m (at_taken n ms j m at_m)) d.session d.extends d.well_formed (begin_goes _ _ _ d.goes)
 
     pub still_began : AreOut new c now next → (after : ℕ) → after ≡ n → AreListed all rooms after c now next
     still_began out after is =
@@ -339,7 +342,7 @@ module _ (store : StoreView) (ms : List Member) (rooms : List InstalledView) (po
   module _ (count : posted ≡ n) (c : BatchView) (now : RepliesView) where
     module _ (next : EachStage) (waits : WaitsEach (take n ms) new c now next) where
       pub each_waits : (j : ℕ) (m o : Member) → At j m (take n ms) → At j o new → GoesOnAt store m o
-      each_waits j m o at_m at_o = let d = waits j m o at_m at_o in on_by store m o (spot_at j m o at_m at_o) (mine j m (at_taken n ms j m at_m)) d.session d.extends d.well_formed
+      each_waits j m o at_m at_o = let d = waits j m o at_m at_o in on_by store m o (spot_at j m o at_m at_o) (mine j m (at_taken n ms j m at_m)) d.session d.extends d.well_formed (done_goes _ _ Busy d.goes)
 
       pub still_waits : AreOut new c now next → (after : ℕ) → after ≡ posted → AreListed all rooms after c now next
       still_waits out after is =
@@ -359,7 +362,7 @@ module _ (store : StoreView) (ms : List Member) (rooms : List InstalledView) (po
 
     module _ (replies : List Reply) (completes : CompletesEach (take n ms) new c now replies) where
       pub each_completes : (j : ℕ) (m o : Member) → At j m (take n ms) → At j o new → GoesOnAt store m o
-      each_completes j m o at_m at_o = let d = (completes j m o at_m at_o).2 in on_by store m o (spot_at j m o at_m at_o) (mine j m (at_taken n ms j m at_m)) d.session d.extends d.well_formed
+      each_completes j m o at_m at_o = let d = completes j m o at_m at_o in on_by store m o (spot_at j m o at_m at_o) (mine j m (at_taken n ms j m at_m)) d.2.session d.2.extends d.2.well_formed (done_goes _ _ (Collected d.0) d.2.goes)
 
       pub idle_then : (j : ℕ) (o : Member) → At j o all → IsIdle o.seat o.caller
       idle_then j o at =

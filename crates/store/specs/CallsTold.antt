@@ -1,7 +1,6 @@
 -- What the clauses of a session's calls say of an answer is what the list of its calls asks of a read or an update.
-use Rattle.std.specs.Prelude.{◌≡◌, ℕ, List, [], Some, None, Result}
+use Rattle.std.specs.Prelude.{◌≡◌, ◌⊎◌, ◌<◌, ℕ, List, [], Some, None, Result}
 use Rattle.maps.specs.Maps.{AreBytes}
-use Rattle.ownlock.specs.Seats.{Continues}
 use Rattle.oplog.specs.Operations.{Operation}
 use Rattle.combiner.specs.Desks.{BatchView}
 use Rattle.combiner.specs.declared.slots.Reply.{Reply}
@@ -17,6 +16,7 @@ use Rattle.store_steps.specs.Standing.{SessionKnown, StoreSeat}
 use Rattle.store_steps.specs.Stages.{IsPolled}
 use Rattle.store_steps.specs.Updating.{PostsBy}
 use Rattle.store_steps.specs.Whole.{ReadsBy}
+use Rattle.store_steps.specs.Shelving.{sessions_of}
 use Rattle.store_steps.specs.Views.{IsIdle, SessionView, op_of, session_view}
 use Rattle.store_steps.specs.declared.deeds.Stage.{Stage}
 use Rattle.store_steps.specs.declared.steps.Caller.{Caller}
@@ -25,9 +25,9 @@ use Rattle.store.specs.Looks.{MayRead}
 use Rattle.store.specs.Opening.{ClosedView, IsClosed, setup_of}
 use Rattle.store.specs.Pipelines.{LooksAndUpdates}
 use Rattle.store.specs.Polled.{HasPostedFor, TellsCompleted}
-use Rattle.store.specs.Sessions.{IsOf, StoreView, TellsUpdate, known_of, said}
+use Rattle.store.specs.Sessions.{IsOf, StoreView, TellsUpdate, fresh_session, known_of, said}
 use Rattle.store.specs.declared.answers.Answer.{Answer}
-use Rattle.store_laws.specs.CallsMade.{ExplainsCalls, ToldOf, WasRead, WasUpdate}
+use Rattle.store_laws.specs.CallsMade.{ExplainsCalls, GoneOn, HasOwnRun, ToldOf, WasRead, WasUpdate}
 
 -- a session that waits for nothing, and combines for nobody
 abbrev pub Rests : SessionView → Type 0
@@ -45,7 +45,7 @@ PolledRest =
 
 -- a read by this program that got this answer may be listed as a read, and the run has gone on
 abbrev pub IsToldRead : (old new : SessionView) → (program : ℕ) → List ℕ → ReadAnswer → Type 0
-IsToldRead old new program argument a = WasRead (known_of old) (known_of new) (record { program = program; argument = argument }) a × Continues old.run new.run
+IsToldRead old new program argument a = WasRead (known_of old) (known_of new) (record { program = program; argument = argument }) a × GoneOn (known_of old) (known_of new)
 
 -- so may each read that gets an answer: `told` of `Session::read` and of `Polled::try_read` says both of an answer
 abbrev pub ReadsAreTold : Type 0
@@ -58,15 +58,15 @@ ReadsAreTold =
 abbrev pub UpdatesAreTold : Type 0
 UpdatesAreTold =
     (old new : SessionView) (op : Operation) (result : Result Answer StoreRefused) → Rests old → UpdateGoes old new op result → TellsUpdate old new op result
-    → (reply : Reply) × (result ≡ said reply) × WasUpdate (known_of old) (known_of new) op reply × Continues old.run new.run
+    → (reply : Reply) × (result ≡ said reply) × WasUpdate (known_of old) (known_of new) op reply × GoneOn (known_of old) (known_of new)
 
 -- So may each update of a pipeline, by `goes` and `answered` of `Pipeline::invoke_each`: what the session did first, the looks at its desk for nothing,
 -- may be listed as another call, which makes no events.
 abbrev pub PipelinesAreTold : Type 0
 PipelinesAreTold =
     (old new : SessionView) (op : Operation) (result : Result Answer StoreRefused) → Rests old → LooksAndUpdates old new op result → TellsUpdate old new op result
-    → (looked : SessionKnown) × (looked.session ≡ old.session) × Visits (known_of old) looked × Continues old.run looked.run
-    × ((reply : Reply) × (result ≡ said reply) × WasUpdate looked (known_of new) op reply × Continues looked.run new.run)
+    → (looked : SessionKnown) × (looked.session ≡ old.session) × Visits (known_of old) looked × GoneOn (known_of old) looked
+    × ((reply : Reply) × (result ≡ said reply) × WasUpdate looked (known_of new) op reply × GoneOn looked (known_of new))
 
 -- a session has posted an operation, and has gone on with it by calls that had no answer
 pub data IsUnderWay (old : SessionView) (op : Operation) : SessionView → Type 0 where
@@ -82,7 +82,11 @@ abbrev pub PolledUpdatesAreTold : Type 0
 PolledUpdatesAreTold =
     (old asked new : SessionView) (op : Operation) (o : Pending) (result : Result Answer StoreRefused) → Rests old → IsUnderWay old op asked
     → asked.note.pending ≡ Some o → CompleteGoes asked new (Some result) → TellsCompleted asked new o (Some result)
-    → (reply : Reply) × (result ≡ said reply) × WasUpdate (known_of old) (known_of new) op reply × Continues old.run new.run
+    → (reply : Reply) × (result ≡ said reply) × WasUpdate (known_of old) (known_of new) op reply × GoneOn (known_of old) (known_of new)
+
+-- each session of a store that was just opened has its own run, and knows no step of it: its list begins with `NoCalls`
+abbrev pub SessionsBegin : Type 0
+SessionsBegin = (store : StoreView) (a : ℕ) → a < sessions_of store.config → HasOwnRun (setup_of store) (known_of (fresh_session store.id store.config store.catalogue a))
 
 -- the history of a closed store explains the calls of all its sessions, whatever calls are listed for each: each session has exactly these, in
 -- their order

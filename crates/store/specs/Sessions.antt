@@ -17,6 +17,7 @@ use Rattle.accounts.specs.Accounts.{Extends, IsWellFormed}
 use Rattle.accounts.specs.LogSteps.{first_progress, fresh_note}
 use Rattle.accounts.specs.Told.{Tells, note_with}
 use Rattle.store.specs.declared.answers.Answer.{Answer}
+use Rattle.store_laws.specs.CallsMade.{GoneOn}
 use Rattle.replica.specs.declared.refusals.StoreRefused.{StoreRefused}
 use Rattle.replica.specs.declared.refusals.StoreRefused.TheVariants.{Ended as TheEnd}
 use Rattle.store_steps.specs.Standing.{SessionKnown, StoreSeat}
@@ -36,12 +37,13 @@ pub record IsOf (store : StoreView) (s : SessionView) : Type 0 where
   pub catalogue : s.progress.catalogue ≡ store.catalogue
 
 -- the session before and after a call is the same one, and of this store still; what it knew of the history stays, and what it knows now is a
--- history that the store may have
+-- history that the store may have; the run that it knows has gone on by steps of others and by its own, of which it knows each
 pub record SessionGoesOn (store : StoreView) (old new : SessionView) : Type 0 where
   pub own : IsOf store new
   pub same : (new.shelf ≡ old.shelf) × (new.session ≡ old.session)
   pub grown : Extends old.progress new.progress
   pub well_formed : IsWellFormed store_meaning new.progress
+  pub gone : GoneOn (known_of old) (known_of new)
 
 -- what the session a knows at first, and the session
 abbrev pub fresh_known : Sizes → CatalogueView → ℕ → SessionKnown

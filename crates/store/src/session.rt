@@ -36,7 +36,7 @@ use store_steps::{
 use verifier::Mode;
 
 /// What a thread updates and reads a store with: one slot of one node. It moves to a thread, and has no `Drop`: it ends in
-/// `Store::close`.
+/// `Store::close`, or becomes a `Polled` or a part of a `Pipeline`.
 ///
 /// # Examples
 ///

@@ -1,6 +1,6 @@
 // An update by four takes of a session whose calls answer at once.
 
-ghost use Rattle.std.specs.Prelude.{◌≡◌, None, Some, Err, true, IfSome, IfNone};
+ghost use Rattle.std.specs.Prelude.{◌≡◌, None, Some, Err, true, IfOk, IfSome, IfNone};
 ghost use Rattle.verifier.specs.declared.refusal.Mode.TheVariants.{Update};
 ghost use Rattle.replica.specs.StoreMeaning.{is_operation};
 ghost use Rattle.replica.specs.declared.refusals.StoreRefused.{StoreRefused};
@@ -9,7 +9,7 @@ ghost use Rattle.store.specs.Going.{BeginGoes};
 ghost use Rattle.store.specs.Polled.{TellsAsked};
 ghost use Rattle.store.specs.Looks.{IsRefused};
 ghost use Rattle.store.specs.Sessions.{IsOf, MayUpdate, SessionGoesOn, known_of};
-ghost use Rattle.store_steps.specs.Polling.{BeginsBy, HasAskedFor};
+ghost use Rattle.store_steps.specs.Polling.{BeginsBy, BeginsInOneHold, HasAskedFor};
 ghost use Rattle.store_steps.specs.Views.{op_of};
 
 use crate::polled::Polled;
@@ -29,6 +29,7 @@ impl Polled {
         ensures stays { IfNone result (self.new ≡ self.old) }
         ensures asked { IfSome result (λ _. HasAskedFor self.old self.new op.now) }
         ensures goes { IfSome result (λ _. BeginsBy (known_of self.old) (known_of self.new) op.now) }
+        ensures held { IfSome result (λ _. BeginsInOneHold (known_of self.old) (known_of self.new) op.now) }
     {
         let shared = store.shared();
         let Polled {
@@ -83,6 +84,7 @@ impl Polled {
         ensures early { IsRefused (early_refusal store.now.catalogue Update program argument.now) result (self.new ≡ self.old) }
         ensures asked { MayUpdate store.now program argument.now → TellsAsked self.old self.new (op_of program argument.now) result }
         ensures goes { MayUpdate store.now program argument.now → BeginGoes self.old self.new (op_of program argument.now) result }
+        ensures held { IfOk result (λ o. IfSome o (λ _. BeginsInOneHold (known_of self.old) (known_of self.new) (op_of program argument.now))) }
     {
         // This opens the session's invariant for the proof: a refused call uses no other part of the session.
         let _seat = &self.seat;

@@ -26,6 +26,8 @@ pub mod RunEvents
 -- Own steps of a session in a run.
 pub mod OwnSteps
 pub mod KeptNotes
+-- What a session knows, in a run.
+pub mod Knew
 -- A look in the run, and what its session may say of it.
 pub mod ReadsSaid
 -- The events of one session in a run.

@@ -1,19 +1,17 @@
 -- A look stands in the run, and what its session may say of it.
 use Rattle.std.proofs.Common.{◌≡◌, ◌≢◌, ◌≤◌, eq-eqb, ne_eqb, if◌then◌else◌, length-append, Some, None, ℕ, Bool, true, List, [], ◌∷◌, ◌++◌, length, map, append_assoc, refl, sym, ap, ◌∙◌, subst, inl, inr, ⊎_elim, arith}
-use Rattle.std.specs.Prelude.{nat_lt, slice_set}
+use Rattle.std.specs.Prelude.{nat_lt}
 use Rattle.std.proofs.lemmas.Bool.{cases_eq}
 use Rattle.std.specs.List.{AllByRecursion}
 use Rattle.std.proofs.lemmas.List.{append_cancel_left, append_cancel_right}
-use Rattle.accounts.proofs.Export.{at_below}
 use Rattle.ownlock.specs.declared.known.ShelfStep.{ShelfStep}
 use Rattle.ownlock.specs.Seats.{At, EndsWithOwn, own_steps, tails_in}
 use Rattle.ownlock.proofs.Export.{own_here}
 use Rattle.accounts.specs.Agreement.{replica_place}
 use Rattle.store_steps.specs.Doing.{AReplica, Part, and_then, of_part}
-use Rattle.store_steps.specs.Whole.{follow_deeds}
+use Rattle.store_steps.specs.Whole.{LooksBy, follow_deeds}
 use Rattle.store_laws.proofs.Behind.{own_both}
 use Rattle.store_laws.proofs.RunEvents.{Stood, ended, stood}
-use Rattle.atomic_table.proofs.Lists.{set_here}
 use Rattle.ownlock.specs.declared.known.ShelfStep.TheVariants.{Took, Put, Read}
 use Rattle.loader.specs.CatalogueView.{CatalogueView}
 use Rattle.replica.specs.StoreMeaning.{store_meaning, is_operation}
@@ -24,11 +22,13 @@ use Rattle.schedule.specs.declared.parts.BegunRead.{BegunRead}
 use Rattle.accounts.specs.declared.sessions.Progress.{Progress}
 use Rattle.accounts.specs.declared.sessions.SessionNote.{SessionNote}
 use Rattle.store_steps.specs.Shelving.{places_of, sessions_of}
+use Rattle.store_steps.specs.declared.values.Setup.{Setup}
 use Rattle.store_steps.specs.Standing.{SessionKnown}
 use Rattle.store_laws.specs.RunEvents.{Asks, Hears, MaySay, Sayings, StoreRun, StoreStep, begun_by, begun_in, opening_of, said_at}
-use Rattle.store_laws.specs.ReadsSaid.{EachMaySay, IsSilent, KeepsNote, LooksStand, OwnMaySay, ReadsMaySay, SilentMaySay}
+use Rattle.store_laws.proofs.Knew.{Knew, knew_between, opened_so}
+use Rattle.store_laws.specs.ReadsSaid.{EachMaySay, IsSilent, KeepsNote, LookStands, LooksStand, OwnMaySay, ReadsMaySay, SilentMaySay}
 use Rattle.store_laws.proofs.OwnSteps.{first_or, other_part, none_some_list, tails_on, HasRead, first_read, HasOwn, own_split, Deskless, DesklessPart, nothing_deskless, look_deskless, from_parts, all_taken, taken_behind, of_run, EndsIn, last_done, IsReadPart, PutsNoDesks}
-use Rattle.store_laws.proofs.KeptNotes.{Fact, LastStep, Leads, begins, fact, keeps_note, untouched}
+use Rattle.store_laws.proofs.KeptNotes.{Fact, LastStep, Leads, fact, keeps_note}
 use Rattle.maps.proofs.Export.{joined}
 
 abbrev L : Type 0
@@ -43,9 +43,10 @@ pub record LastOf (c : ℕ) (after : SessionKnown) (newer : StoreRun) : Type 0 w
   pub mine : last.session ≡ c
   pub knows : (last.progress ≡ after.progress) × (last.note ≡ after.note)
 
-pub looks_stand : LooksStand
+pub looks_stood : (opening : Setup) (k after : SessionKnown) (point : ℕ) → Knew opening k → Knew opening after → after.session ≡ k.session → k.note.batch ≡ []
+    → (look : LooksBy k after point) → LookStands k after look.seen
 unfolding Fact
-looks_stand opening begun later k after point a b is_k is_after same batch look = record {
+looks_stood opening k after point a b same batch look = record {
   since = since;
   whole = whole;
   keeps = kept.0;
@@ -70,10 +71,10 @@ looks_stand opening begun later k after point a b is_k is_after same batch look 
     whole = look.did.goes_on.1
 
     ends_k : EndsWithOwn k
-    ends_k = a.ends is_k.0 is_k.1 is_k.2 k is_k.3 is_k.4
+    ends_k = a.ends
 
     ends_after : EndsWithOwn after
-    ends_after = b.ends is_after.0 is_after.1 is_after.2 after is_after.3 is_after.4
+    ends_after = b.ends
 
     own : own_steps c since ++ k.steps ≡ after.steps
     own = ap (λ z. own_steps c since ++ z) (sym ends_k.seen) ∙ (sym (own_both c since k.run) ∙ (ap (own_steps c) (sym whole) ∙ subst (λ z. own_steps z after.run ≡ after.steps) same ends_after.seen))
@@ -129,28 +130,12 @@ looks_stand opening begun later k after point a b is_k is_after same batch look 
         let mine : own_steps c since ≡ and_then [] look.did.since = append_cancel_right (own_steps c since) (and_then [] look.did.since) k.steps (own ∙ (look.did.all ∙ taken_behind k.steps look.did.since)) in
         of_run c since (subst (AllByRecursion Deskless) (sym mine) (all_taken Deskless [] look.did.since tt (from_parts look.did.since parts)))
 
-    -- what stood where the session knew k
-    there : (was : L) (notes : List SessionNote) → Leads (opening_of opening) (sessions_of opening.config) (places_of opening.config) k.run was notes → At c k.note notes
-    there was notes leads = ⊎_elim
-        (λ (t : (k.run ≡ []) × (k.steps ≡ [])).
-        subst (At c k.note) (sym (begins (opening_of opening) (sessions_of opening.config) (places_of opening.config) leads t.0))
-        (untouched (opening_of opening) (sessions_of opening.config) (places_of opening.config) c k.note a.run a.progress a.notes a.leads (a.own is_k.0 is_k.1 is_k.2 k is_k.3 is_k.4 ∙ t.1) (a.noted is_k.0 is_k.1 is_k.2 k is_k.3 is_k.4)))
-        (λ (t : (before : StoreRun) × (e : StoreStep) × (k.run ≡ e ∷ before) × (e.session ≡ k.session) × (e.progress ≡ k.progress) × (e.note ≡ k.note)).
-        let s : LastStep (opening_of opening) (sessions_of opening.config) (places_of opening.config) t.1 t.0 notes =
-        fact (opening_of opening) (sessions_of opening.config) (places_of opening.config) (subst (λ z. Leads (opening_of opening) (sessions_of opening.config) (places_of opening.config) z was notes) t.2 leads) in
-        subst (At c k.note) (sym s.after)
-        (subst (λ (z : ℕ × SessionNote). At z.0 z.1 (slice_set s.notes t.1.session t.1.note)) (λ i. (t.3 i, t.5 i)) (set_here s.notes t.1.session t.1.note (at_below s.notes t.1.session t.1.before s.before))))
-        ends_k.last
-
-    stands : Stood (opening_of opening) (sessions_of opening.config) (places_of opening.config) after.run b.progress
-    stands =
-        let on = b.goes_on is_after.0 is_after.1 is_after.2 after is_after.3 is_after.4 in
-        stood (opening_of opening) (sessions_of opening.config) (places_of opening.config) on.0 after.run b.progress b.notes
-        (subst (λ z. Leads (opening_of opening) (sessions_of opening.config) (places_of opening.config) z b.progress b.notes) on.1 b.leads)
+    stands : Stood (opening_of opening) (sessions_of opening.config) (places_of opening.config) after.run b.led.0
+    stands = stood (opening_of opening) (sessions_of opening.config) (places_of opening.config) [] after.run b.led.0 b.led.1 b.led.2
 
     kept : KeepsNote c k.note since × At c k.note stands.notes
     kept = keeps_note (opening_of opening) (sessions_of opening.config) (places_of opening.config) c k.note since k.run stands.progress stands.notes
-        (subst (λ z. Leads (opening_of opening) (sessions_of opening.config) (places_of opening.config) z stands.progress stands.notes) whole stands.leads) batch none_put there
+        (subst (λ z. Leads (opening_of opening) (sessions_of opening.config) (places_of opening.config) z stands.progress stands.notes) whole stands.leads) batch none_put a.note
 
     -- what stood where the tail was loaded
     behind : StoreRun
@@ -166,8 +151,11 @@ looks_stand opening begun later k after point a b is_k is_after same batch look 
         let e = ended (opening_of opening) (sessions_of opening.config) (places_of opening.config) loading.leads load.step (load.older ++ k.run) refl in
         let s : LastStep (opening_of opening) (sessions_of opening.config) (places_of opening.config) load.step (load.older ++ k.run) loading.notes = fact (opening_of opening) (sessions_of opening.config) (places_of opening.config) loading.leads in (
           s.loads look.seen load.takes,
-          ap (λ (z : L). z.catalogue) (sym e.is) ∙ (loading.grown.catalogue ∙ (stands.grown.catalogue ∙ (b.catalogue ∙ (sym a.catalogue ∙ sym (a.grown is_k.0 is_k.1 is_k.2 k is_k.3 is_k.4).catalogue)))),
+          ap (λ (z : L). z.catalogue) (sym e.is) ∙ (loading.grown.catalogue ∙ (stands.grown.catalogue ∙ ((opened_so opening after.run b.led.0 b.led.1 b.led.2).1 ∙ sym a.opened.1))),
         )
+
+pub looks_stand : LooksStand
+looks_stand opening begun later k after point a b is_k is_after same batch look = looks_stood opening k after point (knew_between opening begun k a is_k) (knew_between opening later after b is_after) same batch look
 
 -- ---- what its session may say
 

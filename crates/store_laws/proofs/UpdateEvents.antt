@@ -33,11 +33,12 @@ use Rattle.store_steps.specs.Standing.{SessionKnown}
 use Rattle.store_steps.specs.declared.values.Setup.{Setup}
 use Rattle.store_steps.specs.declared.values.Value.{Value}
 use Rattle.store_steps.specs.declared.values.Value.TheVariants.{Desk}
-use Rattle.store_laws.specs.CallsMade.{KnewOnce, WasUpdate, WentOn, noted_events, noted_with, silence}
+use Rattle.store_laws.specs.CallsMade.{WasUpdate, WentOn, noted_events, noted_with, silence}
 use Rattle.store_laws.specs.RunEvents.{StoreRun, StoreStep, opening_of}
 use Rattle.store_laws.specs.Threads.{events_between, events_of}
 use Rattle.store_laws.proofs.DeskNotes.{Noted, Noting, SameCalls, StandsAs, noted}
-use Rattle.store_laws.proofs.KeptNotes.{Leads, begins, untouched}
+use Rattle.store_laws.proofs.Knew.{Knew}
+use Rattle.store_laws.proofs.KeptNotes.{Leads}
 use Rattle.store_laws.proofs.OwnSteps.{HasOwn, first_or, none_some_list, others, own_split}
 use Rattle.store_laws.proofs.RunEvents.{Stood, stood}
 use Rattle.store_laws.proofs.SessionEvents.{events_else, events_here, no_own_events, silent_events}
@@ -265,46 +266,27 @@ module _ (opening : Setup) where
   abbrev places : ℕ
   places = places_of opening.config
 
-  -- what stood where the session knew k
-  known_there : (k : SessionKnown) → KnewOnce opening k → (was : Progress CatalogueView) (notes : List SessionNote)
-      → Leads m sessions places k.run was notes → At k.session k.note notes
-  known_there k once was notes leads = ⊎_elim
-      (λ (t : (k.run ≡ []) × (k.steps ≡ [])).
-      subst (At k.session k.note) (sym (begins m sessions places leads t.0))
-      (untouched m sessions places k.session k.note once.between.run once.between.progress once.between.notes once.between.leads (once.between.own once.knows.0 once.knows.1 once.knows.2 k once.knows.3 once.knows.4 ∙ t.1) (once.between.noted once.knows.0 once.knows.1 once.knows.2 k once.knows.3 once.knows.4)))
-      (λ (t : (before : StoreRun) × (e : StoreStep) × (k.run ≡ e ∷ before) × (e.session ≡ k.session) × (e.progress ≡ k.progress) × (e.note ≡ k.note)).
-      subst (λ z. At k.session z notes) t.5 (last_note m sessions places t.1 t.0 k.session t.3 was notes (subst (λ z. Leads m sessions places z was notes) t.2 leads)))
-      (once.between.ends once.knows.0 once.knows.1 once.knows.2 k once.knows.3 once.knows.4).last
-
-  ends_later : (k after : SessionKnown) → WentOn opening k after → EndsWithOwn after
-  ends_later k after went = let b = went.once.knows in went.once.between.ends b.0 b.1 b.2 after b.3 b.4
-
   -- the session's own steps since it knew k
-  own_since : (k after : SessionKnown) → KnewOnce opening k → (went : WentOn opening k after) → own_steps k.session went.on.0 ++ k.steps ≡ after.steps
-  own_since k after once went =
-      let a = once.knows in
-      ap (λ z. own_steps k.session went.on.0 ++ z) (sym (once.between.ends a.0 a.1 a.2 k a.3 a.4).seen)
-      ∙ (sym (own_both k.session went.on.0 k.run) ∙ (ap (own_steps k.session) (sym went.on.1) ∙ subst (λ z. own_steps z after.run ≡ after.steps) went.same (ends_later k after went).seen))
+  own_since : (k after : SessionKnown) → Knew opening k → Knew opening after → (went : WentOn opening k after) → own_steps k.session went.on.0 ++ k.steps ≡ after.steps
+  own_since k after a b went =
+      ap (λ z. own_steps k.session went.on.0 ++ z) (sym a.ends.seen)
+      ∙ (sym (own_both k.session went.on.0 k.run) ∙ (ap (own_steps k.session) (sym went.on.1) ∙ subst (λ z. own_steps z after.run ≡ after.steps) went.same b.ends.seen))
 
   -- what stood where the session knew `after`
-  stands_later : (k after : SessionKnown) → (went : WentOn opening k after) → Stood m sessions places after.run went.once.between.progress
-  stands_later k after went =
-      let b = went.once.knows in
-      let on = went.once.between.goes_on b.0 b.1 b.2 after b.3 b.4 in
-      stood m sessions places on.0 after.run went.once.between.progress went.once.between.notes
-      (subst (λ z. Leads m sessions places z went.once.between.progress went.once.between.notes) on.1 went.once.between.leads)
+  stands_later : (after : SessionKnown) → (b : Knew opening after) → Stood m sessions places after.run b.led.0
+  stands_later after b = stood m sessions places [] after.run b.led.0 b.led.1 b.led.2
 
   -- looks at a desk make no events
-  pub visits_make : (k after : SessionKnown) → KnewOnce opening k → (went : WentOn opening k after) → Visits k after → noted_events k.session went.on.0 ≡ []
-  visits_make k after once went visits =
+  pub visits_make : (k after : SessionKnown) → Knew opening k → Knew opening after → (went : WentOn opening k after) → Visits k after → noted_events k.session went.on.0 ≡ []
+  visits_make k after a b went visits =
       let w : Since k after = visits_since k after visits in
-      let steps : own_steps k.session went.on.0 ≡ w.steps = append_cancel_right (own_steps k.session went.on.0) w.steps k.steps (own_since k after once went ∙ w.is) in
-      let stands = stands_later k after went in
-      (walk m sessions places k.session k.note went.on.0 k.run stands.progress stands.notes (subst (λ z. Leads m sessions places z stands.progress stands.notes) went.on.1 stands.leads) (subst Quiet (sym steps) w.quiet) (known_there k once)).events
+      let steps : own_steps k.session went.on.0 ≡ w.steps = append_cancel_right (own_steps k.session went.on.0) w.steps k.steps (own_since k after a b went ∙ w.is) in
+      let stands = stands_later after b in
+      (walk m sessions places k.session k.note went.on.0 k.run stands.progress stands.notes (subst (λ z. Leads m sessions places z stands.progress stands.notes) went.on.1 stands.leads) (subst Quiet (sym steps) w.quiet) a.note).events
 
-  pub update_makes : (k after : SessionKnown) (op : Operation) (reply : Reply) → KnewOnce opening k → (went : WentOn opening k after) → WasUpdate k after op reply
+  pub update_makes : (k after : SessionKnown) (op : Operation) (reply : Reply) → Knew opening k → Knew opening after → (went : WentOn opening k after) → WasUpdate k after op reply
       → noted_events k.session went.on.0 ≡ Call k.session Update op ∷ Back k.session (Updated reply) ∷ []
-  update_makes k after op reply once went update =
+  update_makes k after op reply a b went update =
       by (update_done k after op reply update.goes)
     where
       c : ℕ
@@ -314,16 +296,16 @@ module _ (opening : Setup) where
       since = went.on.0
 
       ends_after : EndsWithOwn after
-      ends_after = ends_later k after went
+      ends_after = b.ends
 
       own : own_steps c since ++ k.steps ≡ after.steps
-      own = own_since k after once went
+      own = own_since k after a b went
 
       config : k.progress.config ≡ m.config
-      config = let a = once.knows in (once.between.grown a.0 a.1 a.2 k a.3 a.4).config ∙ once.between.config
+      config = a.opened.0
 
-      stands : Stood m sessions places after.run went.once.between.progress
-      stands = stands_later k after went
+      stands : Stood m sessions places after.run b.led.0
+      stands = stands_later after b
 
       with_post : (newest newer older : StoreRun) (collect post : StoreStep) → since ≡ newest ++ collect ∷ (newer ++ post ∷ older) → collect.session ≡ c → post.session ≡ c → own_steps c newest ≡ []
           → PostNotes m sessions places c k.note op post older → CollectNotes m sessions places c reply collect newer → noted_events c since ≡ Call c Update op ∷ Back c (Updated reply) ∷ []
@@ -351,7 +333,7 @@ module _ (opening : Setup) where
               let posting : Stood m sessions places (t.post ∷ (t.older ++ k.run)) ending.progress =
               stood m sessions places (t.collect ∷ t.newer) (t.post ∷ (t.older ++ k.run)) ending.progress ending.notes ending.leads in
               let p : PostNotes m sessions places c k.note op t.post t.older =
-              post_notes m sessions places c k.note op t.post t.older k.run posting.progress posting.notes d.place d.slot d.took d.put d.there.0 posting.leads t.of.1 t.takes t.began (known_there k once) update.idle.0
+              post_notes m sessions places c k.note op t.post t.older k.run posting.progress posting.notes d.place d.slot d.took d.put d.there.0 posting.leads t.of.1 t.takes t.began a.note update.idle.0
               (d.mine ∙ ap (λ (z : Sizes). session z d.put.value.node d.slot) config) d.there.1 d.there.2 in
               let note : t.collect.note ≡ noted_with k.note op reply =
               last_has c after t.newest (t.newer ++ t.post ∷ (t.older ++ k.run)) t.collect ends_after went.same (λ e. none_some_list _ _ (sym e ∙ d.is)) t.none whole ∙ update.answered in

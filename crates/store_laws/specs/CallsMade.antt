@@ -1,7 +1,7 @@
 -- The calls that a session made, with their answers, and that one history explains the calls of all sessions.
 use Rattle.std.specs.Prelude.{◌≡◌, ◌⊎◌, ℕ, ◌==◌, filter, List, [], ◌∷◌, ◌++◌, None}
 use Rattle.ownlock.specs.Runs.{Runs}
-use Rattle.ownlock.specs.Seats.{Continues, own_steps}
+use Rattle.ownlock.specs.Seats.{Continues, EndsSince, own_steps}
 use Rattle.maps.specs.Maps.{AreBytes}
 use Rattle.loader.specs.CatalogueView.{CatalogueView}
 use Rattle.verifier.specs.declared.refusal.Mode.TheVariants.{Read, Update}
@@ -20,26 +20,28 @@ use Rattle.oplog.specs.History.{History}
 use Rattle.schedule.specs.Explains.{Explains}
 use Rattle.schedule.specs.Trace.{Event, Call, Back, ReadBack, Updated, Trace, Positions, caller}
 use Rattle.store_steps.specs.declared.values.Setup.{Setup}
-use Rattle.store_steps.specs.Shelving.{places_of, sessions_of, store_rules}
+use Rattle.store_steps.specs.Shelving.{places_of, sessions_of, store_opening, store_rules}
 use Rattle.store_steps.specs.Pipelines.{Visits}
 use Rattle.store_steps.specs.Standing.{SessionKnown}
 use Rattle.store_steps.specs.Updating.{CollectsBy, Deeds, PostsBy, UpdatesBy}
 use Rattle.store_steps.specs.Whole.{LooksBy, ReadsBy}
-use Rattle.store_laws.specs.Behind.{Knows}
 use Rattle.store_laws.specs.Meanwhile.{Meanwhile, StoreState}
 use Rattle.store_laws.specs.RunEvents.{MaySayAll, Nothing, Sayings, StoreRun, events_in, opened_for, opening_of}
 
 -- ---- the calls of one session
 
--- at some moment between two atomic steps of a store that was opened with this, a session knew k
-pub record KnewOnce (opening : Setup) (k : SessionKnown) : Type 0 where
-  pub state : StoreState
-  pub between : Meanwhile opening state
-  pub knows : Knows state k
+-- What k knows of the run has exactly its own steps, and ends with the last of them, since the store was opened with this. `Store::open` says so of
+-- its sessions, which know no step, and each call keeps it.
+abbrev pub HasOwnRun : Setup → SessionKnown → Type 0
+HasOwnRun opening k = EndsSince (store_opening opening) k
 
--- the same session knew `after` once, and the run had gone on from what it knew before
+-- the run that the session knows has gone on, and has exactly its own steps still, and ends with the last of them
+abbrev pub GoneOn : (k after : SessionKnown) → Type 0
+GoneOn k after = Continues k.run after.run × ((opening : Setup) → HasOwnRun opening k → HasOwnRun opening after)
+
+-- the same session knows `after` then, and the run has gone on from what it knew before
 pub record WentOn (opening : Setup) (k after : SessionKnown) : Type 0 where
-  pub once : KnewOnce opening after
+  pub ends : HasOwnRun opening after
   pub same : after.session ≡ k.session
   pub on : Continues k.run after.run
 
@@ -76,7 +78,7 @@ pub record WasUpdate (k after : SessionKnown) (op : Operation) (reply : Reply) :
 -- knew after it. Write `Reads` for each read that got an answer: as one of the others, a read makes no event.
 pub data Calls (opening : Setup) : SessionKnown → Type 0 where
   -- none yet: the session knows no step of the run
-  NoCalls : (k : SessionKnown) → KnewOnce opening k → k.run ≡ [] → Calls opening k
+  NoCalls : (k : SessionKnown) → HasOwnRun opening k → k.run ≡ [] → Calls opening k
   -- and then a read with its answer
   Reads : (k after : SessionKnown) (call : ProgramCall) (answer : ReadAnswer) → Calls opening k → WentOn opening k after → WasRead k after call answer → Calls opening after
   -- and then an update with its answer
@@ -119,12 +121,16 @@ EachHasEvents says (Others k after calls went) = EachHasEvents says calls × Has
 -- a look that keeps its contract makes no events there: a scan, a get, several reads, a snapshot
 abbrev pub LooksMakeNoEvents : Type 0
 LooksMakeNoEvents =
-    (opening : Setup) (k after : SessionKnown) (point : ℕ) → KnewOnce opening k → KnewOnce opening after → after.session ≡ k.session → k.note.batch ≡ []
-    → LooksBy k after point → (on : Continues k.run after.run) → noted_events k.session on.0 ≡ []
+    (opening : Setup) (run : StoreRun) (l : Progress CatalogueView) (ns : List SessionNote) (k after : SessionKnown) (point : ℕ)
+    → Runs store_rules (store_opening opening) run l ns → Continues after.run run → HasOwnRun opening k → (went : WentOn opening k after) → k.note.batch ≡ []
+    → LooksBy k after point → noted_events k.session went.on.0 ≡ []
 
 -- A session of a pipeline may look at its desk for nothing before it posts. That makes no events: list it as one of the others, and then the update.
 abbrev pub VisitsMakeNoEvents : Type 0
-VisitsMakeNoEvents = (opening : Setup) (k after : SessionKnown) → KnewOnce opening k → (went : WentOn opening k after) → Visits k after → noted_events k.session went.on.0 ≡ []
+VisitsMakeNoEvents =
+    (opening : Setup) (run : StoreRun) (l : Progress CatalogueView) (ns : List SessionNote) (k after : SessionKnown)
+    → Runs store_rules (store_opening opening) run l ns → Continues after.run run → HasOwnRun opening k → (went : WentOn opening k after) → Visits k after
+    → noted_events k.session went.on.0 ≡ []
 
 -- ---- one history explains the calls of all sessions
 

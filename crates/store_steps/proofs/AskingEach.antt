@@ -198,9 +198,6 @@ module _ (shared : Shared) (old new : List Member) (calls : List Question) (batc
     pub first_waits : (a : K) (kept : RepliesView) → HasAnswered (claims_of w).after a batch kept → (o : Pending) × StillWaits a o
     first_waits a kept e = ((claims_of w).posted.request, still_waits (claims_of w).after a (claims_of w).posted.request batch kept (claims_of w).asked (claims_of w).turned (asks w.l (claims_of w).asked (asked_op w.q) (alone_then w.k w.l w.looked w.alone) (claims_of w).posted) e)
 
-    pub first_session : (claims_of w).after.session ≡ w.k.session
-    first_session = (claims_of w).turned.back.session ∙ ((claims_of w).posted.back.session ∙ w.looked.session)
-
 -- nothing has changed
 pub still_gives : (shared : Shared) (old new : List Member) (b c : BatchView) (kept now : RepliesView) → new ≡ old → c ≡ b → now ≡ kept → MayGive shared old b kept → MayGive shared new c now
 still_gives shared old new b c kept now members batch replies may =

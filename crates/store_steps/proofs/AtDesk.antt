@@ -1,6 +1,6 @@
 -- What a session finds at its desk, and that its calls are steps.
 use Rattle.std.proofs.Common.{◌≡◌, ℕ, suc, ◌+◌, ◌<◌, ◌^◌, [], length, sym, refl, ap, ◌∙◌, subst, arith, ⊎_elim, Some, None, slice_get, if◌then◌else◌}
-use mathlib.Core.Bool.{Bool, true, false}
+use mathlib.Core.Bool.{true, false}
 use Rattle.std.proofs.lemmas.Bool.{cases_lt}
 use Rattle.std.proofs.lemmas.List.{length-map}
 use Rattle.std.specs.Option.{IsSome, option_and_then}
@@ -11,7 +11,6 @@ use Rattle.combiner.specs.Desks.{DeskView, BatchView, IsBatchOf, IsAnswered, rep
 use Rattle.combiner.specs.declared.slots.Slot.{Slot}
 use Rattle.combiner.specs.declared.slots.Stage.{Stage}
 use Rattle.combiner.specs.declared.slots.Stage.TheVariants.{Empty, Posted, Claimed, Answered}
-use Rattle.combiner.specs.declared.slots.DeskRefused.TheVariants.{NothingPosted, CombinerAtWork}
 use Rattle.replica.specs.StoreMeaning.{store_meaning}
 use Rattle.replica.specs.Views.{RepliesView}
 use Rattle.combiner.specs.declared.slots.Reply.{Reply}
@@ -80,21 +79,6 @@ countable slot k x o i asked a e =
     let mine = own slot k x i in
     let same = ap (λ (z : Slot). z.count) (at_one x.slots slot a mine.found (at_of x.slots slot a e) mine.at) in let few = asked.few in let count = mine.count in
     subst (λ n. suc n < 2 ^ 64) (sym (same ∙ count)) few
-
-pub is_free : (x : DeskView) → claim_refusal x ≡ None → has_combiner x ≡ false
-is_free x e = by (has_combiner x) e
-  where
-    by : (b : Bool) → (if b then Some CombinerAtWork else if has_request x then None else Some NothingPosted) ≡ None → b ≡ false
-    by false e = refl
-    by true e = absurd (some_none CombinerAtWork (Some CombinerAtWork) refl e)
-
-pub has_one : (x : DeskView) → claim_refusal x ≡ None → has_request x ≡ true
-has_one x e = by (has_combiner x) (has_request x) e
-  where
-    by : (b r : Bool) → (if b then Some CombinerAtWork else if r then None else Some NothingPosted) ≡ None → r ≡ true
-    by b true e = refl
-    by false false e = absurd (some_none NothingPosted (Some NothingPosted) refl e)
-    by true false e = absurd (some_none CombinerAtWork (Some CombinerAtWork) refl e)
 
 pub claim_turn : (slot : ℕ) (x x2 y : DeskView) (batch : BatchView) (t : Turn) → x2 ≡ x → collected slot x ≡ None → IsClaim x2 y batch t → IsTurn slot x y batch t
 claim_turn slot x x2 y batch (Collects reply) same none c = absurd c

@@ -15,10 +15,12 @@ use Rattle.store_steps.specs.declared.deeds.Deed.{Deed}
 use Rattle.store_steps.specs.declared.deeds.Deed.TheVariants.{Busy, Went, Collected}
 use Rattle.store_steps.specs.declared.deeds.Stage.{Stage}
 use Rattle.store_steps.specs.declared.deeds.Stage.TheVariants.{Asked, Claimed}
+use Rattle.store_steps.specs.declared.desks.Turn.{Turn}
 use Rattle.store_steps.specs.declared.desks.Turn.TheVariants.{Combines, Waits}
 use Rattle.store_steps.specs.declared.steps.Caller.{Caller}
+use Rattle.store_steps.specs.AtOnce.{FoundNoAnswer, PostsAndTurns}
 use Rattle.store_steps.specs.Combining.{HasCombined}
-use Rattle.store_steps.specs.Polling.{BeginsBy, DeedsGo, HasBegun}
+use Rattle.store_steps.specs.Polling.{BeginsBy, BeginsInOneHold, DeedsGo, HasBegun}
 use Rattle.store_steps.specs.Requests.{HasPosted, HasTurned}
 use Rattle.store_steps.specs.Stages.{HasDone, HasGone, IsAsking, IsOnItsWay}
 use Rattle.store_steps.specs.Standing.{SessionKnown, StoreSeat}
@@ -60,6 +62,11 @@ deeds_after k m after Went first d = deeds_on k m after first d
 deeds_after k m after (Collected reply) first d = (d.0, deeds_on k m d.0 first d.1, d.2)
 
 -- ---- behind a post
+
+pub begun_held : (old new : S) (caller : Caller) (i : IsIdle old caller) (op : Operation) (b : BatchView) (turn : Turn) → PostsAndTurns old new i.known op b turn → FoundNoAnswer turn → BeginsInOneHold (known_of (session_view old)) (known_of (session_view new)) op
+begun_held old new caller i op b turn p none =
+    goes_seen (λ x y. BeginsInOneHold x y op) old new (session_view old) i.known p.after i.is i.free.held refl p.is p.turned.back.held
+    (record { asked = p.asked; posts = p.posts; again = p.again; batch = b; turn = turn; turns = p.turns; fresh = none })
 
 module _ (old new : S) (caller : Caller) (i : IsIdle old caller) (few : suc (length i.known.note.answered) < 2 ^ 64) (m after : K) (op : Operation) (p : HasPosted i.known m op) (posts : PostsBy i.known m op) (is : IsSession new after) (b : BatchView) (kept : RepliesView) where
   asking : IsAsking (seat_of old m) caller m p.request

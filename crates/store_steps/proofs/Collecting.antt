@@ -19,10 +19,10 @@ use Rattle.store_steps.specs.Asking.{AwaitsAnswer}
 use Rattle.store_steps.specs.AtDesk.{HasAsked, IsTurn}
 use Rattle.store_steps.specs.Knowing.{IsOn}
 use Rattle.store_steps.specs.Lending.{desk_of}
-use Rattle.store_steps.specs.Pipelines.{AnswerWaits, AscendFrom, Begins, CollectsAt, CollectsNext, HasDesk, HasHanded, HoldsAt, IsDesk, IsNext, IsTurnThere, KnownAt, MayTurnWith, SameSpots, SessionTurnsThere, TakesNext, WaitsAt, here_of, spot_of}
+use Rattle.store_steps.specs.Pipelines.{AnswerWaits, AscendFrom, Begins, CollectsAt, CollectsNext, HasDesk, HasHanded, HoldsAt, IsDesk, IsNext, IsTurnThere, KnownAt, MayTurnWith, SameSpots, SessionTurnsThere, WaitsAt, here_of, spot_of}
 use Rattle.store_steps.specs.Requests.{HasTurned}
 use Rattle.store_steps.specs.Updating.{TurnsBy}
-use Rattle.store_steps.specs.Visits.{PutsBack}
+use Rattle.store_steps.specs.Visits.{PutsBack, TakesNext}
 use Rattle.store_steps.specs.declared.values.Value.{Value}
 use Rattle.store_steps.specs.Standing.{IsFree, SessionKnown, StoreSeat}
 use Rattle.store_steps.proofs.Gathered.{collect_keeps, turn_collects}

@@ -1,7 +1,7 @@
 -- What a session has done on the shelf, step by step.
-use Rattle.ownlock.proofs.Export.{continues_on}
-use Rattle.ownlock.specs.Seats.{HasStepped}
-use Rattle.std.proofs.Common.{◌≡◌, ℕ, List, [], ◌∷◌, ◌++◌, map, refl, ap, ◌∙◌, Some}
+use Rattle.ownlock.proofs.Export.{continues_on, since_stepped}
+use Rattle.ownlock.specs.Seats.{EndsSince, HasStepped}
+use Rattle.std.proofs.Common.{◌≡◌, ℕ, List, [], ◌∷◌, ◌++◌, map, refl, sym, ap, ◌∙◌, subst, Some}
 use Rattle.std.proofs.lemmas.Option.{none-some, same_Some}
 use Rattle.ownlock.specs.declared.known.Known.{Known}
 use Rattle.ownlock.specs.declared.known.ShelfStep.{ShelfStep}
@@ -63,12 +63,12 @@ nothing_on (PutsBack p x steps a) b = PutsBack p x _ (nothing_on a b)
 
 module _ {P N : Type 0} where
   -- no step
-  pub did_none : (k t : Known P N Value) → t.steps ≡ k.steps → t.run ≡ k.run → Did k t []
-  did_none k t e f = record { since = []; all = e; are = refl; goes_on = ([], f) }
+  pub did_none : (k t : Known P N Value) → t ≡ k → Did k t []
+  did_none k t e = record { since = []; all = ap (λ z. z.steps) e; are = refl; goes_on = ([], ap (λ z. z.run) e); ends = λ opened so. subst (EndsSince opened) (sym e) so }
 
   -- one step
   pub did_one : (k t : Known P N Value) (step : ShelfStep Value) (seen : ShelfStep Part) → HasStepped k step t → of_part step ≡ seen → Did k t (seen ∷ [])
-  did_one k t step seen e is = record { since = step ∷ []; all = e.0; are = ap (λ z. z ∷ []) is; goes_on = e.1 }
+  did_one k t step seen e is = record { since = step ∷ []; all = e.0; are = ap (λ z. z ∷ []) is; goes_on = e.1; ends = λ opened so. since_stepped opened t step k.steps e.0 e.2 }
 
   -- some steps, and then others
   pub did_then : (k t f : Known P N Value) (xs ys : List (ShelfStep Part)) → Did k t xs → Did t f ys → Did k f (xs ++ ys)
@@ -77,6 +77,7 @@ module _ {P N : Type 0} where
     all = b.all ∙ (ap (λ z. and_then z b.since) a.all ∙ and_then_on k.steps a.since b.since);
     are = parts_on a.since b.since ∙ (λ i. a.are i ++ b.are i);
     goes_on = continues_on k.run t.run f.run a.goes_on b.goes_on;
+    ends = λ opened so. b.ends opened (a.ends opened so);
   }
 
   -- a value is taken from its place and put back there, or another
@@ -86,4 +87,5 @@ module _ {P N : Type 0} where
     all = put.0 ∙ ap (λ z. Put q w ∷ z) took.0;
     are = λ i. Took (at i) (is i) ∷ Put (there i) (becomes i) ∷ [];
     goes_on = continues_on k.run t.run f.run took.1 put.1;
+    ends = λ opened so. since_stepped opened f (Put q w) t.steps put.0 put.2;
   }

@@ -18,10 +18,10 @@ use Rattle.store_steps.proofs.Played.{all, is_next, rest_of, state_in}
 abbrev L : Type 0
 L = Progress CatalogueView
 
-plus_none : (t : ℕ) → t + 0 ≡ t
+pub plus_none : (t : ℕ) → t + 0 ≡ t
 plus_none t = omega arith
 
-no_more : (b : ℕ) → b - b ≡ 0
+pub no_more : (b : ℕ) → b - b ≡ 0
 no_more b = omega arith
 
 -- ---- a hand that has what the replica lacks

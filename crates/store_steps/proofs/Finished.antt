@@ -23,7 +23,7 @@ use Rattle.store_steps.specs.Shelving.{view_of, IsSized, session_rules, session_
 use Rattle.store_steps.specs.Standing.{SessionKnown, Stands, Agrees, HoldsReplica, GoesOn, HasRaised, KeepsOutcomesOf, HasReached}
 use Rattle.store_steps.proofs.StoreLaws.{session_laws, session_notes, store_laws}
 use Rattle.store_steps.proofs.Parts.{replica_put, replica_seen, replica_sizes}
-use Rattle.store_steps.proofs.Taken.{TookReplica, TookLog, own_on}
+use Rattle.store_steps.proofs.Taken.{TookLog, own_on}
 use Rattle.store_steps.proofs.Followed.{HasAll}
 use Rattle.store_steps.proofs.Played.{all_agrees}
 
@@ -115,9 +115,6 @@ pub reply_kept : (a : K) (r : Record) (j i t : ℕ) (old new : RepliesView) → 
 reply_kept a r j i t old new at low is some kept =
     let one = kept j i r some low at is in
     (one.0, one.1, ap (λ e. option_map (λ z. z.reply) e) one.2.takes ∙ ap (λ (o : Outcome). Some o.reply) (sym one.2.outcome))
-
-pub is_catalogue : (p : ℕ) (k t a : K) (w : Value) (c : CatalogueView) → TookReplica p k t w → GoesOn t a → k.progress.catalogue ≡ c → a.progress.catalogue ≡ c
-is_catalogue p k t a w c b g is = sym g.extends.catalogue ∙ (sym b.extends.catalogue ∙ is)
 
 module _ (k t : K) (m : NodeReplica) (x : Value) (b : TookLog k t m x) where
   pub log_catalogue : (c : CatalogueView) → k.progress.catalogue ≡ c → t.progress.catalogue ≡ c

@@ -8,7 +8,7 @@ use Rattle.combiner.specs.declared.slots.DeskRefused.TheVariants.{CombinerAtWork
 use Rattle.std.specs.Prelude.{is_some}
 use Rattle.std.specs.List.{list_any}
 use Rattle.std.specs.Option.{option_and_then, option_map}
-use Rattle.atomic_table.proofs.Lists.{at_set, set_else, set_here}
+use Rattle.atomic_table.proofs.Lists.{set_else, set_here}
 use Rattle.ownlock.specs.Seats.{At}
 use Rattle.machine.specs.declared.running.Outcome.{Outcome}
 use Rattle.oplog.specs.History.{History}
@@ -228,20 +228,6 @@ collect_keeps s x y f g r q e own apart a =
     let away : a.0 ≢ s = λ same. apart (own ∙ (ap (λ n. first_author x + n) (sym same) ∙ sym a.3)) in
     let new = slot_with Empty (counted r was.0.count) in
     (a.0, a.1, subst (λ (z : DeskView). At a.0 (slot_with (Answered q) a.1) z.slots) (sym was.3) (set_else x.slots s a.0 new away ∙ a.2), a.3 ∙ sym (ap (λ n. n + a.0) (ap first_author was.3 ∙ ap (λ n. x.node * n) (set_long x.slots s new))))
-
-pub collect_keeps_author : (s : ℕ) (x y : DeskView) (r : Reply) → collected s x ≡ Some (record { reply = r; desk = y }) → first_author y ≡ first_author x
-collect_keeps_author s x y r e = let was = collected_is s r x y e in ap first_author was.3 ∙ ap (λ n. x.node * n) (set_long x.slots s (slot_with Empty (counted r was.0.count)))
-
--- what a collect leaves to others was there before it
-pub collect_leaves : (s : ℕ) (x y : DeskView) (g : K) (r q : Reply) → collected s x ≡ Some (record { reply = r; desk = y }) → AnswerWaits y g q → AnswerWaits x g q
-collect_leaves s x y g r q e a =
-    let was = collected_is s r x y e in
-    let new = slot_with Empty (counted r was.0.count) in
-    let there : At a.0 (slot_with (Answered q) a.1) (set x.slots s new) = subst (λ (z : DeskView). At a.0 (slot_with (Answered q) a.1) z.slots) was.3 a.2 in
-    (a.0, a.1, ⊎_elim (λ same. absurd (not_empty (ap (λ (z : Slot). z.stage) same.1))) (λ other. other.1) (at_set x.slots s a.0 new (slot_with (Answered q) a.1) there), a.3 ∙ ap (λ n. n + a.0) (collect_keeps_author s x y r e))
-  where
-    not_empty : Empty ≡ Answered q → ⊥
-    not_empty same = subst IsEmpty same tt
 
 -- ---- a claim of what was posted just now
 

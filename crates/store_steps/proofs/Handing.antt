@@ -2,7 +2,8 @@
 use Rattle.std.proofs.Common.{◌≡◌, ℕ, ◌+◌, ◌<◌, zero, suc, List, [], ◌∷◌, map, sym, refl, ap, ◌∙◌, subst, true, Some, arith}
 use Rattle.ownlock.specs.Held.{held_place}
 use Rattle.ownlock.specs.Knowledge.{Acquired, MayHandOn, MayTake, Possible}
-use Rattle.ownlock.specs.Seats.{At, Continues, HasStepped, HoldsNone, IsSession, Run as RunOf, TookNext, place_of, without}
+use Rattle.ownlock.proofs.Export.{adds_on, stepped_by}
+use Rattle.ownlock.specs.Seats.{At, HasStepped, HoldsNone, StepsTo, IsSession, Run as RunOf, TookNext, place_of, without}
 use Rattle.ownlock.specs.declared.shelf.Held.{Held}
 use Rattle.loader.specs.CatalogueView.{CatalogueView}
 use Rattle.verifier.specs.declared.refusal.Mode.TheVariants.{Update}
@@ -86,16 +87,16 @@ module _ (s : StoreSeat) (here : Here) (h : Held Value) (k t : K) (d : HasDesk s
       may_put = (puts_posted here.caller k t (held_place h) h.value op taken x y is posts sessions one k.progress.catalogue refl allowed).may
 
       -- it is `asked` then
-      module _ (l : L) (ns : List SessionNote) (can : Possible store_rules t l ns) (run : RunOf L SessionNote Value) (on : Continues t.run run) where
+      module _ (l : L) (ns : List SessionNote) (can : Possible store_rules t l ns) (run : RunOf L SessionNote Value) (on : StepsTo t (Put (held_place h) (with_desk h.value y)) (desk_back PostedThere sessions t (held_place h) (with_desk h.value y) l run)) where
         abbrev pub asked : K
         asked = desk_back PostedThere sessions t (held_place h) (with_desk h.value y) l run
 
         pub has_posted_so : HasPosted k asked op
         has_posted_so =
-            has_posted here.caller k t (held_place h) h.value op taken x y is posts sessions one k.progress.catalogue refl allowed asked ((puts_posted here.caller k t (held_place h) h.value op taken x y is posts sessions one k.progress.catalogue refl allowed).back l ns can run on)
+            has_posted here.caller k t (held_place h) h.value op taken x y is posts sessions one k.progress.catalogue refl allowed asked ((puts_posted here.caller k t (held_place h) h.value op taken x y is posts sessions one k.progress.catalogue refl allowed).back l ns can run (adds_on t _ _ _ _ on))
 
         pub posts_so : PostsBy k asked op
-        posts_so = posts_by here.caller k t (held_place h) h.value taken x y is asked (refl, on) op posts
+        posts_so = posts_by here.caller k t (held_place h) h.value taken x y is asked (stepped_by t asked (Put (held_place h) (with_desk h.value y)) refl refl on) op posts
 
         pub free_so : IsFree here.caller asked
         free_so = let back = has_posted_so.back in free_by here.caller k asked back.session back.held back.extends d.free
@@ -132,15 +133,16 @@ module _ (s : StoreSeat) (here : Here) (h : Held Value) (k t : K) (d : HasDesk s
     pub turn_may : DeskMayBePut (deed_in sessions (with_desk h.value y)) sessions t (held_place h) (with_desk h.value y)
     turn_may = (turns_there here.caller k t (held_place h) h.value o (taken s here h k t d place) sessions one asked x y is batch turn had).may
 
-    module _ (l : L) (ns : List SessionNote) (can : Possible store_rules t l ns) (run : RunOf L SessionNote Value) (on : Continues t.run run) where
+    module _ (l : L) (ns : List SessionNote) (can : Possible store_rules t l ns) (run : RunOf L SessionNote Value)
+        (on : StepsTo t (Put (held_place h) (with_desk h.value y)) (desk_back (deed_in sessions (with_desk h.value y)) sessions t (held_place h) (with_desk h.value y) l run)) where
       abbrev pub turned : K
       turned = desk_back (deed_in sessions (with_desk h.value y)) sessions t (held_place h) (with_desk h.value y) l run
 
       pub has_turned_so : HasTurned k turned o batch turn
-      has_turned_so = (turns_there here.caller k t (held_place h) h.value o (taken s here h k t d place) sessions one asked x y is batch turn had).back l ns can run on
+      has_turned_so = (turns_there here.caller k t (held_place h) h.value o (taken s here h k t d place) sessions one asked x y is batch turn had).back l ns can run (adds_on t _ _ _ _ on)
 
       pub turns_so : TurnsBy k turned batch turn
-      turns_so = turns_by here.caller k t (held_place h) h.value (taken s here h k t d place) x y is turned (refl, on) batch turn had
+      turns_so = turns_by here.caller k t (held_place h) h.value (taken s here h k t d place) x y is turned (stepped_by t turned (Put (held_place h) (with_desk h.value y)) refl refl on) batch turn had
 
 -- the place of a desk that is held is one of the shelf
 pub held_there : (s : StoreSeat) (here : Here) (h : Held Value) (k t : K) → HasDesk s here h k t → IsDesk here h → held_place h < here.shared.shelf.now.places
@@ -171,12 +173,13 @@ module _ (s : StoreSeat) (here : Here) (h : Held Value) (k t : K) (d : HasDesk s
     pub give_may : DeskMayBePut RepliedThere sessions t (held_place h) (with_desk h.value y)
     give_may = gives.may
 
-    module _ (l : L) (ns : List SessionNote) (can : Possible store_rules t l ns) (run : RunOf L SessionNote Value) (on : Continues t.run run) where
+    module _ (l : L) (ns : List SessionNote) (can : Possible store_rules t l ns) (run : RunOf L SessionNote Value)
+        (on : StepsTo t (Put (held_place h) (with_desk h.value y)) (desk_back RepliedThere sessions t (held_place h) (with_desk h.value y) l run)) where
       abbrev pub given : K
       given = desk_back RepliedThere sessions t (held_place h) (with_desk h.value y) l run
 
       pub has_given : HasCombined k given
-      has_given = handed k t given (taken s here h k t d place).note (gives.back l ns can run on)
+      has_given = handed k t given (taken s here h k t d place).note (gives.back l ns can run (adds_on t _ _ _ _ on))
 
       pub gives_so : HandsOver here.caller.node k given batch kept
       gives_so =
@@ -187,7 +190,7 @@ module _ (s : StoreSeat) (here : Here) (h : Held Value) (k t : K) (d : HasDesk s
           (subst (λ (z : Sizes × ℕ). IsSessionOf z.0 x.node z.1) (λ j. (sym b.extends.config j, b.session j)) (here.caller.slot, at.within, at.own, at.near))
           (is_batch t batch kept ready_there here.caller.slot x at)
           (desk_node here.caller k t (held_place h) h.value b x is)
-          (did_at_desk here.caller k t (held_place h) h.value b x (replied (answered_batch kept batch) x) is given (ap (λ z. Put (held_place h) (with_desk h.value z) ∷ t.steps) becomes, on))
+          (did_at_desk here.caller k t (held_place h) h.value b x (replied (answered_batch kept batch) x) is given (subst (λ z. HasStepped t (Put (held_place h) (with_desk h.value z)) given) becomes (stepped_by t given (Put (held_place h) (with_desk h.value y)) refl refl on)))
 
       pub free_given : IsFree here.caller given
       free_given = free_by here.caller k given has_given.session has_given.held has_given.extends d.free
@@ -221,9 +224,10 @@ looked_back caller k t p v b free place x is f back q at put = record {
 }
 
 module _ (caller : Caller) (k t : K) (p : ℕ) (v : Value) (b : TookDesk caller k t p v) (free : IsFree caller k) (place : p ≡ desk_place k.progress.config caller.node) (x : DeskView) (is : desk_of v ≡ Some x) (sessions : List K) (one : sessions ≡ t ∷ [])
-    (l : L) (ns : List SessionNote) (can : Possible store_rules t l ns) (run : RunOf L SessionNote Value) (on : Continues t.run run) where
+    (l : L) (ns : List SessionNote) (can : Possible store_rules t l ns) (run : RunOf L SessionNote Value) where
   abbrev left_at : ℕ → K
   left_at q = record { session = t.session; progress = put_progress sessions (view_of v) l; note = put_note session_noting sessions (view_of v) t.note; held = without q t.held; steps = Put q v ∷ t.steps; run = run }
 
-  pub looked_put : (q : ℕ) → q ≡ p → HasLooked k (left_at q)
-  looked_put q at = subst (λ z. HasLooked k (left_at z)) (sym at) (looked_back caller k t p v b free place x is (left_at p) (back_same_desk caller k t p v b sessions one v refl l ns can run on) p refl (refl, on))
+  pub looked_put : (q : ℕ) → q ≡ p → StepsTo t (Put q v) (left_at q) → HasLooked k (left_at q)
+  looked_put q at = subst (λ z. StepsTo t (Put z v) (left_at z) → HasLooked k (left_at z)) (sym at)
+      (λ on. looked_back caller k t p v b free place x is (left_at p) (back_same_desk caller k t p v b sessions one v refl l ns can run (adds_on t _ _ _ _ on)) p refl (stepped_by t (left_at p) (Put p v) refl refl on))

@@ -14,10 +14,11 @@ use Rattle.store_steps.specs.Asking.{asked_op}
 use Rattle.store_steps.specs.AtDesk.{HasAsked}
 use Rattle.store_steps.specs.EachMember.{ClaimsAt}
 use Rattle.store_steps.specs.Holds.{CollectsInOneHold, GoesOnAndCollects, PostsInOneHold, UpdatesInTwoHolds, session_at, with_first}
-use Rattle.store_steps.specs.Pipelines.{CollectsAt, HasLooked, KnownAt, PostsAt, TakesNext}
+use Rattle.store_steps.specs.Pipelines.{CollectsAt, HasLooked, KnownAt, PostsAt}
 use Rattle.store_steps.specs.Standing.{SessionKnown}
 use Rattle.store_steps.specs.Updating.{CollectsBy, Deeds, PostsBy, TurnsBy}
 use Rattle.store_steps.specs.Views.{first_in}
+use Rattle.store_steps.specs.Visits.{TakesNext}
 use Rattle.store_steps.specs.Whole.{HandsOver}
 
 abbrev K : Type 0

@@ -1,26 +1,16 @@
 -- A look at a replica that has come up, and at a key that may be looked for.
-use Rattle.std.proofs.Common.{◌≡◌, ℕ, ◌≤◌, List, Option, Some, None, Bool, true, false, slice_get, option_map, refl, sym, ap, ◌∙◌, subst, arith}
-use Rattle.std.specs.Prelude.{nat_eq, if◌then◌else◌}
-use Rattle.std.proofs.lemmas.Bool.{eqb-true}
-use Rattle.std.proofs.lemmas.Option.{slice_get-map}
-use Rattle.maps.specs.declared.shapes.Shape.{Shape}
-use Rattle.maps.specs.Maps.{MapState, shapes_of}
-use Rattle.maps.specs.Shapes.{key_size, value_size}
-use Rattle.loader.specs.CatalogueView.{CatalogueView, sizes_for}
-use Rattle.loader.specs.StoreState.{StateSizes, StoreState, sizes_of}
+use Rattle.std.proofs.Common.{◌≡◌, ℕ, ◌≤◌, sym, ap, ◌∙◌, subst, arith}
+use Rattle.std.specs.Prelude.{if◌then◌else◌}
+use Rattle.loader.specs.CatalogueView.{CatalogueView}
+use Rattle.loader.specs.StoreState.{StoreState}
 use Rattle.oplog.specs.History.{state_after}
 use Rattle.replica.specs.StoreMeaning.{store_meaning}
 use Rattle.ownlock.specs.declared.known.ShelfStep.TheVariants.{Put}
 use Rattle.ownlock.specs.Seats.{HasStepped}
 use Rattle.node.specs.declared.following.NodeReplica.{NodeReplica}
-use Rattle.store_steps.specs.declared.getting.GetRefused.{GetRefused}
-use Rattle.store_steps.specs.declared.getting.GetRefused.TheVariants.{KeyLength, ValueLength}
-use Rattle.store_steps.specs.declared.scanning.Scan.{Scan}
 use Rattle.store_steps.specs.declared.values.Value.{Value}
-use Rattle.store_steps.specs.Getting.{FitsIn, get_refusal, length_fault}
 use Rattle.store_steps.specs.Lending.{with_replica}
 use Rattle.store_steps.specs.Ready.{HoldsReady}
-use Rattle.store_steps.specs.Scanning.{GivesIn, GivesThere}
 use Rattle.store_steps.specs.Sights.{HasSeen, HasSight, SightBy}
 use Rattle.store_steps.specs.Standing.{SessionKnown}
 use Rattle.store_steps.specs.Trying.{IsStill}
@@ -69,37 +59,3 @@ module _ (k m f : K) (s : IsStill k m) (P : CatalogueView → StoreState → Typ
   sights_since far r =
       let t = looks_since k m f s point far r.0 in
       (t.0, subst (λ (z : CatalogueView × NodeReplica). P z.0 z.1.replica.state) (λ i. (sym s.extends.catalogue i, sym t.1 i)) r.1)
-
--- ---- a key that may be looked for
-
-abbrev fault_by : (key room : Bool) → Option GetRefused
-fault_by key room = if key then (if room then None else Some ValueLength) else Some KeyLength
-
-fits_in : (c : CatalogueView) (map key room : ℕ) → get_refusal c map key room ≡ None → FitsIn c.shapes map key room
-fits_in c map key room e = by (slice_get c.shapes map) refl e
-  where
-    lengths : (shape : Shape) (a b : Bool) → nat_eq key (key_size shape) ≡ a → nat_eq room (value_size shape) ≡ b → fault_by a b ≡ None → (key ≡ key_size shape) × (room ≡ value_size shape)
-    lengths shape true true k r e = (eqb-true key (key_size shape) k, eqb-true room (value_size shape) r)
-    lengths shape true false k r e = absurd cc
-    lengths shape false b k r e = absurd cc
-
-    by : (o : Option Shape) → slice_get c.shapes map ≡ o → length_fault key room o ≡ None → FitsIn c.shapes map key room
-    by None is e = absurd cc
-    by (Some shape) is e = let l = lengths shape (nat_eq key (key_size shape)) (nat_eq room (value_size shape)) refl refl e in (shape, is, l.0, l.1)
-
--- in the maps of a state of these sizes
-pub fits_there : (c : CatalogueView) (map key room : ℕ) (state : StoreState) → sizes_of state ≡ sizes_for c → get_refusal c map key room ≡ None → FitsIn (shapes_of state.maps) map key room
-fits_there c map key room state same e = subst (λ z. FitsIn z map key room) (sym (ap (λ (z : StateSizes). z.shapes) same)) (fits_in c map key room e)
-
--- ---- a scan of the maps of a state of these sizes
-
-pub page_in : (c : CatalogueView) (state : StoreState) (map from key_room value_room : ℕ) (keys values : List ℕ) (s : Scan) → sizes_of state ≡ sizes_for c → GivesThere state.maps map from key_room value_room keys values s → GivesIn c state map from key_room value_room keys values s
-page_in c state map from key_room value_room keys values s same gives = (
-  gives.0,
-  record {
-    there = gives.1;
-    shape = ap (λ (z : StateSizes). slice_get z.shapes map) (sym same) ∙ (slice_get-map (λ (x : MapState). x.shape) state.maps map ∙ ap (option_map (λ (x : MapState). x.shape)) gives.1);
-    scans = gives.2;
-    page = gives.3;
-  },
-)

@@ -5,7 +5,8 @@ use lib.ListN.{get_elem?}
 use Rattle.loader.specs.CatalogueView.{CatalogueView}
 use Rattle.ownlock.specs.declared.known.ShelfStep.TheVariants.{Took, Put, Read}
 use Rattle.ownlock.specs.Rules.{leader}
-use Rattle.ownlock.specs.Seats.{At, Continues, HasStepped, having_read, tails_in, without, Run as RunOf}
+use Rattle.ownlock.proofs.Export.{stepped_by}
+use Rattle.ownlock.specs.Seats.{Adds, At, Continues, HasStepped, having_read, tails_in, without, Run as RunOf}
 use Rattle.ownlock.specs.Knowledge.{Possible}
 use Rattle.oplog.specs.Logs.{Log as LogView}
 use Rattle.replica.specs.StoreMeaning.{store_meaning}
@@ -83,7 +84,7 @@ log_found l ns (Replica n) a well g is = absurd (none-some g is)
 log_found l ns (Desk d) a well g is = absurd (none-some g is)
 
 -- the session has read the completed tail, which is that of the progress d, while it holds the log x
-module _ (k t : K) (n : NodeReplica) (x : Value) (b : TookLog k t n x) (d : L) (ns : List SessionNote) (can : Possible store_rules t d ns) (done : ℕ) (run : RunOf L SessionNote Value) (on : Continues t.run run) (q : ℕ) (at : q ≡ leader) where
+module _ (k t : K) (n : NodeReplica) (x : Value) (b : TookLog k t n x) (d : L) (ns : List SessionNote) (can : Possible store_rules t d ns) (done : ℕ) (run : RunOf L SessionNote Value) (on : Adds t (Read done) d t.note run) (q : ℕ) (at : q ≡ leader) where
   abbrev m : K
   m = having_read t d done run
 
@@ -103,7 +104,7 @@ module _ (k t : K) (n : NodeReplica) (x : Value) (b : TookLog k t n x) (d : L) (
     are = subst (λ z. AreStats stats z g n) told are;
     did = subst (λ z. Did k f (find_deeds g z)) (sym are.completed_is)
         (did_then k t f (Took 0 (ALog g) ∷ []) (Read done ∷ Put 0 (ALog g) ∷ []) (did_one k t (Took 0 x) (Took 0 (ALog g)) b.steps (ap (Took 0) (log_part x g is)))
-        (did_then t m f (Read done ∷ []) (Put 0 (ALog g) ∷ []) (did_one t m (Read done) (Read done) (refl, on) refl) (did_one m f (Put q x) (Put 0 (ALog g)) put (λ i. Put (at i) (log_part x g is i)))));
+        (did_then t m f (Read done ∷ []) (Put 0 (ALog g) ∷ []) (did_one t m (Read done) (Read done) (stepped_by t m (Read done) refl refl on) refl) (did_one m f (Put q x) (Put 0 (ALog g)) put (λ i. Put (at i) (log_part x g is i)))));
   }
 
 -- ---- the replica

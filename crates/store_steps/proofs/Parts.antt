@@ -1,7 +1,7 @@
 -- A value that has a part of one kind: how it is seen, and its sizes with another part.
 use Rattle.std.proofs.Common.{◌≡◌, true, false, [], sym, refl, ap, ◌∙◌, subst, Some}
 use Rattle.std.specs.Prelude.{IsSome}
-use Rattle.std.proofs.lemmas.Option.{none-some, same_Some}
+use Rattle.std.proofs.lemmas.Option.{none-some}
 use Rattle.loader.specs.StoreState.{StoreState}
 use Rattle.loader.specs.CatalogueView.{CatalogueView}
 use Rattle.oplog.specs.declared.configuration.Sizes.{Sizes}
@@ -79,8 +79,3 @@ pub desk_put : (v : Value) (x y : DeskView) → desk_of v ≡ Some x → view_of
 desk_put (Desk d) x y e = refl
 desk_put (Log g) x y e = absurd (none-some x e)
 desk_put (Replica n) x y e = absurd (none-some x e)
-
-pub desk_seen : (v : Value) (x : DeskView) → desk_of v ≡ Some x → view_of v ≡ TheDesk x
-desk_seen (Desk d) x e = ap TheDesk (same_Some d.value x e)
-desk_seen (Log g) x e = absurd (none-some x e)
-desk_seen (Replica n) x e = absurd (none-some x e)

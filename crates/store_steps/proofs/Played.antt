@@ -4,7 +4,8 @@ use Rattle.std.proofs.Math.Nat.{le-max_right}
 use Rattle.loader.specs.StoreState.{sizes_of}
 use Rattle.ownlock.specs.declared.known.ShelfStep.TheVariants.{Raised}
 use Rattle.ownlock.specs.Rules.{leader}
-use Rattle.ownlock.specs.Seats.{At, having_raised, Continues, Run as RunOf}
+use Rattle.ownlock.proofs.Export.{stepped_by}
+use Rattle.ownlock.specs.Seats.{Adds, At, having_raised, Run as RunOf}
 use Rattle.ownlock.specs.Knowledge.{Later, Possible}
 use Rattle.loader.specs.CatalogueView.{CatalogueView, longest_part, sizes_for}
 use Rattle.oplog.specs.Logs.{Log as LogView, HandView}
@@ -108,7 +109,7 @@ followed_all l g n m is f low e same =
 -- ---- what is told of the replay and the raise
 
 -- once the completed tail is raised to m
-pub has_raised : (k : K) (before : L) (n m : ℕ) (run : RunOf L SessionNote Value) → Continues k.run run → m ≡ n → Later store_rules k before → ((notes : List SessionNote) × Possible store_rules k (raised before m) notes) → HasRaised k (having_raised k (raised before m) m run) n
+pub has_raised : (k : K) (before : L) (n m : ℕ) (run : RunOf L SessionNote Value) → Adds k (Raised m) (raised before m) k.note run → m ≡ n → Later store_rules k before → ((notes : List SessionNote) × Possible store_rules k (raised before m) notes) → HasRaised k (having_raised k (raised before m) m run) n
 has_raised k before n m run on is first (notes, may) = record {
   goes = record { session = refl; held = refl; tails = refl; extends = may.0.0 };
   note = refl;
@@ -118,7 +119,7 @@ has_raised k before n m run on is first (notes, may) = record {
   before = before;
   was = first.0;
   is = ap (raised before) is;
-  did = did_one k _ (Raised m) (Raised n) (refl, on) (ap Raised is);
+  did = did_one k _ (Raised m) (Raised n) (stepped_by k (having_raised k (raised before m) m run) (Raised m) refl refl on) (ap Raised is);
 }
 
 pub raised_as : (k after : K) (n m : ℕ) → HasRaised k after n → n ≡ m → HasRaised k after m

@@ -22,8 +22,9 @@ use Rattle.store_steps.specs.Asking.{asked_op}
 use Rattle.store_steps.specs.AtOnce.{IsAlone, MayAsk}
 use Rattle.store_steps.specs.Knowing.{IsOn}
 use Rattle.store_steps.specs.Lending.{desk_of}
-use Rattle.store_steps.specs.Pipelines.{Asks, Begins, HasDesk, HasNoCombiner, HoldsAt, IsDesk, IsNext, IsPosted, IsTurnThere, KnownAt, MayAskAt, MayPostWith, PostsAt, SameSpots, SessionHands, TakesNext, here_of, spot_of}
+use Rattle.store_steps.specs.Pipelines.{Asks, Begins, HasDesk, HasNoCombiner, HoldsAt, IsDesk, IsNext, IsPosted, IsTurnThere, KnownAt, MayAskAt, MayPostWith, PostsAt, SameSpots, SessionHands, here_of, spot_of}
 use Rattle.store_steps.specs.Standing.{IsFree, SessionKnown, StoreSeat}
+use Rattle.store_steps.specs.Visits.{TakesNext}
 use Rattle.store_steps.proofs.Gathered.{post_asks, post_keeps, post_leaves_free, turn_claims}
 use Rattle.store_steps.proofs.Handing.{desk_is, taken}
 use Rattle.store_steps.proofs.Parts.{has_desk}

@@ -1,27 +1,19 @@
 -- A replica that is held and has come up: what may be told of it, and what the session is once it is back as it was.
 use Rattle.ownlock.specs.Seats.{HasStepped, Continues, Run as RunOf}
-use Rattle.std.proofs.Common.{◌≡◌, ℕ, ◌+◌, List, [], ◌∷◌, sym, refl, ap, ◌∙◌, subst, arith, Option, Some, None, slice_get, true, false, Bool}
-use Rattle.std.specs.Prelude.{IsSome, IfSome, ◌<◌, nat_lt, if◌then◌else◌}
-use Rattle.std.proofs.lemmas.Bool.{ltb-true}
-use Rattle.std.proofs.lemmas.Option.{same_Some, slice_get_within}
-use Rattle.maps.specs.declared.shapes.Shape.{Shape}
-use Rattle.maps.specs.Maps.{shapes_of}
-use Rattle.maps.specs.Shapes.{entry_count}
-use Rattle.loader.specs.CatalogueView.{CatalogueView, sizes_for}
-use Rattle.loader.specs.StoreState.{StateSizes, StoreState, sizes_of}
+use Rattle.std.proofs.Common.{◌≡◌, ℕ, ◌+◌, List, [], ◌∷◌, sym, refl, ap, ◌∙◌, subst, arith, Some}
+use Rattle.std.specs.Prelude.{IsSome, ◌<◌, if◌then◌else◌}
+use Rattle.std.proofs.lemmas.Option.{same_Some}
+use Rattle.loader.specs.CatalogueView.{CatalogueView}
 use Rattle.ownlock.specs.declared.known.ShelfStep.TheVariants.{Put}
 use Rattle.ownlock.specs.Knowledge.{Possible}
 use Rattle.accounts.specs.declared.sessions.Progress.{Progress}
 use Rattle.accounts.specs.declared.sessions.SessionNote.{SessionNote}
 use Rattle.accounts.specs.Accounts.{Extends}
 use Rattle.node.specs.declared.following.NodeReplica.{NodeReplica}
-use Rattle.store_steps.specs.declared.scanning.ScanRefused.{ScanRefused}
-use Rattle.store_steps.specs.declared.scanning.ScanRefused.TheVariants.{UnknownPlace}
 use Rattle.store_steps.specs.declared.values.Value.{Value}
 use Rattle.store_steps.specs.declared.values.Value.TheVariants.{Log, Replica, Desk}
 use Rattle.store_steps.specs.Lending.{replica_of, with_replica}
 use Rattle.store_steps.specs.Ready.{HoldsReady}
-use Rattle.store_steps.specs.Scanning.{IsPlaceIn, place_fault, scan_refusal}
 use Rattle.store_steps.specs.Sights.{HasSeen}
 use Rattle.store_steps.specs.Shelving.{store_rules}
 use Rattle.store_steps.specs.Standing.{Agrees, SessionKnown}
@@ -59,15 +51,8 @@ module _ (k a : K) (p : ℕ) (v : Value) (h : HoldsReady k a p v) where
   here : replica_of v ≡ Some h.node
   here = ap replica_of h.is ∙ has_it h.value h.node h.holds.replica
 
-  pub some_replica : IsSome (replica_of v)
-  some_replica = subst (λ o. IsSome o) (sym here) refl
-
   pub node_is : (n : NodeReplica) → replica_of v ≡ Some n → n ≡ h.node
   node_is n is = same_Some n h.node (sym is ∙ here)
-
-  -- the replica's sizes are those of the catalogue
-  pub sized_for : (c : CatalogueView) → k.progress.catalogue ≡ c → (n : NodeReplica) → n ≡ h.node → sizes_of n.replica.state ≡ sizes_for c
-  sized_for c same n is = ap (λ (z : NodeReplica). sizes_of z.replica.state) is ∙ (h.agrees.1.0 ∙ ap sizes_for (sym all_along.catalogue ∙ same))
 
   -- lent, and as it was
   pub lent_back : (n m : NodeReplica) → replica_of v ≡ Some n → m ≡ n → with_replica v m ≡ with_replica h.value h.node
@@ -111,23 +96,3 @@ module _ (k a : K) (p : ℕ) (v : Value) (h : HoldsReady k a p v) where
 
     pub agrees_now : Agrees f.progress h.node
     agrees_now = agrees_on a.progress f.progress h.node b.extends h.within h.agrees
-
--- ---- a scan that is not refused
-
-abbrev fault_by : Bool → Option ScanRefused
-fault_by b = if b then None else Some UnknownPlace
-
-pub place_in : (c : CatalogueView) (map from : ℕ) → scan_refusal c map from ≡ None → IsPlaceIn c.shapes map from
-place_in c map from e = by (slice_get c.shapes map) refl e
-  where
-    low : (shape : Shape) (b : Bool) → nat_lt from (entry_count shape) ≡ b → fault_by b ≡ None → from < entry_count shape
-    low shape true is e = ltb-true from (entry_count shape) is
-    low shape false is e = absurd cc
-
-    by : (o : Option Shape) → slice_get c.shapes map ≡ o → place_fault from o ≡ None → IsPlaceIn c.shapes map from
-    by None is e = absurd cc
-    by (Some shape) is e = (slice_get_within c.shapes map shape is, subst (λ o. IfSome o (λ s. from < entry_count s)) (sym is) (low shape (nat_lt from (entry_count shape)) refl e))
-
--- in the maps of a state of these sizes
-pub place_there : (c : CatalogueView) (map from : ℕ) (state : StoreState) → sizes_of state ≡ sizes_for c → scan_refusal c map from ≡ None → IsPlaceIn (shapes_of state.maps) map from
-place_there c map from state same e = subst (λ z. IsPlaceIn z map from) (sym (ap (λ (z : StateSizes). z.shapes) same)) (place_in c map from e)

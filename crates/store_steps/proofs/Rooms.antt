@@ -7,7 +7,6 @@ use Rattle.loader.specs.CatalogueView.{CatalogueView, longest_part, sizes_for}
 use Rattle.oplog.specs.Logs.{Log as LogView, tail_of, left_of, room_in}
 use Rattle.oplog.specs.declared.configuration.TheConstants.{ENDLESS}
 use Rattle.replica.specs.StoreMeaning.{store_meaning}
-use Rattle.accounts.specs.declared.sessions.Progress.{Progress}
 use Rattle.accounts.specs.Accounts.{IsWellFormed}
 use Rattle.accounts.specs.Agreement.{LogAgrees}
 use Rattle.accounts.proofs.Export.{state_on}
@@ -22,9 +21,6 @@ use Rattle.store_steps.proofs.Places.{long_drop}
 use Rattle.store_steps.proofs.Followed.{all_follows, follows_on, others}
 use Rattle.store_steps.proofs.Played.{followed_all}
 use Rattle.store_steps.proofs.Exchanged.{again, none_owed, nothing, some_owed}
-
-abbrev L : Type 0
-L = Progress CatalogueView
 
 abbrev K : Type 0
 K = SessionKnown

@@ -103,7 +103,7 @@ module _ (k : K) (g : LogView) (n u : NodeReplica) (is : IsLogOf k.progress g) (
     room = HadRoom enough;
     goes = λ b d. rebase_step k.progress.catalogue k.progress g n u (Held b) d behind stays;
     is = refl;
-    did = did_none k k refl refl;
+    did = did_none k k refl;
   }
 
   abbrev c : CatalogueView
@@ -344,7 +344,7 @@ follows_none k n a stands = record {
   up = Stayed;
   goes = λ d. subst (λ q. Goes k.progress.catalogue (sees k.progress (log_from k.progress n) n Absent d) (cond q (Rebases ∷ []) [] ++ []) (sees k.progress (log_from k.progress n) n Absent d)) (sym (never_below n k.progress))
       (Ends (sees k.progress (log_from k.progress n) n Absent d));
-  did = did_none k k refl refl;
+  did = did_none k k refl;
   stays = λ same. refl;
 }
 

@@ -4,7 +4,8 @@ use Rattle.std.specs.Prelude.{nat_le, nat_lt}
 use Rattle.std.proofs.lemmas.Bool.{and_from, and_parts, le-leb, leb-true}
 use Rattle.ownlock.specs.declared.known.ShelfStep.{ShelfStep}
 use Rattle.ownlock.specs.declared.known.ShelfStep.TheVariants.{Put, Read, Took}
-use Rattle.ownlock.specs.Seats.{having_read, tails_in, Continues, HasStepped, Run as RunOf}
+use Rattle.ownlock.proofs.Export.{stepped_by}
+use Rattle.ownlock.specs.Seats.{Adds, having_read, tails_in, HasStepped, Run as RunOf}
 use Rattle.oplog.specs.declared.configuration.Sizes.{Sizes}
 use Rattle.oplog.specs.Sessions.{IsSessionOf}
 use Rattle.ownlock.specs.Knowledge.{Possible}
@@ -56,7 +57,7 @@ still_self k none = record {
   below = tt;
   tries = [];
   nothing = Nothing;
-  did = did_none k k refl refl;
+  did = did_none k k refl;
 }
 
 -- the replica of the session's node was put back as it was taken
@@ -76,7 +77,7 @@ still_back p q k t f w n b e is at put = record {
 }
 
 -- the session has read the completed tail alone, which is that of the progress l
-pub still_told : (k : K) (l : L) (n : ℕ) (ns : List SessionNote) (run : RunOf L SessionNote Value) → k.held ≡ [] → Possible store_rules k l ns → n ≡ l.completed → Continues k.run run → IsStill k (having_read k l n run)
+pub still_told : (k : K) (l : L) (n : ℕ) (ns : List SessionNote) (run : RunOf L SessionNote Value) → k.held ≡ [] → Possible store_rules k l ns → n ≡ l.completed → Adds k (Read n) l k.note run → IsStill k (having_read k l n run)
 still_told k l n ns run none can is on = record {
   session = refl;
   held = none;
@@ -88,7 +89,7 @@ still_told k l n ns run none can is on = record {
   below = omega (arith, is);
   tries = Read n ∷ [];
   nothing = Reads n [] Nothing;
-  did = did_one k (having_read k l n run) (Read n) (Read n) (refl, on) refl;
+  did = did_one k (having_read k l n run) (Read n) (Read n) (stepped_by k (having_read k l n run) (Read n) refl refl on) refl;
 }
 
 begins_on : (ms ns : List ℕ) (low high : ℕ) → low ≤ high → BeginsBelow ms low → BeginsBelow ns high → BeginsBelow (ms ++ ns) high

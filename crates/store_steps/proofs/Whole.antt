@@ -27,6 +27,7 @@ use Rattle.node.specs.declared.parts.NodeBatch.{NodeBatch}
 use Rattle.node.specs.declared.parts.NodeBatch.TheVariants.{Absent, Held, InLog}
 use Rattle.store_steps.specs.Standing.{Agrees, Follows, IsLogOf}
 use Rattle.store_steps.specs.Whole.{CatchUp, Stayed, Applied, Completed, AppliedAndCompleted, catch_up_steps, rebase_steps, sees}
+use Rattle.store_steps.proofs.Exchanged.{no_more, plus_none}
 use Rattle.store_steps.proofs.Places.{drop_all, long_drop}
 
 abbrev L : Type 0
@@ -37,9 +38,6 @@ L = Progress CatalogueView
 -- the log with this base, once the progress is this
 abbrev pub later : L → LogView → LogView
 later l g = record g { records = drop g.base l.history }
-
-no_more : (b : ℕ) → b - b ≡ 0
-no_more b = omega arith
 
 -- records are added, and the base stays
 stays : (c : CatalogueView) (g : LogView) (adds : History) (done : ℕ) → moved_on c adds g.base done g ≡ record g { records = g.records ++ adds; done = done }
@@ -119,9 +117,6 @@ pub rebase_step : (c : CatalogueView) (l : L) (g : LogView) (n m : NodeReplica) 
 rebase_step c l g n m b d behind above = if_may c Rebases (sees l g n b d) (sees l g m b d) (may_rebase g n) refl (λ e. ap (λ z. sees l g z b d) (behind e)) (λ e. ap (λ z. sees l g z b d) (above e))
 
 -- a replica whose hand gets no record, and applies what is there, stays as it is
-plus_none : (t : ℕ) → t + 0 ≡ t
-plus_none t = omega arith
-
 abbrev ran : CatalogueView → NodeReplica → History → NodeReplica
 ran c n rs = replayed c (record n { hand = record n.hand { begin = n.replica.tail; records = rs } })
 
@@ -182,10 +177,6 @@ append_step c l g h n m b kept rs d same may log own replies =
     let own_is : m ≡ copied (grown b.records g) n = own ∙ ap (λ z. copied z n) log_is in
     let replies_is : kept ≡ replies_for b.records g = replies ∙ ap (λ z. replies_for z g) (sym same) in
     one_step c Appends (sees l g n (Held b) d) _ (ap (λ z. may_append z g n) same ∙ may) (λ i. sees l (log_is i) (own_is i) (InLog (record { batch = b; replies = replies_is i })) d)
-
--- the replica applies what was copied
-has_any : History → Bool
-has_any rs = not (no_records rs)
 
 module _ (c : CatalogueView) (l : L) (g : LogView) (n m : NodeReplica) (b : BatchView) (old new : RepliesView) (d : DeskView) (begins : n.hand.begin ≡ n.replica.tail) (own : m ≡ replayed c n) (kept : new ≡ replies_after c n old) where
   abbrev seen : NodeReplica → RepliesView → Seen

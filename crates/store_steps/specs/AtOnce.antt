@@ -17,6 +17,7 @@ use Rattle.store_steps.specs.Knowing.{IsOn, Knows}
 use Rattle.store_steps.specs.Requests.{HasCompleted, HasPosted, HasTurned}
 use Rattle.store_steps.specs.Standing.{SessionKnown, StoreSeat, IsFree, Stands}
 use Rattle.store_steps.specs.Updating.{CompletesBy, PostsBy, TurnsBy}
+use Rattle.store_steps.specs.Visits.{TakesNext}
 
 -- the session waits for no answer, combines for nobody, and has had fewer answers than a word can count
 pub record IsAlone (k : SessionKnown) : Type 0 where
@@ -37,6 +38,8 @@ pub record PostsAndTurns (old new : StoreSeat) (k : SessionKnown) (op : Operatio
   pub is : IsSession new after
   pub turned : HasTurned asked after posted.request batch turn
   pub turns : TurnsBy asked after batch turn
+  -- it had its desk again by the very step after its post
+  pub again : TakesNext asked asked after
 
 -- it found no answer
 abbrev pub FoundNoAnswer : Turn → Type 0

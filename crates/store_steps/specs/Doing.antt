@@ -3,7 +3,7 @@ use Rattle.std.specs.Prelude.{◌≡◌, ℕ, List, [], ◌∷◌, map}
 use Rattle.ownlock.specs.declared.known.Known.{Known}
 use Rattle.ownlock.specs.declared.known.ShelfStep.{ShelfStep}
 use Rattle.ownlock.specs.declared.known.ShelfStep.TheVariants.{Took, Put, Read, Raised}
-use Rattle.ownlock.specs.Seats.{Continues}
+use Rattle.ownlock.specs.Seats.{Continues, EndsSince, Opened}
 use Rattle.oplog.specs.Logs.{Log as LogView}
 use Rattle.combiner.specs.Desks.{DeskView}
 use Rattle.node.specs.declared.following.NodeReplica.{NodeReplica}
@@ -39,6 +39,8 @@ pub record Did {P N : Type 0} (k after : Known P N Value) (steps : List (ShelfSt
   pub all : after.steps ≡ and_then k.steps since
   pub are : map of_part since ≡ steps
   pub goes_on : Continues k.run after.run
+  -- and what it knows has exactly its own steps, and ends with the last of them, if that was so before
+  pub ends : (opened : Opened P N) → EndsSince opened k → EndsSince opened after
 
 -- a part is taken from its place, and put back there as another
 abbrev pub takes_and_puts : ℕ → Part → Part → List (ShelfStep Part)

@@ -20,11 +20,11 @@ use Rattle.store_steps.specs.AtOnce.{IsAlone, MayHandOver, StillWaits}
 use Rattle.store_steps.specs.Combining.{HasAnswered, HasCombined}
 use Rattle.store_steps.specs.Holds.{CollectsInOneHold, PostsInOneHold, session_at}
 use Rattle.store_steps.specs.Lending.{desk_of}
-use Rattle.store_steps.specs.Pipelines.{AreCalls, AreMembers, Asks, CollectsAt, HasDesk, HasLooked, KnownAt, MayAskAt, PostsAt, SameSpots, TakesNext, WaitsAt, here_of}
+use Rattle.store_steps.specs.Pipelines.{AreCalls, AreMembers, Asks, CollectsAt, HasDesk, HasLooked, KnownAt, MayAskAt, PostsAt, SameSpots, WaitsAt, here_of}
 use Rattle.store_steps.specs.Requests.{HasCompleted, HasPosted, HasTurned}
 use Rattle.store_steps.specs.Standing.{SessionKnown, StoreSeat}
 use Rattle.store_steps.specs.Updating.{PostsBy, TurnsBy, UpdatesBy}
-use Rattle.store_steps.specs.Visits.{PutsBack}
+use Rattle.store_steps.specs.Visits.{PutsBack, TakesNext}
 use Rattle.store_steps.specs.Whole.{AnswersBy, HandsOver}
 
 -- some record is this author's

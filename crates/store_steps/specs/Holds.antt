@@ -8,10 +8,11 @@ use Rattle.store_steps.specs.declared.desks.Turn.TheVariants.{Combines as Claims
 use Rattle.store_steps.specs.declared.pipelines.Member.{Member}
 use Rattle.store_steps.specs.declared.steps.Question.{Question}
 use Rattle.store_steps.specs.Asking.{asked_op}
-use Rattle.store_steps.specs.Pipelines.{HasLooked, TakesNext}
+use Rattle.store_steps.specs.Pipelines.{HasLooked}
 use Rattle.store_steps.specs.Standing.{SessionKnown}
 use Rattle.store_steps.specs.Updating.{CollectsBy, Deeds, PostsBy, TurnsBy}
 use Rattle.store_steps.specs.Views.{first_in, nobody}
+use Rattle.store_steps.specs.Visits.{TakesNext}
 use Rattle.store_steps.specs.Whole.{AnswersBy, HandsOver}
 
 -- the session of the member with this number

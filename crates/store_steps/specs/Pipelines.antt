@@ -34,7 +34,7 @@ use Rattle.store_steps.specs.Requests.{HasPosted, HasTurned}
 use Rattle.store_steps.specs.Shelving.{store_rules}
 use Rattle.store_steps.specs.Standing.{IsFree, SessionKnown, Stands, StoreSeat}
 use Rattle.store_steps.specs.Updating.{AtItsDesk, PostsBy, TurnsBy}
-use Rattle.store_steps.specs.Visits.{PutsBack}
+use Rattle.store_steps.specs.Visits.{PutsBack, TakesNext}
 use Rattle.store_steps.specs.Whole.{HandsOver}
 
 -- the held value is of the desk of this node
@@ -62,15 +62,6 @@ pub record IsNext (s : StoreSeat) (here : Here) (m : SessionKnown) : Type 0 wher
 -- the operation is posted at the desk
 abbrev pub IsPosted : Here → Operation → (before after : Held Value) → Type 0
 IsPosted here op before after = (x : DeskView) → desk_of before.value ≡ Some x → posted here.caller.slot op x ≡ desk_of after.value
-
--- the session k took its desk by the very step behind all that the session `before` knows, and its next own step put it back
-pub record TakesNext (before k after : SessionKnown) : Type 0 where
-  pub place : ℕ
-  pub value : Value
-  pub now : SessionKnown
-  pub took : Acquired store_rules place k now value
-  pub next : TookNext before.run place value now
-  pub put : PutsBack now after
 
 -- the session t has put its desk back, and is f; the session m has it by the very next step
 pub record HasHanded (at done : StoreSeat) (h : Held Value) (m t f : SessionKnown) : Type 0 where

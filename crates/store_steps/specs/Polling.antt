@@ -9,11 +9,14 @@ use Rattle.accounts.specs.Accounts.{Extends, IsWellFormed}
 use Rattle.store_steps.specs.declared.deeds.Deed.{Deed}
 use Rattle.store_steps.specs.declared.deeds.Deed.TheVariants.{Busy, Went, Collected}
 use Rattle.store_steps.specs.declared.deeds.Stage.{Stage}
+use Rattle.store_steps.specs.declared.desks.Turn.{Turn}
 use Rattle.store_steps.specs.declared.steps.Caller.{Caller}
+use Rattle.store_steps.specs.AtOnce.{FoundNoAnswer}
 use Rattle.store_steps.specs.Stages.{IsPolled}
 use Rattle.store_steps.specs.Standing.{SessionKnown, StoreSeat}
-use Rattle.store_steps.specs.Updating.{CollectsBy, Deeds, PostsBy}
+use Rattle.store_steps.specs.Updating.{CollectsBy, Deeds, PostsBy, TurnsBy}
 use Rattle.store_steps.specs.Views.{SessionView, known_of, session_view}
+use Rattle.store_steps.specs.Visits.{TakesNext}
 
 -- it waits for the answer to this operation, which it posted when the history was no shorter than it had known; it may have claimed a batch since
 abbrev pub HasAskedFor : (old new : SessionView) → Operation → Type 0
@@ -23,6 +26,17 @@ HasAskedFor old new op =
 -- it posted this operation, and then did so many deeds
 abbrev pub BeginsBy : SessionKnown → SessionKnown → Operation → Type 0
 BeginsBy k after op = (m : SessionKnown) × PostsBy k m op × Deeds m after
+
+-- In one hold of its desk the session posted this operation and had a turn: the very step after its post took the desk again. At its turn it claimed
+-- the requests of its node as this batch, unless another session combined.
+pub record BeginsInOneHold (k after : SessionKnown) (op : Operation) : Type 0 where
+  pub asked : SessionKnown
+  pub posts : PostsBy k asked op
+  pub again : TakesNext asked asked after
+  pub batch : BatchView
+  pub turn : Turn
+  pub turns : TurnsBy asked after batch turn
+  pub fresh : FoundNoAnswer turn
 
 -- what the post of an idle session leaves, by which steps, and what may stand between its calls then
 pub record HasBegun (old new : StoreSeat) (caller : Caller) (op : Operation) (b : BatchView) (kept : RepliesView) (stage : Stage) : Type 0 where

@@ -1,7 +1,8 @@
--- A session that holds its node's desk: what it is, and what a turn there leaves.
+-- A session that holds its node's desk: what it is, what a turn there leaves, and who has taken the desk next.
 use Rattle.std.specs.Prelude.{◌≡◌, ℕ, [], ◌∷◌}
 use Rattle.ownlock.specs.declared.known.ShelfStep.TheVariants.{Took, Put}
-use Rattle.ownlock.specs.Seats.{HasStepped, IsSession}
+use Rattle.ownlock.specs.Knowledge.{Acquired}
+use Rattle.ownlock.specs.Seats.{HasStepped, IsSession, TookNext}
 use Rattle.combiner.specs.Desks.{BatchView, DeskView}
 use Rattle.accounts.specs.declared.sessions.Pending.{Pending}
 use Rattle.accounts.specs.Accounts.{Extends}
@@ -12,7 +13,7 @@ use Rattle.store_steps.specs.declared.steps.Caller.{Caller}
 use Rattle.store_steps.specs.declared.values.Value.{Value}
 use Rattle.store_steps.specs.AtDesk.{HasAsked, IsAt}
 use Rattle.store_steps.specs.Requests.{HasTurned}
-use Rattle.store_steps.specs.Shelving.{view_of}
+use Rattle.store_steps.specs.Shelving.{store_rules, view_of}
 use Rattle.store_steps.specs.Standing.{IsFree, SessionKnown, StoreSeat}
 use Rattle.store_steps.specs.Updating.{TurnsBy}
 
@@ -37,6 +38,15 @@ MayTurn s caller p v = (k t : SessionKnown) × (o : Pending) × IsSession s t ×
 -- the next step that the session takes itself puts a place back
 abbrev pub PutsBack : (t after : SessionKnown) → Type 0
 PutsBack t after = (p : ℕ) × (v : Value) × HasStepped t (Put p v) after
+
+-- the session k took its desk by the very step behind all that the session `before` knows, and its next own step put it back
+pub record TakesNext (before k after : SessionKnown) : Type 0 where
+  pub place : ℕ
+  pub value : Value
+  pub now : SessionKnown
+  pub took : Acquired store_rules place k now value
+  pub next : TookNext before.run place value now
+  pub put : PutsBack now after
 
 -- its session has had its turn since it took the desk, and has put the desk back, whichever request it waits for
 abbrev pub TurnsThere : (old new : StoreSeat) → Caller → (p : ℕ) → Value → BatchView → Turn → Type 0

@@ -6,9 +6,9 @@ ghost use Rattle.verifier.specs.declared.refusal.Mode.TheVariants.{Update};
 ghost use Rattle.replica.specs.StoreMeaning.{is_operation};
 ghost use Rattle.replica.specs.Views.{RepliesView};
 ghost use Rattle.store_steps.specs.Knowing.{IsOn, Knows};
-ghost use Rattle.store_steps.specs.Polling.{DeedsGo, HasBegun};
+ghost use Rattle.store_steps.specs.Polling.{BeginsInOneHold, DeedsGo, HasBegun};
 ghost use Rattle.store_steps.specs.Stages.{HasGone, IsPolled};
-ghost use Rattle.store_steps.specs.Views.{IsIdle};
+ghost use Rattle.store_steps.specs.Views.{IsIdle, known_of, session_view};
 ghost use Rattle.store_steps.specs.declared.deeds.Stage.TheVariants.{Ready};
 
 use crate::at_once::{try_hand_over_and_turn, try_post_and_turn};
@@ -38,6 +38,7 @@ pub fn try_begin(
     ensures same { seat.new.shelf ≡ seat.old.shelf }
     ensures stays { IfNone result ((seat.new ≡ seat.old) × (batch.new ≡ batch.old) × (stage.new ≡ stage.old)) }
     ensures begun { IfSome result (λ _. (kept : RepliesView) → HasBegun seat.old seat.new here.entry.caller op.now batch.new kept stage.new) }
+    ensures held { IfSome result (λ _. BeginsInOneHold (known_of (session_view seat.old)) (known_of (session_view seat.new)) op.now) }
 {
     match try_post_and_turn(here, seat, op, batch) {
         None => None,

@@ -1,5 +1,5 @@
 use Rattle.std.specs.Prelude.{IfSome, Option}
-use Rattle.engine.specs.Engine.{IfAnswered, PerformsRead}
+use Rattle.engine.specs.Engine.{AreOfSame, IfAnswered, PerformsRead}
 use Rattle.engine.specs.Reading.{TextsRead, read}
 use Rattle.engine.proofs.Known.{given_so}
 use Rattle.engine.proofs.Reports.{answered, performed}
@@ -27,7 +27,8 @@ returns-clause-told g c =
 
 pub returns-clause-noted : goal.returns-clause-noted
 returns-clause-noted g c =
-    let tells : Option TextsRead → Type 0 = λ t. g.C.Command.may_tell c.args.command.now t c.args.notes.now c.perform_kept.new.notes in
-    answered g.C.Made.Answering.answer (λ m. (t : Option TextsRead) × g.C.Command.may_make c.args.command.now t m) (g.W.Sink.contents c.args.writer.now) (g.W.Sink.contents c.perform_kept.new.writer)
-    (λ m. (t : Option TextsRead) × g.C.Command.may_make c.args.command.now t m × tells t) ((t : Option TextsRead) × tells t) (λ m so. (so.0, so.2))
-    c.perform_kept.result.status c.perform_kept.result.made c.perform_kept.ensures.ended c.perform_kept.ensures.noted
+    performed g.C.Made.Answering.answer
+    (AreOfSame (g.C.Command.may_make c.args.command.now) (g.C.Command.may_tell c.args.command.now) c.args.notes.now
+    c.perform_kept.new.notes)
+    (g.W.Sink.contents c.args.writer.now) (g.W.Sink.contents c.perform_kept.new.writer)
+    c.perform_kept.result.status c.perform_kept.result.made c.perform_kept.ensures.noted

@@ -1,4 +1,5 @@
 use Rattle.std.specs.Prelude.{IfOk, IfSome, Option}
+use Rattle.engine.specs.Engine.{AreOfSame}
 use Rattle.engine.specs.Reading.{TextsRead, read}
 use Rattle.engine.proofs.Known.{given_so}
 use Rattle.engine.proofs.Reports.{performs, so_of_back}
@@ -26,5 +27,8 @@ returns-clause-told g c =
 
 pub returns-clause-noted : goal.returns-clause-noted
 returns-clause-noted g c =
-    so_of_back (λ m. (t : Option TextsRead) × g.C.Command.may_make c.args.command.now t m × g.C.Command.may_tell c.args.command.now t c.args.notes.now c.prepare-made.new.notes)
-    c.hand_back.result.status c.hand_back.result.made c.prepare-made.result c.hand_back.ensures.handed c.prepare-made.ensures.noted
+    performs g.C.Made.Answering.answer
+    (AreOfSame (g.C.Command.may_make c.args.command.now) (g.C.Command.may_tell c.args.command.now) c.args.notes.now
+    c.prepare-made.new.notes)
+    (g.W.Sink.contents c.args.writer.now) (g.W.Sink.contents c.hand_back.new.writer)
+    c.hand_back.result.status c.hand_back.result.made c.prepare-made.result c.hand_back.ensures.written c.hand_back.ensures.handed c.prepare-made.ensures.noted

@@ -4,7 +4,7 @@ use Rattle.store.specs.Opening.{AreOf}
 use Rattle.store.specs.Sessions.{IsOf, StoreView}
 use Rattle.store_steps.specs.Shelving.{sessions_of}
 use Rattle.host_calls.specs.Leaving.{sessions_back}
-use Rattle.host_calls.proofs.Sessions.{at_of_all}
+use Rattle.store.proofs.Export.{at_of_all}
 use Rattle.host_calls.proofs.Gathered.{back_whole}
 use Rattle.host_calls.proofs.closing.end_store.Goals as goal
 

@@ -12,5 +12,6 @@ invariant-loop-place l = record {
   idle : All IsIdleSeat l.places.items;
   room : length l.sessions.items + length l.places.items ≤ vec_capacity l.sessions;
   sessions : l.sessions.items ++ sessions_back l.places.items ≡ sessions_back l.initial.places.items;
-  own : (store : StoreView) → All (IsSeatOf store) l.initial.places.items → All (IsOf store) l.sessions.items × All (IsSeatOf store) l.places.items;
+  own : (store : StoreView) → All (IsSeatOf store) l.initial.places.items
+      → All (IsOf store) l.sessions.items × All (IsSeatOf store) l.places.items;
 }

@@ -13,5 +13,6 @@ invariant-loop-session l = record {
   fresh : l.sessions.items ≡ fresh_of (arc_value l.store) (length l.sessions.items);
   room : length l.places.items ≡ length l.initial.sessions.items;
   few : length l.sessions.items ≤ length l.initial.sessions.items;
-  seats : (k : ℕ) → length l.sessions.items ≤ k → k < length l.initial.sessions.items → IsSeat (arc_value l.store) l.places.items k;
+  seats : (k : ℕ) → length l.sessions.items ≤ k → k < length l.initial.sessions.items
+      → IsSeat (arc_value l.store) l.places.items k;
 }

@@ -1,5 +1,5 @@
 use Rattle.store.specs.Sessions.{IsOf}
-use Rattle.host_calls.proofs.Sessions.{all_of_at}
+use Rattle.store.proofs.Export.{all_of_at}
 use Rattle.host_calls.specs.Openings.{state_in}
 use Rattle.host_calls.proofs.opening.open_store.Goals as goal
 

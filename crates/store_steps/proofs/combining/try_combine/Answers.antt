@@ -1,5 +1,5 @@
 use Rattle.ownlock.specs.Seats.{run_of}
-use Rattle.ownlock.proofs.Export.{adds_on, one_known}
+use Rattle.ownlock.proofs.Export.{adds_on, one_known, stepped_by}
 use Rattle.std.proofs.Common.{◌+◌, [], ◌∷◌, Some, sym, refl, ap, ◌∙◌, subst}
 use Rattle.accounts.specs.declared.sessions.SessionNote.{SessionNote}
 use Rattle.accounts.specs.Moves.{unplaced}
@@ -88,7 +88,7 @@ returns-clause-combined c k is =
         stands = f.stands;
       },
       answers_by c.args.here.caller.node k t.0 a.0 r.0 q y n v m old new b.extends (b.agrees n c.replica_mut-node.ensures.replica) b.stands first then a.2.goes.extends r.2.goes.extends r.2.agrees f.extends f.stands r.2.within w c.replica_mut-node.ensures.replica b.steps
-          c.in-Some.held.place c.in-Some.ensures.place (refl, adds_on r.0 _ _ _ _ p.3),
+          c.in-Some.held.place c.in-Some.ensures.place (stepped_by r.0 _ _ refl refl p.3),
     )
 
 -- ---- the replica is held
@@ -128,4 +128,4 @@ returns-in_default-try_append_and_copy-clause-stays c k is0 =
     let agrees = subst (Agrees t.0.progress) (sym e.1) (b.agrees c.replica_mut-node.result.now c.replica_mut-node.ensures.replica) in
     let p = c.put.ensures.put t.0 is in
     let f = back t.0 w b.holds c.try_append_and_copy.new.seat.sessions is n agrees (low_enough t.0 n agrees b.stands) c.in-Some.held.place held p.0 p.1.0 p.1.1 _ (adds_on t.0 _ _ _ _ p.3) in
-    (_, p.2, still_back (1 + c.args.here.caller.node) c.in-Some.held.place k t.0 _ w n b f (c.replica_mut-node.ensures.replica ∙ ap Some (sym e.1)) c.in-Some.ensures.place (refl, adds_on t.0 _ _ _ _ p.3))
+    (_, p.2, still_back (1 + c.args.here.caller.node) c.in-Some.held.place k t.0 _ w n b f (c.replica_mut-node.ensures.replica ∙ ap Some (sym e.1)) c.in-Some.ensures.place (stepped_by t.0 _ _ refl refl p.3))

@@ -1,4 +1,3 @@
-use Rattle.ownlock.proofs.Export.{adds_on}
 use Rattle.store_steps.specs.AtDesk.{IsReady}
 use Rattle.store_steps.specs.Knowing.{IsOn}
 use Rattle.store_steps.specs.Standing.{IsFree, Stands}
@@ -28,5 +27,5 @@ returns-clause-handed c k is =
     let i = known_as c.args.seat.now (λ z. IsFree c.args.here.caller z × IsReady z c.args.batch.now c.args.replies.now × IsOn c.args.here.shared z × Stands z) c.requires.ready k is in
     let t = c.in-Some.ensures.taken k is in
     let f = c.put.ensures.put t.0 t.1 in
-    let g = gives_there c.args.here.caller k t.0 _ _ c.args.batch.now c.args.replies.now t.2 i.1 i.3 c.reply.new.batch c.desk_mut.result.now c.reply.new.desk c.desk_mut.ensures.desk c.reply.ensures.answered c.reply.ensures.replied c.try_take_desk.new.seat t.1 f.0 f.1.0 f.1.1 _ (adds_on t.0 _ _ _ _ f.3) in
+    let g = gives_there c.args.here.caller k t.0 _ _ c.args.batch.now c.args.replies.now t.2 i.1 i.3 c.reply.new.batch c.desk_mut.result.now c.reply.new.desk c.desk_mut.ensures.desk c.reply.ensures.answered c.reply.ensures.replied c.try_take_desk.new.seat t.1 f.0 f.1.0 f.1.1 _ f.3 in
     (_, f.2, g.0, g.1)

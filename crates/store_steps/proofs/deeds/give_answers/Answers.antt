@@ -19,7 +19,7 @@ returns-in_default-clause-gone c =
     let e = c.in_default.ensures.stays in
     subst (λ z. HasGone DeedGoes c.args.seat.now c.try_hand_over.new.seat c.args.here.caller z c.args.replies.now c.args.stage.now Busy) (sym e.1)
     (subst (λ z. HasGone DeedGoes c.args.seat.now c.try_hand_over.new.seat c.args.here.caller c.args.batch.now c.args.replies.now z Busy) (sym c.requires.ready)
-    (stays_gone DeedGoes c.args.seat.now c.try_hand_over.new.seat c.args.here.caller c.args.batch.now c.args.replies.now v.0 v.1 v.2 e.0 Ready v (Tries [] Nothing (did_none v.0 v.0 refl refl))))
+    (stays_gone DeedGoes c.args.seat.now c.try_hand_over.new.seat c.args.here.caller c.args.batch.now c.args.replies.now v.0 v.1 v.2 e.0 Ready v (Tries [] Nothing (did_none v.0 v.0 refl))))
 
 pub returns-clause-gone : goal.returns-clause-gone
 returns-clause-gone c =

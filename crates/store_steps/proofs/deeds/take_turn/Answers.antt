@@ -18,7 +18,7 @@ pub returns-in-None-clause-gone : goal.returns-in-None-clause-gone
 returns-in-None-clause-gone c kept =
     let v = c.requires.polled in
     subst (λ z. HasGone DeedGoes c.args.seat.now c.try_turn.new.seat c.args.here.caller c.try_turn.new.batch kept z Busy) (sym c.requires.asked)
-    (stays_gone DeedGoes c.args.seat.now c.try_turn.new.seat c.args.here.caller c.try_turn.new.batch kept v.0 v.1 v.2 c.in-None.ensures.stays.0 Asked v (Tries [] Nothing (did_none v.0 v.0 refl refl)))
+    (stays_gone DeedGoes c.args.seat.now c.try_turn.new.seat c.args.here.caller c.try_turn.new.batch kept v.0 v.1 v.2 c.in-None.ensures.stays.0 Asked v (Tries [] Nothing (did_none v.0 v.0 refl)))
 
 pub returns-in-Some-Waits-clause-gone : goal.returns-in-Some-Waits-clause-gone
 returns-in-Some-Waits-clause-gone c kept =

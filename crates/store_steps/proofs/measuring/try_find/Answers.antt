@@ -1,4 +1,4 @@
-use Rattle.ownlock.proofs.Export.{adds_on}
+use Rattle.ownlock.proofs.Export.{adds_on, stepped_by}
 use Rattle.ownlock.specs.Seats.{having_read, run_of}
 use Rattle.std.proofs.Common.{refl}
 use Rattle.store_steps.specs.Knowing.{HasReplica}
@@ -25,7 +25,7 @@ put-requires-clause-may c =
     let b = took_log i.0 t.0 c.args.node.now x i.0.progress.catalogue i.2 t.1 in
     let d = c.done-completed.ensures.read t.0 t.2 in
     let m = having_read t.0 d.0 c.done-completed.result (run_of c.done-completed.new.seat.sessions) in
-    (m, d.3, may_put_same m c.in-Some.held.place x i.0.held (held_log i.0 t.0 c.args.node.now x b d.0 d.1.0 d.1.1 c.done-completed.result _ (adds_on t.0 _ _ _ _ d.4) c.in-Some.held.place c.in-Some.ensures.place) c.done-completed.new.seat.sessions d.3)
+    (m, d.3, may_put_same m c.in-Some.held.place x i.0.held (held_log i.0 t.0 c.args.node.now x b d.0 d.1.0 d.1.1 c.done-completed.result _ d.4 c.in-Some.held.place c.in-Some.ensures.place) c.done-completed.new.seat.sessions d.3)
 
 pub returns-clause-found : goal.returns-clause-found
 returns-clause-found c k is =
@@ -38,7 +38,7 @@ returns-clause-found c k is =
     let b = took_log k t.0 n x k.progress.catalogue has t.1 in
     let d = c.done-completed.ensures.read t.0 t.2 in
     let done = c.done-completed.result in
-    let on = adds_on t.0 _ _ _ _ d.4 in
+    let on = d.4 in
     let m = having_read t.0 d.0 done (run_of c.done-completed.new.seat.sessions) in
     let held = held_log k t.0 n x b d.0 d.1.0 d.1.1 done _ on q at in
     let p = c.put.ensures.put m d.3 in
@@ -46,5 +46,5 @@ returns-clause-found c k is =
       _,
       p.2,
       has_found k t.0 n x b d.0 d.1.0 d.1.1 done _ on q at c.log.result.now c.log.ensures.log c.stats_of-stats.result c.stats_of-stats.ensures d.2 _
-          (same_put_back m q x k.held held c.done-completed.new.seat.sessions d.3 p.0 p.1.0 p.1.1 _ on') (refl, on'),
+          (same_put_back m q x k.held held c.done-completed.new.seat.sessions d.3 p.0 p.1.0 p.1.1 _ on') (stepped_by m _ _ refl refl p.3),
     )

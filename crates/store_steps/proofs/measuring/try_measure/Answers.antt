@@ -1,4 +1,4 @@
-use Rattle.ownlock.proofs.Export.{adds_on, one_known}
+use Rattle.ownlock.proofs.Export.{adds_on, one_known, stepped_by}
 use Rattle.std.proofs.Common.{refl, subst, ap, [], ◌∙◌}
 use Rattle.store_steps.specs.Standing.{IsFree}
 use Rattle.store_steps.proofs.Measured.{has_measured, has_node, held_node, held_still, may_put_same, same_put_back, still_put}
@@ -56,7 +56,7 @@ returns-in_default-try_find-clause-stays c k is =
     let held = held_node k t.0 c.args.here.caller w free b n c.replica.ensures.replica q c.in-Some.ensures.place in
     let p = c.put.ensures.put t.0 there in
     let on = adds_on t.0 _ _ _ _ p.3 in
-    (_, p.2, still_put k t.0 c.args.here.caller w free b n c.replica.ensures.replica q c.in-Some.ensures.place _ (same_put_back t.0 q w [] held c.try_find.new.seat.sessions there p.0 p.1.0 p.1.1 _ on) (refl, on))
+    (_, p.2, still_put k t.0 c.args.here.caller w free b n c.replica.ensures.replica q c.in-Some.ensures.place _ (same_put_back t.0 q w [] held c.try_find.new.seat.sessions there p.0 p.1.0 p.1.1 _ on) (stepped_by t.0 _ _ refl refl p.3))
 
 -- ---- the log was found
 
@@ -84,4 +84,4 @@ returns-clause-told c k is =
     let held = held_still k t.0 c.args.here.caller w free b n c.replica.ensures.replica q c.in-Some.ensures.place stats f.0 f.2 in
     let p = c.put-2.ensures.put f.0 f.1 in
     let on = adds_on f.0 _ _ _ _ p.3 in
-    (_, p.2, has_measured k t.0 c.args.here.caller w free b n c.replica.ensures.replica q c.in-Some.ensures.place stats f.0 f.2 _ (same_put_back f.0 q w [] held c.try_find.new.seat.sessions f.1 p.0 p.1.0 p.1.1 _ on) (refl, on))
+    (_, p.2, has_measured k t.0 c.args.here.caller w free b n c.replica.ensures.replica q c.in-Some.ensures.place stats f.0 f.2 _ (same_put_back f.0 q w [] held c.try_find.new.seat.sessions f.1 p.0 p.1.0 p.1.1 _ on) (stepped_by f.0 _ _ refl refl p.3))

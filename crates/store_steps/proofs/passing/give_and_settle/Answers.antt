@@ -1,5 +1,4 @@
 use Rattle.std.proofs.Common.{◌∙◌, sym, ap, subst, Some}
-use Rattle.ownlock.proofs.Export.{adds_on}
 use Rattle.combiner.specs.Desks.{IsBatchOf, replied}
 use Rattle.store_steps.proofs.PutBack.{took_last}
 use Rattle.store_steps.proofs.Parts.{desk_put, has_desk}
@@ -41,7 +40,7 @@ returns-clause-kept c k t h ready stands =
     let s = c.settle.ensures.settled t h.is in
     let x = c.desk_mut.result.now in
     let y = c.reply.new.desk in
-    let on = adds_on t _ _ _ _ s.2.1 in
+    let on = s.2.1 in
     record {
       combined = _;
       has = has_given c.args.seat.now c.args.here c.args.held k t h c.requires.place c.args.batch.now c.args.replies.now ready stands x y c.desk_mut.ensures.desk c.reply.new.batch c.reply.ensures.answered c.reply.ensures.replied c.args.seat.now.sessions h.is s.0 s.1.0 s.1.1 s.2.0 on;

@@ -1,4 +1,4 @@
-use Rattle.ownlock.proofs.Export.{adds_on}
+use Rattle.ownlock.proofs.Export.{stepped_by}
 use Rattle.std.proofs.Common.{◌++◌, ◌∙◌, sym, ap, refl, subst}
 use Rattle.std.specs.Prelude.{[]}
 use Rattle.ownlock.specs.Invariant.{first_of, others_of}
@@ -50,7 +50,7 @@ split_off-done-requires-clause-idle c =
     let n = c.requires.next in
     let both = c.join.ensures.joined ∙ (λ j. i.2.is j ++ n.1.is j) in
     let s = c.hand_on-held.ensures.handed i.1 n.0 [] both in
-    let p = has_posted_so c.args.at.now c.args.here c.args.held i.0 i.1 i.2 c.requires.place c.args.op.now c.requires.update c.desk_mut.result.now c.post.new.desk c.desk_mut.ensures.desk c.post.ensures.posted (first_of c.join.new.seat.sessions) (ap first_of both) s.0 s.1.0 s.1.1 s.2.0 (adds_on i.1 _ _ _ _ s.2.1) in
+    let p = has_posted_so c.args.at.now c.args.here c.args.held i.0 i.1 i.2 c.requires.place c.args.op.now c.requires.update c.desk_mut.result.now c.post.new.desk c.desk_mut.ensures.desk c.post.ensures.posted (first_of c.join.new.seat.sessions) (ap first_of both) s.0 s.1.0 s.1.1 s.2.0 s.2.1 in
     subst HoldsNone (sym (ap others_of s.2.2.3)) (holds_none _ p.back.held)
 
 pub returns-clause-handed : goal.returns-clause-handed
@@ -59,7 +59,7 @@ returns-clause-handed c k t m h alone next =
     let s = c.hand_on-held.ensures.handed t m [] both in
     let x = c.desk_mut.result.now in
     let y = c.post.new.desk in
-    let on = adds_on t _ _ _ _ s.2.1 in
+    let on = s.2.1 in
     let apart = c.split_off-done.ensures.apart _ _ s.2.2.3 in
     record {
       asked = _;
@@ -67,7 +67,7 @@ returns-clause-handed c k t m h alone next =
       posts = posts_so c.args.at.now c.args.here c.args.held k t h c.requires.place c.args.op.now c.requires.update x y c.desk_mut.ensures.desk c.post.ensures.posted (first_of c.join.new.seat.sessions) (ap first_of both) s.0 s.1.0 s.1.1 s.2.0 on;
       handed = record {
         done_is = apart.0;
-        put = (_, _, (refl, on));
+        put = (_, _, stepped_by t _ _ refl refl on);
         now = s.2.2.0;
         is = apart.1;
         took = took_as _ s.2.2.0 _ _ _ _ c.hand_on-held.ensures.same.1 c.hand_on-held.ensures.same.2 s.2.2.1;

@@ -1,4 +1,4 @@
-use Rattle.ownlock.proofs.Export.{adds_on}
+use Rattle.ownlock.proofs.Export.{stepped_by}
 use Rattle.std.proofs.Common.{◌∙◌, ap, refl, subst}
 use Rattle.replica.specs.StoreMeaning.{store_meaning}
 use Rattle.accounts.specs.Accounts.{IsAllowed}
@@ -33,12 +33,12 @@ returns-clause-kept c k t h alone =
     let s = c.settle.ensures.settled t h.is in
     let x = c.desk_mut.result.now in
     let y = c.post.new.desk in
-    let on = adds_on t _ _ _ _ s.2.1 in
+    let on = s.2.1 in
     record {
       asked = _;
       posted = has_posted_so c.args.seat.now c.args.here c.args.held k t h c.requires.place c.args.op.now c.requires.update x y c.desk_mut.ensures.desk c.post.ensures.posted c.args.seat.now.sessions h.is s.0 s.1.0 s.1.1 s.2.0 on;
       posts = posts_so c.args.seat.now c.args.here c.args.held k t h c.requires.place c.args.op.now c.requires.update x y c.desk_mut.ensures.desk c.post.ensures.posted c.args.seat.now.sessions h.is s.0 s.1.0 s.1.1 s.2.0 on;
-      put = (_, _, (refl, on));
+      put = (_, _, stepped_by t _ _ refl refl on);
       now = s.2.2.0;
       has = record {
         is = s.2.2.2;

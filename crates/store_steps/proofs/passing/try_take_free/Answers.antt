@@ -1,6 +1,6 @@
 use Rattle.ownlock.specs.Seats.{IsSession}
 use Rattle.std.proofs.Common.{rules, ◌≡◌, ◌+◌, refl, sym, subst}
-use Rattle.ownlock.proofs.Export.{adds_on, one_known}
+use Rattle.ownlock.proofs.Export.{one_known}
 use Rattle.ownlock.specs.Knowledge.{MayPut}
 use Rattle.accounts.specs.Picks.{put_progress, put_note}
 use Rattle.store_steps.specs.Knowing.{IsOn}
@@ -47,4 +47,4 @@ returns-then-claimed-clause-stays c k is =
     let v = c.in-Some.held.value in
     let t = c.in-Some.ensures.taken k is in
     let f = c.put.ensures.put t.0 t.2 in
-    (_, f.2, looked_put c.args.here.caller k t.0 place v (took_desk k t.0 c.args.here.caller place v free spot t.1) free spot c.desk.result.now c.desk.ensures.desk c.try_take.new.seat.sessions t.2 f.0 f.1.0 f.1.1 _ (adds_on t.0 _ _ _ _ f.3) c.in-Some.held.place c.in-Some.ensures.place)
+    (_, f.2, looked_put c.args.here.caller k t.0 place v (took_desk k t.0 c.args.here.caller place v free spot t.1) free spot c.desk.result.now c.desk.ensures.desk c.try_take.new.seat.sessions t.2 f.0 f.1.0 f.1.1 _ c.in-Some.held.place c.in-Some.ensures.place f.3)

@@ -1,6 +1,6 @@
 use Rattle.std.proofs.Common.{◌++◌, ◌∙◌, sym, ap, refl, subst}
 use Rattle.std.specs.Prelude.{[]}
-use Rattle.ownlock.proofs.Export.{adds_on}
+use Rattle.ownlock.proofs.Export.{stepped_by}
 use Rattle.ownlock.specs.Invariant.{first_of, others_of}
 use Rattle.ownlock.specs.Seats.{HoldsNone}
 use Rattle.store_steps.specs.AtDesk.{IsTurn}
@@ -47,7 +47,7 @@ split_off-done-requires-clause-idle c =
     let n = c.requires.next in
     let both = c.join.ensures.joined ∙ (λ j. i.3.is j ++ n.1.is j) in
     let s = c.hand_on-held.ensures.handed i.1 n.0 [] both in
-    let p = has_turned_so c.args.at.now c.args.here c.args.held i.0 i.1 i.3 c.requires.place i.2 i.4 c.desk_mut.result.now c.collect_or_claim-turn.new.desk c.desk_mut.ensures.desk c.collect_or_claim-turn.new.batch c.collect_or_claim-turn.result c.collect_or_claim-turn.ensures.turn (first_of c.join.new.seat.sessions) (ap first_of both) s.0 s.1.0 s.1.1 s.2.0 (adds_on i.1 _ _ _ _ s.2.1) in
+    let p = has_turned_so c.args.at.now c.args.here c.args.held i.0 i.1 i.3 c.requires.place i.2 i.4 c.desk_mut.result.now c.collect_or_claim-turn.new.desk c.desk_mut.ensures.desk c.collect_or_claim-turn.new.batch c.collect_or_claim-turn.result c.collect_or_claim-turn.ensures.turn (first_of c.join.new.seat.sessions) (ap first_of both) s.0 s.1.0 s.1.1 s.2.0 s.2.1 in
     subst HoldsNone (sym (ap others_of s.2.2.3)) (holds_none _ p.back.held)
 
 pub join-requires-clause-idle : goal.join-requires-clause-idle
@@ -64,7 +64,7 @@ pub returns-clause-handed : goal.returns-clause-handed
 returns-clause-handed c m next k t o h asked =
     let both = c.join.ensures.joined ∙ (λ j. h.is j ++ next.is j) in
     let s = c.hand_on-held.ensures.handed t m [] both in
-    let on = adds_on t _ _ _ _ s.2.1 in
+    let on = s.2.1 in
     let apart = c.split_off-done.ensures.apart _ _ s.2.2.3 in
     record {
       after = _;
@@ -72,7 +72,7 @@ returns-clause-handed c m next k t o h asked =
       turns = turns_so c.args.at.now c.args.here c.args.held k t h c.requires.place o asked c.desk_mut.result.now c.collect_or_claim-turn.new.desk c.desk_mut.ensures.desk c.collect_or_claim-turn.new.batch c.collect_or_claim-turn.result c.collect_or_claim-turn.ensures.turn (first_of c.join.new.seat.sessions) (ap first_of both) s.0 s.1.0 s.1.1 s.2.0 on;
       is = record {
         done_is = apart.0;
-        put = (_, _, (refl, on));
+        put = (_, _, stepped_by t _ _ refl refl on);
         now = s.2.2.0;
         is = apart.1;
         took = took_as _ s.2.2.0 _ _ _ _ c.hand_on-held.ensures.same.1 c.hand_on-held.ensures.same.2 s.2.2.1;

@@ -4,7 +4,7 @@ use Rattle.store_steps.specs.Requests.{HasTurned}
 use Rattle.store_steps.specs.Standing.{SessionKnown}
 use Rattle.store_steps.specs.Updating.{Looks, TurnsBy}
 use Rattle.store_steps.proofs.Gone.{on_known}
-use Rattle.store_steps.proofs.Begun.{begun_combining, begun_waiting, one_deed}
+use Rattle.store_steps.proofs.Begun.{begun_combining, begun_held, begun_waiting, one_deed}
 use Rattle.store_steps.proofs.Taken.{known_as}
 use Rattle.store_steps.proofs.polling.try_begin.Goals as goal
 
@@ -27,6 +27,11 @@ returns-in-Some-Waits-clause-begun c kept =
     let turns = subst (λ z. TurnsBy p.asked p.after b z) c.in-Some-Waits.field-0-is p.turns in
     begun_waiting c.args.seat.now c.try_post_and_turn.new.seat c.args.here.caller i few p.asked p.after c.args.op.now p.posted p.posts p.is b kept h (one_deed p.asked p.after (Looks b turns))
 
+pub returns-in-Some-Waits-clause-held : goal.returns-in-Some-Waits-clause-held
+returns-in-Some-Waits-clause-held c =
+    let i = c.requires.idle in
+    begun_held c.args.seat.now c.try_post_and_turn.new.seat c.args.here.caller i c.args.op.now c.try_post_and_turn.new.batch _ (c.in-Some-Waits.ensures.turned i.known i.is) c.in-Some-Waits.ensures.fresh
+
 pub returns-in-Some-Combines-clause-begun : goal.returns-in-Some-Combines-clause-begun
 returns-in-Some-Combines-clause-begun c kept =
     let i = c.requires.idle in
@@ -36,3 +41,8 @@ returns-in-Some-Combines-clause-begun c kept =
     let h = subst (λ z. HasTurned p.asked p.after p.posted.request b z) c.in-Some-Combines.field-0-is p.turned in
     let turns = subst (λ z. TurnsBy p.asked p.after b z) c.in-Some-Combines.field-0-is p.turns in
     begun_combining c.args.seat.now c.try_post_and_turn.new.seat c.args.here.caller i few p.asked p.after c.args.op.now p.posted p.posts p.is b kept h turns
+
+pub returns-in-Some-Combines-clause-held : goal.returns-in-Some-Combines-clause-held
+returns-in-Some-Combines-clause-held c =
+    let i = c.requires.idle in
+    begun_held c.args.seat.now c.try_post_and_turn.new.seat c.args.here.caller i c.args.op.now c.try_post_and_turn.new.batch _ (c.in-Some-Combines.ensures.turned i.known i.is) c.in-Some-Combines.ensures.fresh

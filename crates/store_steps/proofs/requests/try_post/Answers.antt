@@ -1,4 +1,3 @@
-use Rattle.ownlock.proofs.Export.{adds_on}
 use Rattle.store_steps.specs.Knowing.{IsOn}
 use Rattle.store_steps.proofs.Taken.{known_as}
 use Rattle.store_steps.proofs.Turning.{may_post, puts_posted}
@@ -26,5 +25,5 @@ returns-clause-posted c k is =
     let on = known_as c.args.seat.now (IsOn c.args.here.shared) (i.0, i.1, i.4) k is in
     let t = c.in-Some.ensures.taken k is in
     let f = c.put.ensures.put t.0 t.1 in
-    let p = posts_there c.args.here.caller k t.0 _ _ c.args.op.now t.2 c.desk_mut.result.now c.post.new.desk c.desk_mut.ensures.desk c.post.ensures.posted c.try_take_desk.new.seat t.1 _ on.catalogue_is c.requires.update f.0 f.1.0 f.1.1 _ (adds_on t.0 _ _ _ _ f.3) in
+    let p = posts_there c.args.here.caller k t.0 _ _ c.args.op.now t.2 c.desk_mut.result.now c.post.new.desk c.desk_mut.ensures.desk c.post.ensures.posted c.try_take_desk.new.seat t.1 _ on.catalogue_is c.requires.update f.0 f.1.0 f.1.1 _ f.3 in
     (_, f.2, p.0, p.1)

@@ -1,4 +1,4 @@
-use Rattle.ownlock.proofs.Export.{adds_on}
+use Rattle.ownlock.proofs.Export.{adds_on, stepped_by}
 use Rattle.std.proofs.Common.{◌≡◌, ap, length, refl, take, sym, subst, ◌∙◌}
 use Rattle.std.proofs.lemmas.List.{length-replicate}
 use Rattle.accounts.specs.Moves.{unplaced}
@@ -81,5 +81,5 @@ returns-clause-appended c k is =
       p.2,
       done,
       λ batch same. appends_by k t.0 m.0 _ f h c.append_only.new.log n v due records kept b.extends (b.log f c.log_mut-log.ensures.log) m.3 (may t.0 m.0 f h v records m.2) a.log there a.replies back.0 back.1.completed done.stands x c.log_mut-log.ensures.log b.steps _ c.in-Some.ensures.place
-          (refl, on) batch same,
+          (stepped_by m.0 _ _ refl refl p.3) batch same,
     )

@@ -1,4 +1,4 @@
-use Rattle.ownlock.proofs.Export.{adds_on}
+use Rattle.ownlock.proofs.Export.{adds_on, stepped_by}
 use Rattle.std.proofs.Common.{refl, ap, sym, subst, ◌∙◌, arith}
 use Rattle.loader.specs.CatalogueView.{sizes_for}
 use Rattle.node.specs.Following.{replayed, copied}
@@ -89,5 +89,5 @@ returns-clause-reached c k is =
       r.0,
       r.1,
       followed k t.0 n x b v _ r.0 s all up,
-      follows_by k t.0 _ r.0 h n y v b.extends log_is b.follows c.rebase_if_behind.ensures.behind c.rebase_if_behind.ensures.above (c.follow.ensures.node ∙ ap (λ d. replayed d (copied h y)) same) s.on up x c.log-log.ensures.log b.steps _ c.in-Some.ensures.place (refl, adds_on t.0 _ _ _ _ p.3),
+      follows_by k t.0 _ r.0 h n y v b.extends log_is b.follows c.rebase_if_behind.ensures.behind c.rebase_if_behind.ensures.above (c.follow.ensures.node ∙ ap (λ d. replayed d (copied h y)) same) s.on up x c.log-log.ensures.log b.steps _ c.in-Some.ensures.place (stepped_by t.0 _ _ refl refl p.3),
     )

@@ -1,4 +1,4 @@
-use Rattle.ownlock.proofs.Export.{adds_on, one_known}
+use Rattle.ownlock.proofs.Export.{adds_on, one_known, stepped_by}
 use Rattle.std.proofs.Common.{sym, ap, refl, subst, Some, ◌+◌, ◌∙◌, [], ◌∷◌, arith}
 use Rattle.ownlock.specs.declared.known.ShelfStep.TheVariants.{Read, Took}
 use Rattle.ownlock.specs.Seats.{having_read, tails_in, run_of}
@@ -71,7 +71,7 @@ returns-clause-ready c k is =
         session = r.2.goes.session ∙ b.session;
         note = r.2.note ∙ b.note;
         read = r.2.goes.tails ∙ ap tails_in b.steps.0;
-        did = did_then k told t.0 (Read c.done-done.result ∷ []) (Took (1 + c.args.here.caller.node) (AReplica c.replica_mut-node.result.now) ∷ []) (did_one k told (Read c.done-done.result) (Read c.done-done.result) (refl, adds_on k _ _ _ _ d.4) refl)
+        did = did_then k told t.0 (Read c.done-done.result ∷ []) (Took (1 + c.args.here.caller.node) (AReplica c.replica_mut-node.result.now) ∷ []) (did_one k told (Read c.done-done.result) (Read c.done-done.result) (stepped_by k _ _ refl refl d.4) refl)
             (did_one told t.0 (Took (1 + c.args.here.caller.node) w) (Took (1 + c.args.here.caller.node) (AReplica c.replica_mut-node.result.now)) b.steps
             (ap (Took (1 + c.args.here.caller.node)) (replica_part w c.replica_mut-node.result.now c.replica_mut-node.ensures.replica)));
         some = c.replica_mut-node.ensures.replica;
@@ -85,7 +85,7 @@ returns-in_default-clause-stays c k is =
     let i = c.requires.idle in
     let free = subst (λ z. IsFree c.args.here.caller z) (one_known c.args.seat.now i.0 k i.1 is) i.2.0 in
     let d = c.done-done.ensures.read k is in
-    (having_read k d.0 c.done-done.result (run_of c.done-done.new.seat.sessions), ap (λ z. z.sessions) c.in_default.ensures.taken ∙ d.3, still_told k d.0 c.done-done.result d.1.0 _ free.held d.1.1 d.2 (adds_on k _ _ _ _ d.4))
+    (having_read k d.0 c.done-done.result (run_of c.done-done.new.seat.sessions), ap (λ z. z.sessions) c.in_default.ensures.taken ∙ d.3, still_told k d.0 c.done-done.result d.1.0 _ free.held d.1.1 d.2 d.4)
 
 -- ---- the log is held
 
@@ -119,4 +119,4 @@ returns-in_default-try_follow_if_behind-clause-stays c k is0 =
     let agrees = subst (Agrees t.0.progress) (sym e.1) (b.agrees c.replica_mut-node.result.now c.replica_mut-node.ensures.replica) in
     let p = c.put.ensures.put t.0 is in
     let f = back t.0 w b.holds c.try_follow_if_behind.new.seat.sessions is n agrees (low_enough t.0 n agrees b.stands) c.in-Some.held.place held p.0 p.1.0 p.1.1 _ (adds_on t.0 _ _ _ _ p.3) in
-    (_, p.2, still_then k told _ (still_told k d.0 c.done-done.result d.1.0 _ free.held d.1.1 d.2 (adds_on k _ _ _ _ d.4)) (still_back (1 + c.args.here.caller.node) c.in-Some.held.place told t.0 _ w n b f (c.replica_mut-node.ensures.replica ∙ ap Some (sym e.1)) c.in-Some.ensures.place (refl, adds_on t.0 _ _ _ _ p.3)))
+    (_, p.2, still_then k told _ (still_told k d.0 c.done-done.result d.1.0 _ free.held d.1.1 d.2 d.4) (still_back (1 + c.args.here.caller.node) c.in-Some.held.place told t.0 _ w n b f (c.replica_mut-node.ensures.replica ∙ ap Some (sym e.1)) c.in-Some.ensures.place (stepped_by t.0 _ _ refl refl p.3)))

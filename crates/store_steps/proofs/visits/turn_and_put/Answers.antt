@@ -1,4 +1,4 @@
-use Rattle.ownlock.proofs.Export.{adds_on}
+use Rattle.ownlock.proofs.Export.{adds_on, stepped_by}
 use Rattle.std.proofs.Common.{◌∙◌, refl, subst, sym}
 use Rattle.std.proofs.lemmas.Option.{same_Some}
 use Rattle.store_steps.specs.AtDesk.{IsTurn}
@@ -27,4 +27,4 @@ returns-clause-turned c k t o is b asked =
     let f = c.put.ensures.put t is in
     let put = turns_there c.args.here.caller k t _ _ o b c.args.seat.now.sessions is asked c.desk_mut.result.now c.collect_or_claim-turn.new.desk c.desk_mut.ensures.desk c.collect_or_claim-turn.new.batch c.collect_or_claim-turn.result c.collect_or_claim-turn.ensures.turn in
     let on = adds_on t _ _ _ _ f.3 in
-    (_, f.2, put.back f.0 f.1.0 f.1.1 _ on, turns_by c.args.here.caller k t _ _ b c.desk_mut.result.now c.collect_or_claim-turn.new.desk c.desk_mut.ensures.desk _ (refl, on) c.collect_or_claim-turn.new.batch c.collect_or_claim-turn.result c.collect_or_claim-turn.ensures.turn, (_, _, (refl, on)))
+    (_, f.2, put.back f.0 f.1.0 f.1.1 _ on, turns_by c.args.here.caller k t _ _ b c.desk_mut.result.now c.collect_or_claim-turn.new.desk c.desk_mut.ensures.desk _ (stepped_by t _ _ refl refl f.3) c.collect_or_claim-turn.new.batch c.collect_or_claim-turn.result c.collect_or_claim-turn.ensures.turn, (_, _, (stepped_by t _ _ refl refl f.3)))

@@ -26,7 +26,7 @@ returns-clause-tells c =
     let told = tried_told no_read (λ point. Seen point (length asked) AT_END) (after ≡ c.args.replies.now) (IsSight (HaveReplies asked after) (λ point. point) old tried.new.self) (TellsReplies asked after old tried.new.self)
     (λ point t. record { point = point; seen = refl; answers = (t.0, t.1); up = catches_up old tried.new.self point t.2.0 })
     (first_refused c.deref.result.now.catalogue 0 asked) old tried.new.self tried.result h.early h.kept h.told
-    (subst (λ (s : SessionView). s.note.pending ≡ None) (sym is_old) idle) (record { grown = h.session.grown; well_formed = h.session.well_formed }) h.note in
+    (subst (λ (s : SessionView). s.note.pending ≡ None) (sym is_old) idle) (record { grown = h.session.grown; well_formed = h.session.well_formed; gone = h.session.gone }) h.note in
     subst (λ (told' : Looked). TellsLook (first_refused before.store.catalogue 0 asked) no_read (after ≡ c.args.replies.now) (TellsReplies asked after before.session tried.new.self) before.session tried.new.self told') is
     (subst (λ (s : SessionView). TellsLook (first_refused before.store.catalogue 0 asked) no_read (after ≡ c.args.replies.now) (TellsReplies asked after s tried.new.self) s tried.new.self (look_each (length asked) tried.result)) is_old
     (subst (λ (z : StoreView). TellsLook (first_refused z.catalogue 0 asked) no_read (after ≡ c.args.replies.now) (TellsReplies asked after old tried.new.self) old tried.new.self (look_each (length asked) tried.result)) is_of told))

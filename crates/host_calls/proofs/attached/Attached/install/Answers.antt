@@ -19,6 +19,6 @@ returns-in-Ok-Some-clause-tells c =
     let idle : before.session.note.pending ≡ None = search rules in
     let none = none_of (install_refused (c.deref.result.now) c.args.mode c.args.argument c.args.bytes.now) (λ r is. let no = (some.ensures.early r is).0 in absurd cc) in
     let at = subst (λ (x : Option (Unit {0})). TellsPost old posted.new.self op (Ok x)) some.field-0-is (some.ensures.posted none) in
-    let told = posted_then op (install_refused (c.deref.result.now) c.args.mode c.args.argument c.args.bytes.now) old posted.new.self after.new.self.session after.result (subst (λ (s : SessionView). s.note.pending ≡ None) (sym is_old) idle) none (asked_for old posted.new.self op at) posted.ensures.session.same.1 posted.ensures.session.grown after.ensures.grown after.ensures.tells in
+    let told = posted_then op (install_refused (c.deref.result.now) c.args.mode c.args.argument c.args.bytes.now) old posted.new.self after.new.self.session after.result (subst (λ (s : SessionView). s.note.pending ≡ None) (sym is_old) idle) none (asked_for old posted.new.self op at) posted.ensures.session.same.1 posted.ensures.session.grown posted.ensures.session.gone after.ensures.grown after.ensures.tells in
     subst (λ (s : SessionView). TellsUpdate op (install_refused (before.store) c.args.mode c.args.argument c.args.bytes.now) s after.new.self.session after.result) is_old
     (subst (λ (z : StoreView). TellsUpdate op (install_refused (z) c.args.mode c.args.argument c.args.bytes.now) old after.new.self.session after.result) is_of told)

@@ -21,6 +21,6 @@ returns-in-Ok-Some-clause-tells c =
     let none = none_of (refused c.deref.result.now) (λ r is. let no = (some.ensures.early r is).0 in absurd cc) in
     let at = subst (λ (x : Option (Unit {0})). TellsPost old posted.new.self op (Ok x)) some.field-0-is (some.ensures.posted none) in
     let after = c.go_on-in-Ok-Some in
-    let told = posted_then op (refused c.deref.result.now) old posted.new.self after.new.self.session after.result (subst (λ (s : SessionView). s.note.pending ≡ None) (sym is_old) idle) none (asked_for old posted.new.self op at) posted.ensures.session.same.1 posted.ensures.session.grown after.ensures.grown after.ensures.tells in
+    let told = posted_then op (refused c.deref.result.now) old posted.new.self after.new.self.session after.result (subst (λ (s : SessionView). s.note.pending ≡ None) (sym is_old) idle) none (asked_for old posted.new.self op at) posted.ensures.session.same.1 posted.ensures.session.grown posted.ensures.session.gone after.ensures.grown after.ensures.tells in
     subst (λ (s : SessionView). TellsUpdate op (refused c.args.self.now.store) s after.new.self.session after.result) is_old
     (subst (λ (z : StoreView). TellsUpdate op (refused z) old after.new.self.session after.result) is_of told)

@@ -21,6 +21,6 @@ returns-in-Ok-Some-clause-tells c =
     let idle : before.session.note.pending ≡ None = search rules in
     let none = none_of (early_refusal c.deref.result.now.catalogue Update c.args.program c.args.argument.now) (λ r is. let no = (some.ensures.early r is).0 in absurd cc) in
     let at = subst (λ (x : Option (Unit {0})). TellsAsked old posted.new.self op (Ok x)) some.field-0-is (some.ensures.asked none) in
-    let told = posted_then op (early_refusal c.deref.result.now.catalogue Update c.args.program c.args.argument.now) old posted.new.self after.new.self.session after.result (subst (λ (s : SessionView). s.note.pending ≡ None) (sym is_old) idle) none at posted.ensures.session.same.1 posted.ensures.session.grown after.ensures.grown after.ensures.tells in
+    let told = posted_then op (early_refusal c.deref.result.now.catalogue Update c.args.program c.args.argument.now) old posted.new.self after.new.self.session after.result (subst (λ (s : SessionView). s.note.pending ≡ None) (sym is_old) idle) none at posted.ensures.session.same.1 posted.ensures.session.grown posted.ensures.session.gone after.ensures.grown after.ensures.tells in
     subst (λ (s : SessionView). TellsUpdate op (early_refusal before.store.catalogue Update c.args.program c.args.argument.now) s after.new.self.session after.result) is_old
     (subst (λ (z : StoreView). TellsUpdate op (early_refusal z.catalogue Update c.args.program c.args.argument.now) old after.new.self.session after.result) is_of told)

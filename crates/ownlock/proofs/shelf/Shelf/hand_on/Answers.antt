@@ -1,6 +1,5 @@
 use Rattle.std.proofs.Common.{◌≡◌, ◌∷◌, ap, refl, sym, ◌∙◌}
 use Rattle.ownlock.specs.Invariant.{out_of}
-use Rattle.ownlock.proofs.Run.{continues_more}
 use Rattle.ownlock.proofs.Hands.{one_alone, out_handed}
 use Rattle.ownlock.proofs.shelf.Shelf.hand_on.Goals as goal
 
@@ -16,7 +15,7 @@ returns-clause-handed g c k m ms is =
     let first : c.seat.inside.pass.me.0 ≡ k ∷ m ∷ ms = ap (λ z. z.sessions) c.seat.view_is ∙ is in
     let second = ap (λ z. z.1) sits in
     let t = c.pass_on-value.ensures.handed k m ms (λ i. (first i, second i)) in
-    (t.0, t.1, (_, (t.2.0, t.2.1, refl), (_, (g.M.Change.progress t.0, refl, t.2.4, t.2.3, (_, continues_more m.run t.2.0 _ t.2.2, refl)), refl, ap (λ z. z.0) t.2.5)))
+    (t.0, t.1, (_, (t.2.0, t.2.1, refl), (_, (g.M.Change.progress t.0, refl, t.2.4, t.2.3, (_, t.2.2, refl)), refl, ap (λ z. z.0) t.2.5)))
 
 pub invariant_of-seat : goal.invariant_of-seat
 invariant_of-seat g c =

@@ -1,5 +1,5 @@
 use Rattle.std.proofs.Common.{ap, refl}
-use Rattle.ownlock.proofs.Run.{continues_self}
+use Rattle.ownlock.proofs.Run.{others_again}
 use Rattle.ownlock.proofs.Seats.{steps_as}
 use Rattle.ownlock.proofs.shelf.Shelf.settle.Goals as goal
 
@@ -13,4 +13,4 @@ returns-clause-settled g c k is =
     let t = c.put_and_take-value.ensures.settled k (steps_as c.seat.inside.pass.me _ k (ap (λ z. z.sessions) c.seat.view_is) is c.seat.invariant) in
     let L = g.V.Shelved.laws in
     let now = g.M.Change.progress t.0 in
-    (t.0, t.1, (_, (t.2.0, t.2.1, refl), (_, (now, refl, (L.extends_self now, λ a u _ _. L.same_self now), t.2.2, (_, continues_self _, refl)), ap (λ z. z.0) t.2.3, refl)))
+    (t.0, t.1, (_, (t.2.0, t.2.1, refl), (_, (now, refl, (L.extends_self now, λ a u _ _. L.same_self now), t.2.2, (_, others_again k _ _ _ _ _ t.2.1, refl)), ap (λ z. z.0) t.2.3, refl)))

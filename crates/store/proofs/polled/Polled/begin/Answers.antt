@@ -2,13 +2,14 @@ use Rattle.std.proofs.Common.{sym, ap, subst, ◌∙◌}
 use Rattle.combiner.specs.Desks.{BatchView}
 use Rattle.replica.specs.StoreMeaning.{store_meaning}
 use Rattle.accounts.specs.Accounts.{IsWellFormed}
-use Rattle.store_steps.specs.Polling.{BeginsBy, HasAskedFor}
+use Rattle.store_steps.specs.Polling.{BeginsBy, BeginsInOneHold, HasAskedFor}
 use Rattle.store_steps.specs.Stages.{IsPolled}
 use Rattle.store_steps.specs.declared.deeds.Stage.{Stage}
 use Rattle.store_steps.specs.Standing.{StoreSeat}
 use Rattle.store_steps.specs.Views.{SessionView, known_of, session_view}
 use Rattle.store.specs.Sessions.{HasRoom, IsOf}
 use Rattle.store_steps.proofs.Export.{seen_as}
+use Rattle.store.proofs.Gone.{begin_goes}
 use Rattle.store.proofs.Between.{goes_on, goes_still, idle_at, on_at, room_on, well_at}
 use Rattle.store.proofs.Invoked.{may_ask}
 use Rattle.store.proofs.polled.Polled.begin.Goals as goal
@@ -63,10 +64,13 @@ pub returns-clause-session : goal.returns-clause-session
 returns-clause-session c =
     let s = c.self.inside.seat in
     let h = c.in-Some.ensures.begun c.self.inside.replies in
-    goes_on c.args.store.now (session_view s) c.args.self.now (session_view c.try_begin.new.seat) c.self.view_is c.requires.own c.try_begin.ensures.same h.session h.extends h.well_formed
+    goes_on c.args.store.now (session_view s) c.args.self.now (session_view c.try_begin.new.seat) c.self.view_is c.requires.own c.try_begin.ensures.same h.session h.extends h.well_formed (begin_goes _ _ c.args.op.now h.goes)
 
 pub returns-clause-asked : goal.returns-clause-asked
 returns-clause-asked c = subst (λ (z : SessionView). HasAskedFor z (session_view c.try_begin.new.seat) c.args.op.now) c.self.view_is (c.in-Some.ensures.begun c.self.inside.replies).asked
 
 pub returns-clause-goes : goal.returns-clause-goes
 returns-clause-goes c = subst (λ (z : SessionView). BeginsBy (known_of z) (known_of (session_view c.try_begin.new.seat)) c.args.op.now) c.self.view_is (c.in-Some.ensures.begun c.self.inside.replies).goes
+
+pub returns-clause-held : goal.returns-clause-held
+returns-clause-held c = subst (λ (z : SessionView). BeginsInOneHold (known_of z) (known_of (session_view c.try_begin.new.seat)) c.args.op.now) c.self.view_is c.in-Some.ensures.held

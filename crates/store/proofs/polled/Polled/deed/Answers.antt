@@ -3,6 +3,7 @@ use Rattle.std.proofs.lemmas.Option.{same_Some}
 use Rattle.store_steps.specs.Stages.{HasDone, IsPolled}
 use Rattle.store_steps.specs.Views.{SessionView, known_of, session_view}
 use Rattle.store.specs.Sessions.{IsOf}
+use Rattle.store.proofs.Gone.{done_goes, one_goes}
 use Rattle.store.proofs.Between.{goes_on, on_at, out_at, room_on}
 use Rattle.store_steps.specs.Polling.{DeedsGo}
 use Rattle.store_steps.proofs.Export.{go_deeds}
@@ -30,7 +31,7 @@ give_and_turn-requires-clause-polled c =
 pub returns-in-Ready-clause-session : goal.returns-in-Ready-clause-session
 returns-in-Ready-clause-session c =
     let h = c.give_and_turn.ensures.gone in
-    goes_on c.args.store.now (session_view c.self.inside.seat) c.args.self.now (session_view c.give_and_turn.new.seat) c.self.view_is c.requires.own c.give_and_turn.ensures.same h.session h.extends h.well_formed
+    goes_on c.args.store.now (session_view c.self.inside.seat) c.args.self.now (session_view c.give_and_turn.new.seat) c.self.view_is c.requires.own c.give_and_turn.ensures.same h.session h.extends h.well_formed (done_goes _ _ _ h.goes)
 
 pub returns-in-Ready-clause-done : goal.returns-in-Ready-clause-done
 returns-in-Ready-clause-done c o is =
@@ -68,7 +69,7 @@ go_on-requires-clause-polled c = c.self.invariant.0
 pub returns-clause-session : goal.returns-clause-session
 returns-clause-session c =
     let h = c.go_on.ensures.gone in
-    goes_on c.args.store.now (session_view c.self.inside.seat) c.args.self.now (session_view c.go_on.new.seat) c.self.view_is c.requires.own c.go_on.ensures.same h.session h.extends h.well_formed
+    goes_on c.args.store.now (session_view c.self.inside.seat) c.args.self.now (session_view c.go_on.new.seat) c.self.view_is c.requires.own c.go_on.ensures.same h.session h.extends h.well_formed (one_goes _ _ _ h.goes)
 
 pub returns-clause-done : goal.returns-clause-done
 returns-clause-done c o is =

@@ -1,4 +1,4 @@
-use Rattle.std.proofs.Common.{sym, ap, subst, ◌∙◌}
+use Rattle.std.proofs.Common.{refl, sym, ap, subst, ◌∙◌}
 use Rattle.replica.specs.StoreMeaning.{store_meaning}
 use Rattle.accounts.specs.Accounts.{IsWellFormed}
 use Rattle.store_steps.specs.Stages.{IsPolled}
@@ -6,6 +6,8 @@ use Rattle.store.specs.Polled.{HasPostedFor}
 use Rattle.store_steps.specs.Views.{SessionView, session_view}
 use Rattle.store.specs.Sessions.{HasRoom, IsOf}
 use Rattle.store_steps.proofs.Export.{goes_seen, on_known}
+use Rattle.store_laws.specs.CallsMade.{GoneOn}
+use Rattle.store.proofs.Gone.{gone_did}
 use Rattle.store.proofs.Between.{goes_on, goes_still, idle_at, on_at, post_grown, post_session, post_told, post_well, posted_at, room_on, well_at}
 use Rattle.store_steps.specs.Updating.{PostsBy}
 use Rattle.store.proofs.polled.Polled.post.Goals as goal
@@ -59,6 +61,7 @@ returns-clause-session c =
     let p = c.in-Some.ensures.posted i.known i.is in
     goes_on c.args.store.now (session_view s.seat) c.args.self.now (session_view new) c.self.view_is c.requires.own c.try_post.ensures.same (post_session s.seat new s.caller i p.0 c.args.op.now p.1 p.2)
     (post_grown s.seat new s.caller i p.0 c.args.op.now p.1 p.2) (post_well s.seat new s.caller i p.0 c.args.op.now p.1 p.2)
+    (goes_seen GoneOn s.seat new (session_view s.seat) i.known p.0 i.is i.free.held refl p.1 p.2.back.held (gone_did p.3.at.did))
 
 pub returns-clause-posted : goal.returns-clause-posted
 returns-clause-posted c =

@@ -36,9 +36,15 @@ loop-preserved c =
           (deeds_on (known_of c.args.self.now) (known_of c.loop.self) (known_of c.deed.new.self) i.deeds (subst (λ z. DeedsGo (known_of c.loop.self) (known_of c.deed.new.self) z) c.in-Went.is c.deed.ensures.goes));
     }
 
+pub returns-in-Busy-clause-session : goal.returns-in-Busy-clause-session
+returns-in-Busy-clause-session c = goes_then c.args.store.now c.args.self.now c.loop.self c.deed.new.self c.loop.invariant.session c.deed.ensures.session
+
 pub returns-in-Busy-clause-goes : goal.returns-in-Busy-clause-goes
 returns-in-Busy-clause-goes c =
     deeds_on (known_of c.args.self.now) (known_of c.loop.self) (known_of c.deed.new.self) c.loop.invariant.deeds (subst (λ z. DeedsGo (known_of c.loop.self) (known_of c.deed.new.self) z) c.in-Busy.is c.deed.ensures.goes)
+
+pub returns-in-Collected-clause-session : goal.returns-in-Collected-clause-session
+returns-in-Collected-clause-session c = goes_then c.args.store.now c.args.self.now c.loop.self c.deed.new.self c.loop.invariant.session c.deed.ensures.session
 
 pub returns-in-Collected-clause-goes : goal.returns-in-Collected-clause-goes
 returns-in-Collected-clause-goes c =

@@ -1,5 +1,5 @@
 use Rattle.store_steps.specs.Seen.{holds}
-use Rattle.store.proofs.Looked.{HasLooked, has_looked, idle_now, idle_seen, may_look, sight_seen}
+use Rattle.store.proofs.Looked.{HasLooked, has_looked, idle_goes_on, idle_now, idle_seen, idle_still, may_look, sight_seen}
 use Rattle.store.proofs.polled.Polled.try_see.Goals as goal
 
 pub try_look-requires-clause-idle : goal.try_look-requires-clause-idle
@@ -7,6 +7,13 @@ try_look-requires-clause-idle g c =
     let s = c.self.inside in
     let e = c.shared.ensures in
     may_look s.seat s.caller s.batch s.replies s.stage c.self.invariant.0 c.args.self.now c.self.view_is c.requires.idle c.shared.result c.args.store.now c.requires.own e.places e.nodes e.catalogue
+
+pub returns-in_default-clause-session : goal.returns-in_default-clause-session
+returns-in_default-clause-session g c =
+    let s = c.self.inside in
+    let i = idle_now s.seat s.caller s.batch s.replies s.stage c.self.invariant.0 c.args.self.now c.self.view_is c.requires.idle in
+    let t = c.in_default.ensures.stays i.known i.is in
+    idle_goes_on c.args.store.now s.seat c.try_look.new.seat s.caller c.args.self.now c.self.view_is c.requires.own c.try_look.ensures.same (idle_still s.seat c.try_look.new.seat s.caller i t.0 t.1 t.2)
 
 pub returns-clause-told : goal.returns-clause-told
 returns-clause-told g c none =
@@ -21,7 +28,7 @@ looked g c =
     let new = c.try_look.new.seat in
     let i = idle_now s.seat s.caller s.batch s.replies s.stage c.self.invariant.0 c.args.self.now c.self.view_is c.requires.idle in
     let t = c.in-Ok.ensures.told i.known i.is in
-    has_looked s.seat s.caller s.batch s.replies s.stage c.self.invariant.0 c.args.self.now c.self.view_is c.requires.idle c.args.store.now new s.room c.requires.own c.try_look.ensures.same c.self.invariant.1 (idle_seen s.seat new s.caller i t.0 t.1 _ t.2.0)
+    has_looked s.seat s.caller s.batch s.replies s.stage c.self.invariant.0 c.args.self.now c.self.view_is c.requires.idle c.args.store.now new s.room c.requires.own c.try_look.ensures.same c.self.invariant.1 (idle_seen s.seat new s.caller i t.0 t.1 _ t.2.0 t.3.0)
 
 pub returns-clause-session : goal.returns-clause-session
 returns-clause-session g c = (looked g c).session

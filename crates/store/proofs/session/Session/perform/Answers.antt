@@ -6,6 +6,7 @@ use Rattle.store.specs.Sessions.{TellsUpdate}
 use Rattle.store_steps.proofs.Export.{goes_seen, seen_as}
 use Rattle.store_steps.specs.Views.{SessionView, session_view}
 use Rattle.store_steps.specs.Updating.{UpdatesBy}
+use Rattle.store.proofs.Gone.{update_goes}
 use Rattle.store.proofs.Invoked.{goes_on, has_asked, has_grown, invoked, is_idle, may_ask, tells_update}
 use Rattle.store.proofs.session.Session.perform.Goals as goal
 
@@ -53,14 +54,14 @@ returns-then-at_once g c =
     let new = session_view seat in
     let now = seen_as seat a.after a.is in
     let same = c.ask_at_once-given.ensures.same ∙ ap (λ (z : SessionView). z.shelf) c.self.view_is in
+    let by = goes_seen (λ k f. UpdatesBy k f op c.ask_at_once-given.result) c.self.inside.seat seat c.args.self.now k a.after c.self.invariant.0.is c.self.invariant.0.free.held c.self.view_is a.is v.held (record { asked = a.asked; posts = a.posts; completes = a.completes }) in
     record {
-      session = goes_on c.args.store.now c.args.self.now new c.self.inside.seat.shelf seat.shelf k a.after op c.ask_at_once-given.result v was now c.requires.own same;
+      session = goes_on c.args.store.now c.args.self.now new c.self.inside.seat.shelf seat.shelf k a.after op c.ask_at_once-given.result v was now c.requires.own same (update_goes _ _ op _ by);
       answered = subst (λ r. TellsUpdate c.args.self.now new op r) (sym c.answer_of.ensures.said) (tells_update c.args.store.now c.args.self.now new c.self.inside.seat.shelf seat.shelf k a.after op c.ask_at_once-given.result v was now c.self.invariant.0.pending c.self.invariant.0.batch);
       goes = (
         c.ask_at_once-given.result,
         c.answer_of.ensures.said,
-        goes_seen (λ k f. UpdatesBy k f op c.ask_at_once-given.result) c.self.inside.seat seat c.args.self.now k a.after c.self.invariant.0.is c.self.invariant.0.free.held c.self.view_is a.is v.held
-            (record { asked = a.asked; posts = a.posts; completes = a.completes }),
+        by,
       );
     }
 
@@ -97,13 +98,13 @@ returns g c =
     let new = session_view seat in
     let now = seen_as seat f.0 f.1 in
     let same = c.complete-reply.ensures.same ∙ (c.post.ensures.same ∙ ap (λ (z : SessionView). z.shelf) c.self.view_is) in
+    let by = goes_seen (λ k f. UpdatesBy k f op c.complete-reply.result) c.self.inside.seat seat c.args.self.now k f.0 c.self.invariant.0.is c.self.invariant.0.free.held c.self.view_is f.1 v.held (record { asked = p.0; posts = p.3; completes = f.3 }) in
     record {
-      session = goes_on c.args.store.now c.args.self.now new c.self.inside.seat.shelf seat.shelf k f.0 op c.complete-reply.result v was now c.requires.own same;
+      session = goes_on c.args.store.now c.args.self.now new c.self.inside.seat.shelf seat.shelf k f.0 op c.complete-reply.result v was now c.requires.own same (update_goes _ _ op _ by);
       answered = subst (λ r. TellsUpdate c.args.self.now new op r) (sym c.answer_of-2.ensures.said) (tells_update c.args.store.now c.args.self.now new c.self.inside.seat.shelf seat.shelf k f.0 op c.complete-reply.result v was now c.self.invariant.0.pending c.self.invariant.0.batch);
       goes = (
         c.complete-reply.result,
         c.answer_of-2.ensures.said,
-        goes_seen (λ k f. UpdatesBy k f op c.complete-reply.result) c.self.inside.seat seat c.args.self.now k f.0 c.self.invariant.0.is c.self.invariant.0.free.held c.self.view_is f.1 v.held
-            (record { asked = p.0; posts = p.3; completes = f.3 }),
+        by,
       );
     }

@@ -1,0 +1,163 @@
+//! What two sessions of a store were answered, and in which order, by the contracts of the crate `store` alone: one list of operations explains
+//! their calls, whatever else they did. The first session waits for its answers, and the second one polls.
+#![tactic(auto)]
+
+ghost use Rattle.std.specs.Prelude.{◌≡◌, ◌≤◌, [], ◌∷◌, IfSome, None, Some, vec_capacity};
+ghost use Rattle.store.specs.Opening.{IsClosed};
+ghost use Rattle.store.specs.Sessions.{IsOf, SessionGoesOn};
+ghost use Rattle.store_steps.specs.Shelving.{sessions_of};
+ghost use Rattle.store_steps.specs.Views.{op_of};
+ghost use Rattle.accounts.specs.Accounts.{IsWellFormed};
+ghost use Rattle.accounts.specs.declared.sessions.Pending.{Pending};
+ghost use Rattle.replica.specs.StoreMeaning.{store_meaning};
+ghost use Rattle.example_calls.specs.Heard.{AreExplained, HasFinished, HasPolled, HasUpdated, HasUpdatedTwice, two_of};
+
+mod heard;
+
+pub use heard::Heard;
+use std::alloc::Global;
+use std::sync::Wait;
+use store::{
+    Answer, Catalogue, Closed, Config, Polled, Session, Store, StoreRefused, calls_are_told,
+};
+
+/// A store of one node, with a session for each of its two slots.
+pub const CONFIG: Config = Config {
+    nodes: 1,
+    slots: 2,
+    window: 16,
+    limit: 100,
+    spare: 0,
+};
+
+// An update that is answered.
+fn update<R: Wait>(
+    rt: &R,
+    store: &Store,
+    session: &mut Session,
+    program: u16,
+    argument: &[u8],
+) -> Option<Answer>
+    requires own { IsOf store.now session.old }
+    ensures session { SessionGoesOn store.now session.old session.new }
+    ensures told { IfSome result (λ a. HasUpdated store.now session.old session.new (op_of program argument.now) a) }
+{
+    session.invoke(rt, store, program, argument).ok()
+}
+
+// Two of them.
+fn update_twice<R: Wait>(
+    rt: &R,
+    store: &Store,
+    session: &mut Session,
+    program: u16,
+    argument: &[u8],
+) -> Option<(Answer, Answer)>
+    requires own { IsOf store.now session.old }
+    ensures session { SessionGoesOn store.now session.old session.new }
+    ensures told { IfSome result (λ t. HasUpdatedTwice store.now session.old session.new (op_of program argument.now) t.0 t.1) }
+{
+    let first = update(rt, store, session, program, argument)?;
+    let second = update(rt, store, session, program, argument)?;
+    Some((first, second))
+}
+
+// Polls an update until it is answered.
+fn finish<R: Wait>(rt: &R, store: &Store, polled: &mut Polled) -> Result<Answer, StoreRefused>
+    requires own { IsOf store.now polled.old }
+    requires well { IsWellFormed store_meaning polled.old.progress }
+    requires asked { (o : Pending) × (polled.old.note.pending ≡ Some o) }
+    ensures session { SessionGoesOn store.now polled.old polled.new }
+    ensures rests { polled.new.note.pending ≡ None }
+    ensures told { HasFinished store.now polled.old polled.new result }
+{
+    for _ in rt.forever() {
+        if let Some(told) = polled.try_complete(store) {
+            return told;
+        }
+    }
+    unreachable!()
+}
+
+// An update that is posted, and polled until it is answered.
+fn poll<R: Wait>(
+    rt: &R,
+    store: &Store,
+    polled: &mut Polled,
+    program: u16,
+    argument: &[u8],
+) -> Option<Answer>
+    requires own { IsOf store.now polled.old }
+    requires idle { polled.old.note.pending ≡ None }
+    ensures session { SessionGoesOn store.now polled.old polled.new }
+    ensures rests { polled.new.note.pending ≡ None }
+    ensures told { IfSome result (λ a. HasPolled store.now polled.old polled.new (op_of program argument.now) a) }
+{
+    match polled.try_post(store, program, argument) {
+        Ok(Some(())) => finish(rt, store, polled).ok(),
+        _ => None,
+    }
+}
+
+// Ends the store, to which both sessions come back.
+fn close(store: Store, mut sessions: Vec<Session>, waiting: Session, polls: Polled) -> Closed
+    requires own { IsOf store waiting × IsOf store polls }
+    requires idle { polls.note.pending ≡ None }
+    requires two { sessions_of store.config ≡ 2 }
+    requires room { (sessions.items ≡ []) × (2 ≤ vec_capacity sessions) }
+    ensures closed { IsClosed store (waiting ∷ polls ∷ []) result }
+{
+    sessions.push_reserved(waiting);
+    sessions.push_reserved(polls.into_session());
+    match store.close(sessions) {
+        Ok(closed) => closed,
+        Err(_) => unreachable!(),
+    }
+}
+
+/// Opens a store, lets its first session run a program twice, and its second one once, and closes the store. Gives their answers, or nothing if there
+/// is no memory, or a call is refused.
+///
+/// # Examples
+///
+/// ```
+/// use example_calls::answers_of_two;
+/// use store::load_manifest;
+///
+/// let manifest = "map array 8 16\nprogram five update 0 five.hex\n";
+/// let files = [("five.hex", "b7000000050000009500000000000000")]; // a program that replies 5
+/// let catalogue = load_manifest(rt.alloc(), manifest, &files)?;
+///
+/// let Some((heard, closed)) = answers_of_two(&rt, rt.alloc(), catalogue, 0, &[]) else { unreachable!() };
+/// assert_eq!(rt; [heard.first.index, heard.second.index, heard.polled.index], [0, 1, 2]);
+/// assert_eq!(rt; closed.log().tail(), 3);
+/// ```
+pub fn answers_of_two<R: Wait>(
+    rt: &R,
+    alloc: Global,
+    catalogue: Catalogue,
+    program: u16,
+    argument: &[u8],
+) -> Option<(Heard, Closed)>
+    ensures explained { IfSome result (λ t. AreExplained (two_of catalogue) (op_of program argument.now) t.0 t.1) }
+{
+    let (store, mut sessions) = Store::open(alloc, CONFIG, catalogue).ok()?;
+    let Some(other) = sessions.pop() else {
+        unreachable!()
+    };
+    let Some(mut session) = sessions.pop() else {
+        unreachable!()
+    };
+    let mut polled = Polled::new(other);
+    calls_are_told();
+    let told = update_twice(rt, &store, &mut session, program, argument);
+    let answer = poll(rt, &store, &mut polled, program, argument);
+    let closed = close(store, sessions, session, polled);
+    let ((first, second), polled) = (told?, answer?);
+    let heard = Heard {
+        first,
+        second,
+        polled,
+    };
+    Some((heard, closed))
+}

@@ -1,0 +1,30 @@
+use Rattle.std.proofs.Common.{ap, subst}
+use Rattle.loader.specs.CatalogueView.{IsCatalogue}
+use Rattle.oplog.specs.Limits.{AreSizes, sizes_in}
+use Rattle.schedule.specs.declared.parts.Opening.{Opening}
+use Rattle.schedule.specs.Taking.{WorldState}
+use Rattle.schedule.specs.Worlds.{opening_of}
+use Rattle.promise.specs.Answered.{SettlesLast, TakesCalls}
+use Rattle.promise.proofs.Due.{opened_answers, settles_last, takes_calls}
+use Rattle.promise.proofs.Explained.{steps_linearized}
+use Rattle.promise.proofs.schedules.run_schedule.Goals as goal
+
+pub returns-in-Ok : goal.returns-in-Ok
+returns-in-Ok c =
+    let m : Opening = opening_of (sizes_in c.args.config) c.args.catalogue in
+    let old : WorldState = c.in_ok-world.world in
+    let w = c.in_ok-world.ensures in
+    let steps = c.args.steps.now in
+    let told = c.in-Ok.ensures.explained in
+    let is = ap (λ (s : WorldState). s.opening) w.opened in
+    let whole = subst (λ (z : Opening). IsCatalogue z.catalogue) is w.stands.catalogue in
+    let sizes = subst (λ (z : Opening). AreSizes z.config) is told.stood.config in
+    let reads_off = c.every_schedule.ensures.trace in
+    let settles = c.every_schedule_settles.ensures in
+    let answers = opened_answers m old steps _ w.opened c.in-Ok.ensures.answers in
+    record {
+      answered = told.answered;
+      linearized = steps_linearized c.typable_programs_run.ensures m old _ steps _ w.opened w.stands told;
+      taken = subst (TakesCalls m.config m.catalogue steps) answers (takes_calls reads_off m whole steps);
+      settled = subst (SettlesLast m.config steps) answers (settles_last reads_off m whole settles sizes steps);
+    }

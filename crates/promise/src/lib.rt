@@ -1,0 +1,15 @@
+//! What is promised of programs and of a store, in the fewest definitions: an accepted program reaches its exit, and one list of
+//! operations explains all calls and answers of a store. Who reads `specs/` here, and what it cites, has the whole promise.
+//!
+//! What operations do is a relation (`Operations`): a call is a run of its program, as RFC 9669 has it. `Linearized` is what it is that a list
+//! explains a trace, `Answered` which calls are taken and when all are answered. Neither the verifier's rules nor the parts of a store are cited.
+//!
+//! What this does not say: which programs are accepted or may be installed (`verify` of `verifier`); when any other step is taken, such as
+//! an install, or a call of a program that was installed (`World::step` of `schedule`). A store that takes no install would meet it.
+#![tactic(auto)]
+
+mod programs;
+mod schedules;
+
+pub use programs::accepted_programs_run;
+pub use schedules::run_schedule;
