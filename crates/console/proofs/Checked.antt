@@ -14,11 +14,13 @@ use Rattle.console.specs.CheckLaw.{CheckWrites, IsGoodText, IsRefusedText}
 abbrev FitsBytes : Given → Answer → Type 0
 FitsBytes g a = Fits (IsGoodText g) (IsRefusedText g) a
 
-by_load : (g : Given) → first_stranger g ≡ None → (out : Outcome) → loads g ≡ out → FitsBytes g (good_or_refused (λ c. programs_text c.programs) refusal_text out)
+by_load : (g : Given) → first_stranger g ≡ None → (out : Outcome) → loads g ≡ out
+    → FitsBytes g (good_or_refused (λ c. programs_text c.programs) refusal_text out)
 by_load g none (Ok c) is = inl (refl, (none, c, is, refl))
 by_load g none (Err e) is = inr (refl, inr (none, e, is, refl))
 
-by_stranger : (g : Given) (o : Option (List ℕ × List ℕ)) → first_stranger g ≡ o → FitsBytes g (check_answer (unless_strange o (found g)))
+by_stranger : (g : Given) (o : Option (List ℕ × List ℕ)) → first_stranger g ≡ o
+    → FitsBytes g (check_answer (unless_strange o (found g)))
 by_stranger g None none = by_load g none (loads g) refl
 by_stranger g (Some s) is = inr (refl, inl (s, is, refl))
 

@@ -15,17 +15,20 @@ named_entry None name checked same is = absurd cc
 named_entry (Some e) name checked same is = λ i. Some (record { name = ap (λ o. or o name) (sym same) i; checked = ap (λ o. or o checked) (sym is) i })
 
 -- the number of one map more
-pub map_more : (maps k : ℕ) (start before after : List ℕ) → before ≡ start ++ fields_below k maps → after ≡ before ++ field_of maps k → after ≡ start ++ fields_below (k + 1) maps
+pub map_more : (maps k : ℕ) (start before after : List ℕ) → before ≡ start ++ fields_below k maps
+    → after ≡ before ++ field_of maps k → after ≡ start ++ fields_below (k + 1) maps
 map_more maps k start before after is one =
     let count : suc k ≡ k + 1 = omega arith in
     one ∙ ap (λ t. t ++ field_of maps k) is ∙ append_assoc start (fields_below k maps) (field_of maps k) ∙ ap (λ n. start ++ fields_below n maps) count
 
 -- behind a line stands one more, if there is one
-behind : (line rest before after : List ℕ) (o : Option Entry) → before ≡ line ++ rest → AddsLineAt o before after → (more : List ℕ) × AddsLineAt o rest more × (after ≡ line ++ more)
+behind : (line rest before after : List ℕ) (o : Option Entry) → before ≡ line ++ rest → AddsLineAt o before after
+    → (more : List ℕ) × AddsLineAt o rest more × (after ≡ line ++ more)
 behind line rest before after None is same = (rest, refl, same ∙ is)
 behind line rest before after (Some e) is (l, lines, put) = (rest ++ l, (l, lines, refl), put ∙ ap (λ t. t ++ l) is ∙ append_assoc line rest l)
 
-more : (es : List Entry) (k : ℕ) (before after : List ℕ) → AreMapsLines (take k es) before → AddsLineAt (slice_get es k) before after → AreMapsLines (take (suc k) es) after
+more : (es : List Entry) (k : ℕ) (before after : List ℕ) → AreMapsLines (take k es) before
+    → AddsLineAt (slice_get es k) before after → AreMapsLines (take (suc k) es) after
 more [] zero before after so_far same = same ∙ so_far
 more [] (suc k) before after so_far same = same ∙ so_far
 more (e ∷ es) zero before after so_far (l, is, put) = (l, [], is, refl, put ∙ (ap (λ t. t ++ l) so_far ∙ sym (append-nil l)))
@@ -34,7 +37,8 @@ more (e ∷ es) (suc k) before after (line, rest, is, lines, cut) one =
     (line, b.0, is, more es k rest b.0 lines b.1, b.2)
 
 -- the lines of one program more
-pub lines_more : (es : List Entry) (k : ℕ) (before after : List ℕ) → AreMapsLines (take k es) before → AddsLineAt (slice_get es k) before after → AreMapsLines (take (k + 1) es) after
+pub lines_more : (es : List Entry) (k : ℕ) (before after : List ℕ) → AreMapsLines (take k es) before
+    → AddsLineAt (slice_get es k) before after → AreMapsLines (take (k + 1) es) after
 lines_more es k before after so_far one =
     let count : suc k ≡ k + 1 = omega arith in
     subst (λ n. AreMapsLines (take n es) after) count (more es k before after so_far one)

@@ -1,16 +1,14 @@
 -- The lines of a program behind their columns, one after another.
-use Rattle.std.proofs.Common.{◌≡◌, ℕ, ◌+◌, ◌<◌, List, [], ◌∷◌, ◌++◌, length, get_or, drop, refl, sym, ap, ◌∙◌, append_assoc, arith}
+use Rattle.std.proofs.Common.{◌≡◌, ℕ, ◌+◌, ◌<◌, List, [], ◌∷◌, ◌++◌, length, get_or, drop, sym, ap, ◌∙◌, append_assoc, arith}
 use Rattle.std.proofs.lemmas.List.{append-nil, drop_more, length-append}
 use Rattle.insn.specs.declared.instruction.Form.{Form}
 use Rattle.insn.specs.Layout.{slot_contents, slot_count, layout, size}
 use Rattle.console.specs.AssemblyAnswer.{slot_line, slots_text}
-
-none_left : (p : List Form) → drop (length p) p ≡ []
-none_left [] = refl
-none_left (i ∷ p) = none_left p
+use Rattle.explain.proofs.Export.{none_left}
 
 -- behind the last one all are there
-pub whole : (p : List Form) (k slot : ℕ) (before all : List ℕ) → k ≡ length p → before ++ slots_text slot (drop k p) ≡ all → before ≡ all
+pub whole : (p : List Form) (k slot : ℕ) (before all : List ℕ) → k ≡ length p
+    → before ++ slots_text slot (drop k p) ≡ all → before ≡ all
 unfolding slots_text
 whole p k slot before all end so_far =
     sym (append-nil before) ∙ ap (λ q. before ++ slots_text slot q) (sym (ap (λ n. drop n p) end ∙ none_left p)) ∙ so_far
@@ -23,7 +21,8 @@ module _ (p : List Form) (k : ℕ) (d f : Form) (lt : k < length p) (is : f ≡ 
   counted = ap size here ∙ length-append (slot_contents f) (layout (drop (k + 1) p))
 
   -- one line more
-  pub line_more : (slot : ℕ) (before after all : List ℕ) → before ++ slots_text slot (drop k p) ≡ all → after ≡ before ++ slot_line slot f
+  pub line_more : (slot : ℕ) (before after all : List ℕ) → before ++ slots_text slot (drop k p) ≡ all
+      → after ≡ before ++ slot_line slot f
       → after ++ slots_text (slot + slot_count f) (drop (k + 1) p) ≡ all
   unfolding slots_text
   line_more slot before after all so_far one =

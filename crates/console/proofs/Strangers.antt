@@ -13,7 +13,8 @@ one_added : (old new name : List ℕ) → new ≡ old ++ stranger_line name → 
 one_added old new name is = (name ∷ [], is ∙ ap (λ t. old ++ t) (sym (append-nil (stranger_line name))))
 
 -- if this line is added
-pub line_added : {E : Type 0} (r : Result (Vec ℕ Global) E) (old name : List ℕ) → IfOk r (λ v. v.items ≡ old ++ stranger_line name) → IfOk r (λ v. AddsStrangers old v.items)
+pub line_added : {E : Type 0} (r : Result (Vec ℕ Global) E) (old name : List ℕ)
+    → IfOk r (λ v. v.items ≡ old ++ stranger_line name) → IfOk r (λ v. AddsStrangers old v.items)
 line_added (Ok v) old name is = one_added old v.items name is
 line_added (Err e) old name is = tt
 

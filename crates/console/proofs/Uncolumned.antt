@@ -33,12 +33,14 @@ use Rattle.console.specs.Columns.{without_columns, text_without_columns, SlotsAr
 -- ---- digits
 
 -- what holds of all digits, and of 0, holds of what is looked up
-in_table : (test : ℕ → Bool) (table : List ℕ) (k : ℕ) → test 0 ≡ true → list_all test table ≡ true → test (get_or table k 0) ≡ true
+in_table : (test : ℕ → Bool) (table : List ℕ) (k : ℕ) → test 0 ≡ true → list_all test table ≡ true
+    → test (get_or table k 0) ≡ true
 in_table test [] k none h = none
 in_table test (c ∷ cs) zero none h = (and_parts (test c) (list_all test cs) h).0
 in_table test (c ∷ cs) (suc k) none h = in_table test cs k none (and_parts (test c) (list_all test cs) h).1
 
-hex_all : (test : ℕ → Bool) (bytes : List ℕ) → test 0 ≡ true → list_all test lower_digits ≡ true → list_all test (encode_lower bytes) ≡ true
+hex_all : (test : ℕ → Bool) (bytes : List ℕ) → test 0 ≡ true → list_all test lower_digits ≡ true
+    → list_all test (encode_lower bytes) ≡ true
 unfolding encode_with
 hex_all test [] none h = refl
 hex_all test (b ∷ bytes) none h =
@@ -122,7 +124,8 @@ module _ (slot : ℕ) (i : Form) (lt : slot < 10000) (h : HasEncoding i) where
 abbrev one : List ℕ → List ℕ
 one line = without_columns line ++ codes "\n"
 
-each_line : (slot : ℕ) (p : List Form) → AllByRecursion HasEncoding p → slot + size p ≤ 9999 → flat_map one (lines_of (slots_text slot p)) ≡ text_of p
+each_line : (slot : ℕ) (p : List Form) → AllByRecursion HasEncoding p → slot + size p ≤ 9999
+    → flat_map one (lines_of (slots_text slot p)) ≡ text_of p
 unfolding slots_text text_of
 each_line slot [] h few = refl
 each_line slot (i ∷ p) h few =
@@ -156,6 +159,7 @@ slots_are_columns (Some t) = by (spaced_bytes t.file) refl
         let d = read_is_spelled bytes p are is in
         ap (λ (text : List ℕ). record { text = text; verdict = verdicts.Good }) (each_line 0 p d.each (omega (arith, d.few)))
 
-    by : (o : Option (List ℕ)) → spaced_bytes t.file ≡ o → without (option_map_or (disassembly true) o bad) ≡ option_map_or (disassembly false) o bad
+    by : (o : Option (List ℕ)) → spaced_bytes t.file ≡ o
+        → without (option_map_or (disassembly true) o bad) ≡ option_map_or (disassembly false) o bad
     by None is = refl
     by (Some bytes) is = on bytes (are_bytes bytes (spaced_are_bytes t.file bytes is)) (decoded bytes) refl

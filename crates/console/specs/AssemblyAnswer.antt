@@ -1,7 +1,7 @@
 -- What `asm`, `dis` and `encode` answer, as a function of what was read; and `dis --slots`, where two columns stand before each line: the slot
 -- and the bytes of its instruction.
 use Rattle.std.specs.Option.{option_map_or}
-use Rattle.std.specs.Prelude.{ℕ, Bool, ◌&&◌, ◌+◌, min, List, [], ◌∷◌, ◌++◌, length, drop, codes, decimal, Option, Some, None, if◌then◌else◌}
+use Rattle.std.specs.Prelude.{◌≡◌, ℕ, Bool, ◌&&◌, ◌+◌, min, List, [], ◌∷◌, ◌++◌, length, drop, codes, decimal, Option, Some, None, if◌then◌else◌}
 use Rattle.hex.specs.Hex.{encode_lower}
 use Rattle.insn.specs.declared.instruction.Form.{Form}
 use Rattle.insn.specs.Encoding.{program_bytes}
@@ -14,6 +14,9 @@ use Rattle.asm.specs.Text.{text_of}
 use Rattle.text.specs.Digits.{spaced_bytes}
 use Rattle.encoding.specs.Faults.{refusal_line}
 use Rattle.encoding.specs.Encoded.{encoded_text}
+use Rattle.explain.specs.Assembly.{IsToldOfText}
+use Rattle.engine.specs.declared.replies.Notes.{Notes}
+use Rattle.engine.specs.declared.replies.Telling.TheVariants.{Reasons}
 use Rattle.engine.specs.declared.replies.Verdict.TheVariants as verdicts
 use Rattle.engine.specs.Reading.{TextsRead}
 use Rattle.engine.specs.Answer.{Answer, not_text}
@@ -39,6 +42,14 @@ asm_answer (Some t) = program_answer t.file
 -- what is written, and the line that goes elsewhere, where that is asked for: a program's, and no refusal
 abbrev pub asm_parted : Bool → Option TextsRead → PartedAnswer
 asm_parted is_elsewhere t = if is_elsewhere && is_good (asm_answer t).verdict then apart (asm_answer t) else whole (asm_answer t)
+
+-- with `--explain` it tells beside its answer what `explain_assembly` tells of the text, and nothing where there is no text
+abbrev pub TellsOfText : List ℕ → Notes → Notes → Type 0
+TellsOfText source old new = old.telling ≡ Reasons → IsToldOfText source (assembled source) new.text.items
+
+abbrev pub AsmTells : Option TextsRead → Notes → Notes → Type 0
+AsmTells None old new = new ≡ old
+AsmTells (Some t) old new = TellsOfText t.file old new
 
 -- ---- `dis`
 

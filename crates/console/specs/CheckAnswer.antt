@@ -1,5 +1,6 @@
 -- What `check` and `explain` answer, as a function of the manifest and of the files that were read.
 use Rattle.std.specs.Prelude.{◌≡◌, ℕ, Bool, true, false, List, [], ◌++◌, codes, Option, Some, None, IfSome, Result, Ok, Err}
+use Rattle.explain.specs.Graph.{DrawsManifest}
 use Rattle.explain.specs.Manifest.{has_program, no_program, TellsOfManifest}
 use Rattle.engine.specs.declared.replies.Verdict.{Verdict}
 use Rattle.engine.specs.declared.replies.Verdict.TheVariants as verdicts
@@ -49,10 +50,13 @@ abbrev pub remark_of : Verdict → List ℕ → List ℕ
 remark_of verdicts.Refused text = codes "// " ++ text
 remark_of verdict text = []
 
--- `explain --graph`: what is no text is not drawn, and `check` answers that. Else the verdict is that of `check`, and its refusal comes before what is
--- drawn. The words of the drawing aren't defined
-abbrev pub IsGraph : Option TextsRead → Answer → Type 0
-IsGraph None a = a ≡ not_text
-IsGraph (Some t) a =
+-- the graph of the programs of what was read, or of the one of this name
+abbrev pub Draws : Option (List ℕ) → TextsRead → List ℕ → Type 0
+Draws name t text = DrawsManifest (limits_of t.sizes) t.files name t.manifest text
+
+-- `explain --graph`: what is no text is not drawn, and `check` answers that. Else the verdict is that of `check`, and its refusal comes before the graph
+abbrev pub IsGraph : Option (List ℕ) → Option TextsRead → Answer → Type 0
+IsGraph name None a = a ≡ not_text
+IsGraph name (Some t) a =
     let checked = check_answer (Some t) in
-    (a.verdict ≡ checked.verdict) × (drawn : List ℕ) × (a.text ≡ remark_of checked.verdict checked.text ++ drawn)
+    (a.verdict ≡ checked.verdict) × (drawn : List ℕ) × (a.text ≡ remark_of checked.verdict checked.text ++ drawn) × Draws name t drawn

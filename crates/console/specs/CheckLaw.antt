@@ -21,5 +21,6 @@ IsRefusedText g text = IsNotText g text ⊎ IsManifestRefused g text
 -- whatever there is to read, `check` adds such a text to what a writer held
 abbrev pub CheckWrites : Type 0
 CheckWrites =
-    (g : Given) (old new : List ℕ) (status : Status) → ReportsRead answer_of (λ t r. answer_of r ≡ check_answer t) Some old new status g
+    (g : Given) (old new : List ℕ) (status : Status)
+    → ReportsRead answer_of (λ t r. answer_of r ≡ check_answer t) Some old new status g
     → (text : List ℕ) × (new ≡ old ++ text) × IsWritten (IsGoodText g) (IsRefusedText g) text status

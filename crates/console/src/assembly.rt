@@ -3,7 +3,7 @@
 ghost use Rattle.std.specs.Prelude.{◌≡◌, ◌≤◌, ◌++◌, IfOk, OnOk};
 ghost use Rattle.insn.specs.declared.instruction.TheConstants.{MAX_SLOTS};
 ghost use Rattle.insn.specs.Layout.{size};
-ghost use Rattle.console.specs.AssemblyAnswer.{asm_parted, calls_answer, dis_answer, encode_parted, hex_text, program_answer, slot_column, slot_line, slots_text};
+ghost use Rattle.console.specs.AssemblyAnswer.{AsmTells, TellsOfText, asm_parted, calls_answer, dis_answer, encode_parted, hex_text, program_answer, slot_column, slot_line, slots_text};
 ghost use Rattle.engine.specs.Notes.{IsQuiet};
 ghost use Rattle.engine.specs.Parted.{parted_of};
 ghost use Rattle.engine.specs.Report.{answer_of};
@@ -57,6 +57,7 @@ fn hex_text(alloc: Global, program: &[Insn]) -> Result<Vec<u8>, AllocError>
 
 // Tells what is wanted in a text that is refused, where that is to be told; of a program nothing.
 fn tell_wanted(alloc: Global, source: &str, notes: &mut Notes) -> Result<(), AllocError>
+    ensures told { OnOk result (TellsOfText source.now notes.old notes.new) }
     ensures quiet { IsQuiet notes.old notes.new }
 {
     if let Telling::Reasons = notes.telling {
@@ -89,6 +90,8 @@ impl Command for Assemble {
     type Made = Parted;
 
     ghost may_make = { λ c t p. parted_of p ≡ asm_parted c.is_elsewhere t };
+
+    ghost may_tell = { λ _ t old new. AsmTells t old new };
 
     fn make(&self, alloc: Global, read: Gathered, notes: &mut Notes) -> Result<Parted, AllocError> {
         let Ok(texts) = read else {

@@ -1,15 +1,15 @@
 // The commands of a manifest: `check`, and `explain` in words or as a graph.
 
 ghost use Rattle.std.specs.Prelude.{◌≡◌, option_map, IfOk};
-ghost use Rattle.console.specs.CheckAnswer.{IsChecked, IsExplanation, IsGraph, IsTold, check_answer, remark_of};
-ghost use Rattle.engine.specs.Reading.{texts_in};
+ghost use Rattle.console.specs.CheckAnswer.{Draws, IsChecked, IsExplanation, IsGraph, IsTold, check_answer, remark_of};
+ghost use Rattle.engine.specs.Reading.{texts_in, texts_read};
 ghost use Rattle.engine.specs.Report.{answer_of};
 
 use crate::map_lines::maps_checked;
 use engine::texts::programs_text;
 use engine::{
-    Command, Folder, Gathered, Loaded, Notes, ReadFault, Reply, Source, Stranger, Verdict, lent,
-    load_texts, not_text,
+    Command, Folder, Gathered, Loaded, Notes, ReadFault, Reply, Source, Stranger, Texts, Verdict,
+    lent, load_texts, not_text,
 };
 use explain::{explain_manifest, explain_stranger, graph_manifest};
 use loader::named_files;
@@ -166,20 +166,31 @@ fn remark(alloc: Global, checked: &Reply) -> Result<Vec<u8>, AllocError>
     Ok(text)
 }
 
+impl Draw<'_> {
+    // What is drawn of texts.
+    fn drawn(&self, alloc: Global, texts: &Texts) -> Result<Vec<u8>, AllocError>
+        ensures { IfOk result (λ v. Draws (option_map (λ n. n.now) self.now.name) (texts_read texts.now) v.items) }
+    {
+        let files = lent(alloc, &texts.files)?;
+        let limits = texts.sizes.limits();
+        let graph = graph_manifest(alloc, &limits, texts.manifest.as_str(), self.name, &files)?;
+        Ok(graph.into_bytes())
+    }
+}
+
 impl Command for Draw<'_> {
     type Made = Reply;
 
-    ghost may_make = { λ _ t r. IsGraph t (answer_of r) };
+    ghost may_make = { λ c t r. IsGraph (option_map (λ n. n.now) c.name) t (answer_of r) };
 
     fn make(&self, alloc: Global, read: Gathered, _notes: &mut Notes) -> Result<Reply, AllocError> {
         let checked = checked(alloc, &read)?;
         let Ok(texts) = &read else {
             return Ok(checked);
         };
-        let files = lent(alloc, &texts.files)?;
-        let graph = graph_manifest(alloc, texts.manifest.as_str(), &files, self.name)?;
+        let drawn = self.drawn(alloc, texts)?;
         let mut text = remark(alloc, &checked)?;
-        text.extend_from_slice(graph.as_str().as_bytes())?;
+        text.extend_from_slice(&drawn)?;
         let verdict = checked.verdict;
         Ok(Reply { text, verdict })
     }

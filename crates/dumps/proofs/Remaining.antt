@@ -117,6 +117,12 @@ pub row_read : (all t u x a b d e : List ℕ) → all ≡ t ++ (a ++ d) → a �
 row_read all t u x a b d e before row written same =
     before ∙ ap (λ y. t ++ (y ++ d)) row ∙ ap (λ y. t ++ y) (append_assoc x b d) ∙ sym (append_assoc t x (b ++ d)) ∙ ap₂ (λ y z. y ++ (b ++ z)) (sym written) (sym same)
 
+-- what is the same from one place on, is the same from a later one on
+pub later_same : (n m : ℕ) (xs ys : List ℕ) → n ≤ m → drop n xs ≡ drop n ys → drop m xs ≡ drop m ys
+later_same n m xs ys low same =
+    let e : m ≡ n + (m - n) = omega (arith, low) in
+    ap (λ k. drop k xs) e ∙ sym (drop-drop (m - n) n xs) ∙ ap (drop (m - n)) same ∙ drop-drop (m - n) n ys ∙ ap (λ k. drop k ys) (sym e)
+
 -- bytes of lines that were written
 pub part_is : (t o piece lines : List ℕ) (byte count : ℕ) → t ≡ o ++ piece → piece ≡ take count (drop byte lines) → t ++ drop (byte + count) lines ≡ o ++ drop byte lines
 part_is t o piece lines byte count written is =

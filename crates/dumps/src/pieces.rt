@@ -24,6 +24,7 @@ fn put(room: &mut [u8], at: usize, bytes: &[u8]) -> usize
     requires room { at + length bytes.now ≤ length room.old }
     ensures end { result ≡ at + length bytes.now }
     ensures put { take result room.new ≡ take at room.old ++ bytes.now }
+    ensures rest { drop result room.new ≡ drop result room.old }
 {
     let end = at + bytes.len();
     room[at..end].copy_from_slice(bytes);
@@ -35,6 +36,7 @@ fn put_hex(room: &mut [u8], at: usize, bytes: &[u8]) -> usize
     requires room { at + 2 * length bytes.now ≤ length room.old }
     ensures end { result ≡ at + 2 * length bytes.now }
     ensures put { take result room.new ≡ take at room.old ++ encode_lower bytes.now }
+    ensures rest { drop result room.new ≡ drop result room.old }
 {
     let end = at + 2 * bytes.len();
     let _written = hex::encode_to_slice(bytes, &mut room[at..end]);
@@ -48,6 +50,7 @@ fn put_line(room: &mut [u8], at: usize, map: u64, key: &[u8], value: &[u8]) -> u
     requires value { length value.now ≤ 16384 }
     ensures within { (at < result) × (result ≤ length room.old) }
     ensures put { take result room.new ≡ take at room.old ++ (entry_text (entry_line map (key.now, value.now)) ++ codes "\n") }
+    ensures rest { drop result room.new ≡ drop result room.old }
 {
     let mut digits = Buffer::new();
     let number = put(room, at, digits.format(map).as_bytes());
@@ -65,6 +68,7 @@ fn put_place(room: &mut [u8], at: usize, maps: &MapSet, m: usize, place: u32) ->
     requires shapes { AreShapesSupported (stored_shapes maps.now) }
     ensures within { (at ≤ result) × (result ≤ length room.old) }
     ensures put { take result room.new ≡ take at room.old ++ row_text maps.now m place }
+    ensures rest { drop result room.new ≡ drop result room.old }
 {
     let mut key = [0u8; KEY_ROOM];
     let Some(size) = read_key(maps, m, place, &mut key) else {
@@ -132,6 +136,7 @@ fn put_part(room: &mut [u8], at: usize, lines: &[u8], next: &mut Next) -> usize
     requires byte { next.old.byte ≤ length lines.now }
     ensures part { take result room.new ++ drop next.new.byte lines.now ≡ take at room.old ++ drop next.old.byte lines.now }
     ensures bound { (at ≤ result) × (result ≤ length room.old) }
+    ensures rest { drop result room.new ≡ drop result room.old }
     ensures end { result ≡ at → at < length room.old → drop next.old.byte lines.now ≡ [] }
     ensures byte { next.new.byte ≤ length lines.now }
     ensures same { (next.new.map ≡ next.old.map) × (next.new.row ≡ next.old.row) }
@@ -157,6 +162,7 @@ fn read_next(
     ensures read { Gives maps.now (rows_of tables.now.items) lines.now next.old next.new (take result room.new) }
     ensures end { result ≡ 0 → left_text maps.now (rows_of tables.now.items) lines.now next.old ≡ [] }
     ensures bound { result ≤ length room.new }
+    ensures rest { drop result room.new ≡ drop result room.old }
     ensures byte { next.new.byte ≤ length lines.now }
 {
     let mut at = 0;
@@ -230,12 +236,13 @@ impl<'a> Model for Pieces<'a> {
 }
 
 impl<'a> Pieces<'a> {
-    /// Writes the next bytes of the text to the front of room, and says how many: none only at the end.
+    /// Writes the next bytes of the text to the front of room, and says how many: none only at the end. The bytes after them stay.
     pub fn read(&mut self, room: &mut [u8]) -> usize
         requires room { DUMP_LINE_BYTES ≤ length room.old }
         ensures read { self.old ≡ take result room.new ++ self.new }
         ensures end { result ≡ 0 → self.old ≡ [] }
         ensures bound { result ≤ length room.new }
+        ensures rest { drop result room.new ≡ drop result room.old }
     {
         let Left { tables, lines, .. } = self.left;
         read_next(self.maps, tables, lines, &mut self.next, room)
@@ -338,13 +345,14 @@ impl StateText {
         }
     }
 
-    /// Writes the next bytes of the text to the front of room, and says how many: none only at the end.
+    /// Writes the next bytes of the text to the front of room, and says how many: none only at the end. The bytes after them stay.
     pub fn read(&mut self, room: &mut [u8]) -> usize
         requires room { DUMP_LINE_BYTES ≤ length room.old }
         ensures state { self.new.state ≡ self.old.state }
         ensures read { self.old.left ≡ take result room.new ++ self.new.left }
         ensures end { result ≡ 0 → self.old.left ≡ [] }
         ensures bound { result ≤ length room.new }
+        ensures rest { drop result room.new ≡ drop result room.old }
     {
         let left = &mut self.left;
         read_next(&self.maps, &left.tables, &left.lines, &mut left.next, room)

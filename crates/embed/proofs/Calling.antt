@@ -27,7 +27,8 @@ module _ {M : Type 1} {𝓤 : Ura M} (𝓛 : Logic 𝓤) where
     G = triple_of 𝓛 (of_unit os Ps ks).signature (closing 𝓛 (of_unit os Ps ks) c)
 
     -- at the end of a walk: the tokens, the last values and the `ensures`
-    pub ends : (y : G.Ghost) (ws : Fins y.0.0 Ps ks y.0.3) → ent 𝓤 (sep 𝓤 (toks 𝓛 n y.0.0 y.0.1) (sep 𝓤 (sem 𝓛 (lasts_of y.0.0 Ps ks y.0.3 ws)) ((c y.0.0 y.0.3).ensures y.1 tt (outs y.0.0 Ps ks y.0.3 ws)))) (G.post y vunit)
+    pub ends : (y : G.Ghost) (ws : Fins y.0.0 Ps ks y.0.3)
+        → ent 𝓤 (sep 𝓤 (toks 𝓛 n y.0.0 y.0.1) (sep 𝓤 (sem 𝓛 (lasts_of y.0.0 Ps ks y.0.3 ws)) ((c y.0.0 y.0.3).ensures y.1 tt (outs y.0.0 Ps ks y.0.3 ws)))) (G.post y vunit)
     ends y ws =
         let A = toks 𝓛 n y.0.0 y.0.1 in let B = λ (u : Unit {0}). sep 𝓤 A (sem 𝓛 (unit.own_val u (vunit ∷ []))) in
         let L = λ (u : Unit {0}) (ws' : Fins y.0.0 Ps ks y.0.3). sep 𝓤 (sem 𝓛 (lasts_of y.0.0 Ps ks y.0.3 ws')) ((c y.0.0 y.0.3).ensures y.1 u (outs y.0.0 Ps ks y.0.3 ws')) in
@@ -35,7 +36,8 @@ module _ {M : Type 1} {𝓤 : Ura M} (𝓛 : Logic 𝓤) where
         feq_i ! _ (vunit ∷ []) _ refl $ move ! (1 ∷ 0 ∷ []) $ join ! $ frame ! $ show ! (L tt) ws $ done !
 
     -- the same, where nothing is said of last values
-    pub ends_plain : (y : G.Ghost) (ws : Fins y.0.0 Ps ks y.0.3) → Pure (lasts_of y.0.0 Ps ks y.0.3 ws) → shadow (lasts_of y.0.0 Ps ks y.0.3 ws)
+    pub ends_plain : (y : G.Ghost) (ws : Fins y.0.0 Ps ks y.0.3) → Pure (lasts_of y.0.0 Ps ks y.0.3 ws)
+        → shadow (lasts_of y.0.0 Ps ks y.0.3 ws)
         → ent 𝓤 (sep 𝓤 (toks 𝓛 n y.0.0 y.0.1) ((c y.0.0 y.0.3).ensures y.1 tt (outs y.0.0 Ps ks y.0.3 ws))) (G.post y vunit)
     ends_plain y ws pure is = qed 𝓛 (raw (toks 𝓛 n y.0.0 y.0.1) ∷ raw ((c y.0.0 y.0.3).ensures y.1 tt (outs y.0.0 Ps ks y.0.3 ws)) ∷ []) ∵ suffices ! _ (ends y ws) $ frame ! $ pure_i ! _ pure is $ done !
 
@@ -44,8 +46,10 @@ module _ {M : Type 1} {𝓤 : Ura M} (𝓛 : Logic 𝓤) where
     F = triple_of 𝓛 S.signature (closing 𝓛 S c)
 
     -- a function meets its contract, from its run at the machine values that the types of its parameters tell
-    pub meets : (𝓜 : Model 𝓤 𝓛.H) (𝓡 : Running 𝓤 𝓛.H 𝓜) (name : Callee) (f : Fn) → Closed 𝓤 𝓛.H (tables 𝓤 𝓛.H 𝓜 𝓡 𝓡.env).C (tables 𝓤 𝓛.H 𝓜 𝓡 𝓡.env).Λ name f
-        → (sp : (κs : Lfts S.signature.lifetimes) → Spells (types_at S.signature.params κs)) → ((κs : Lfts S.signature.lifetimes) → Tellss (types_at S.signature.params κs) (Ises (types_at S.signature.params κs)) (sp κs))
+    pub meets : (𝓜 : Model 𝓤 𝓛.H) (𝓡 : Running 𝓤 𝓛.H 𝓜) (name : Callee) (f : Fn)
+        → Closed 𝓤 𝓛.H (tables 𝓤 𝓛.H 𝓜 𝓡 𝓡.env).C (tables 𝓤 𝓛.H 𝓜 𝓡 𝓡.env).Λ name f
+        → (sp : (κs : Lfts S.signature.lifetimes) → Spells (types_at S.signature.params κs))
+        → ((κs : Lfts S.signature.lifetimes) → Tellss (types_at S.signature.params κs) (Ises (types_at S.signature.params κs)) (sp κs))
         → ((κs : Lfts S.signature.lifetimes) (qs : Shares S.signature.lifetimes) (bounds : AllOutlive S.signature.lifetimes S.signature.outlives κs) (a : Args S.signature κs) (g : (c κs a).ghost)
         → Are (types_at S.signature.params κs) (Ises (types_at S.signature.params κs)) a (valss (types_at S.signature.params κs) (sp κs) a)
         → ent 𝓤 (sep 𝓤 (on_entry 𝓛 S.signature κs qs a (valss (types_at S.signature.params κs) (sp κs) a)) ((c κs a).requires g))
@@ -63,15 +67,18 @@ module _ {M : Type 1} {𝓤 : Ura M} (𝓛 : Logic 𝓤) where
 
 module _ {M : Type 1} {𝓤 : Ura M} {𝓛 : Logic 𝓤} {K : Type 0} {Γ : List (Item 𝓤)} where
   -- what the callee asks is at the head, and what it gives is there afterwards
-  pub hands : K → {run : Fun 𝓤} {Q : Val → SProp 𝓤} → FmF 𝓤 run → (c : Contract 𝓤) (z : c.Ghost) → ent 𝓤 (c.pre z) (run (c.args z) (c.post z))
-      → ((v : Val) → Seq K 𝓛 (raw (c.post z v) ∷ Γ) (prop (Q v))) → Seq K 𝓛 (raw (c.pre z) ∷ Γ) (prop (run (c.args z) Q))
+  pub hands : K → {run : Fun 𝓤} {Q : Val → SProp 𝓤} → FmF 𝓤 run → (c : Contract 𝓤) (z : c.Ghost)
+      → ent 𝓤 (c.pre z) (run (c.args z) (c.post z))
+      → ((v : Val) → Seq K 𝓛 (raw (c.post z v) ∷ Γ) (prop (Q v)))
+      → Seq K 𝓛 (raw (c.pre z) ∷ Γ) (prop (run (c.args z) Q))
   hands t {run} {Q} fm c z met k = record {
     prf = via 𝓤 (sep 𝓤 (c.pre z) (⋆ 𝓛 Γ)) (pop 𝓛 (raw (c.pre z)) Γ) (via 𝓤 (sep 𝓤 (run (c.args z) (c.post z)) (⋆ 𝓛 Γ)) (mono_l 𝓤 (⋆ 𝓛 Γ) met)
         (fm (c.args z) (c.post z) Q (⋆ 𝓛 Γ) (λ v. via 𝓤 (⋆ 𝓛 (raw (c.post z v) ∷ Γ)) (push 𝓛 (raw (c.post z v)) Γ) (k v).prf)));
   }
 
   -- one call, which returns `()`
-  pub calls : K → {C : Calls 𝓤 𝓛.H} {Λ : Loops 𝓤 𝓛.H} {E : Env 𝓤 𝓛.H} {callee : Callee} {xs : List Opd} {d : Place} {rest : Body} {q : Post 𝓤 𝓛.H} → FmC 𝓤 𝓛.H 𝓛.laws C → (vs : List Val) (Q : Val → SProp 𝓤)
+  pub calls : K
+      → {C : Calls 𝓤 𝓛.H} {Λ : Loops 𝓤 𝓛.H} {E : Env 𝓤 𝓛.H} {callee : Callee} {xs : List Opd} {d : Place} {rest : Body} {q : Post 𝓤 𝓛.H} → FmC 𝓤 𝓛.H 𝓛.laws C → (vs : List Val) (Q : Val → SProp 𝓤)
       → Opds K 𝓛 (raw (C callee vs (unit_then 𝓛 Q)) ∷ Γ) E xs vs
       → Step K 𝓛 (raw (Q vunit) ∷ Γ) (lands C Λ E d vunit rest q) (raw (C callee vs (unit_then 𝓛 Q)) ∷ Γ) (runs C Λ E (seq (call callee xs d) rest) q)
   calls t {C} {Λ} {E} {callee} {xs} {d} {rest} {q} fm vs Q os = step (λ s. calls_from t fm (raw (C callee vs (unit_then 𝓛 Q))) vs (unit_then 𝓛 Q) (id⊢ 𝓤 _) os (λ v.
@@ -79,7 +86,8 @@ module _ {M : Type 1} {𝓤 : Ura M} {𝓛 : Logic 𝓤} {K : Type 0} {Γ : List
       subst (λ (u : Val). Seq K 𝓛 (raw (Q vunit) ∷ Γ) (lands C Λ E d u rest q)) (sym (ap only is_unit)) s)))
 
   -- one call, whose result is written
-  pub calls_for : K → {C : Calls 𝓤 𝓛.H} {Λ : Loops 𝓤 𝓛.H} {E : Env 𝓤 𝓛.H} {callee : Callee} {xs : List Opd} {d : Place} {rest : Body} {q : Post 𝓤 𝓛.H} → FmC 𝓤 𝓛.H 𝓛.laws C → (vs : List Val) (τ : Ty) (b o : ℕ) (Q : Val → SProp 𝓤)
+  pub calls_for : K
+      → {C : Calls 𝓤 𝓛.H} {Λ : Loops 𝓤 𝓛.H} {E : Env 𝓤 𝓛.H} {callee : Callee} {xs : List Opd} {d : Place} {rest : Body} {q : Post 𝓤 𝓛.H} → FmC 𝓤 𝓛.H 𝓛.laws C → (vs : List Val) (τ : Ty) (b o : ℕ) (Q : Val → SProp 𝓤)
       → Opds K 𝓛 (raw (C callee vs (written_then 𝓛 τ b o Q)) ∷ Γ) E xs vs
       → ((v : Val) → T (has_ty τ v) × WT v → Seq K 𝓛 (‵ (froom τ b o) ∷ raw (wand 𝓤 (𝓛.H.at full_share τ b o v) (Q vunit)) ∷ Γ) (lands C Λ E d v rest q))
       → Seq K 𝓛 (raw (C callee vs (written_then 𝓛 τ b o Q)) ∷ Γ) (runs C Λ E (seq (call callee xs d) rest) q)
@@ -87,7 +95,8 @@ module _ {M : Type 1} {𝓤 : Ura M} {𝓛 : Logic 𝓤} {K : Type 0} {Γ : List
       use1 𝓛 (later (raw (fact 𝓤 (T (has_ty τ v) × WT v)) ⊛ (‵ (froom τ b o) ⊛ raw (wand 𝓤 (𝓛.H.at full_share τ b o v) (Q vunit))))) (id⊢ 𝓤 _) $ await t tt $ split t $ heard t _ (λ typed. split t $ k v typed))
 
   -- the result has been written
-  pub written : K → {G : Goal 𝓤 𝓛.H} (τ : Ty) (b o : ℕ) (v : Val) (Q : Val → SProp 𝓤) → Step K 𝓛 (raw (Q vunit) ∷ Γ) G (‵ (fat full_share τ b o v) ∷ raw (wand 𝓤 (𝓛.H.at full_share τ b o v) (Q vunit)) ∷ Γ) G
+  pub written : K → {G : Goal 𝓤 𝓛.H} (τ : Ty) (b o : ℕ) (v : Val) (Q : Val → SProp 𝓤)
+      → Step K 𝓛 (raw (Q vunit) ∷ Γ) G (‵ (fat full_share τ b o v) ∷ raw (wand 𝓤 (𝓛.H.at full_share τ b o v) (Q vunit)) ∷ Γ) G
   written t τ b o v Q = use2 𝓛 (raw (Q vunit)) (apply∗ 𝓤 (𝓛.H.at full_share τ b o v) (Q vunit))
 
 module _ {M : Type 1} {𝓤 : Ura M} (𝓛 : Logic 𝓤) (𝓜 : Model 𝓤 𝓛.H) (𝓡 : Running 𝓤 𝓛.H 𝓜) where

@@ -17,7 +17,8 @@ module _ {M : Type 1} {𝓤 : Ura M} {𝓛 : Logic 𝓤} {K : Type 0} {Γ : List
       (lends_ref 𝓛 R (named ℓ) (α ∷ []) value b o) $ await t a $ pick t (λ γ. split t $ k α γ))
 
   -- machine values that a value owns are of its type's
-  pub is_typed : K → (R : RattleType) → Lawful 𝓛 R → (h : R.Denot) (vs : List Val) → (Typed R.mir vs → Seq K 𝓛 (‵ (R.own_val h vs) ∷ Γ) G) → Seq K 𝓛 (‵ (R.own_val h vs) ∷ Γ) G
+  pub is_typed : K → (R : RattleType) → Lawful 𝓛 R → (h : R.Denot) (vs : List Val)
+      → (Typed R.mir vs → Seq K 𝓛 (‵ (R.own_val h vs) ∷ Γ) G) → Seq K 𝓛 (‵ (R.own_val h vs) ∷ Γ) G
   is_typed t R law h vs k = peeks t R (Is R) (shows 𝓛 R) h vs (λ is. k (law.typed h vs is))
 
 -- the parameters after the first one
@@ -36,7 +37,8 @@ module _ {n : ℕ} (os : List (Outlives n)) (Ps : List (Slot n)) (ks : Kepts Ps)
     Told = (κs : Lfts n) → Denots (types_at Ps κs) → Outs κs Ps ks → R.Denot → R.Denot → Type 0
 
     -- the function is given a value that is at its pointer, and leaves this there
-    abbrev pub leaves : ((κs : Lfts n) → Denots (types_at Ps κs) → Outs κs Ps ks → Ptr → R.Denot → SProp 𝓤) → Clauses 𝓤 of_pointer
+    abbrev pub leaves : ((κs : Lfts n) → Denots (types_at Ps κs) → Outs κs Ps ks → Ptr → R.Denot → SProp 𝓤)
+        → Clauses 𝓤 of_pointer
     leaves P κs a = record { ghost = R.Denot; requires = λ value. sem 𝓛 (lies_at R full_share a.0 value); ensures = λ value r e. P κs a.1 e.1 a.0 value }
 
     -- a value lies there of which this is told
@@ -112,10 +114,6 @@ module _ {M : Type 1} {𝓤 : Ura M} (𝓛 : Logic 𝓤) (R : RattleType) (𝓜 
       sets ! (of_opd ! (get ! refl)) refl (tt, tt) $ sets ! (addr ! (through ! refl (stop !))) refl (tt, tt) $ calls ! (framed 𝓤 𝓛.H 𝓜 (tables 𝓤 𝓛.H 𝓜 𝓡 𝓡.env)) (vptr b o ∷ []) Q (and_then ! (get ! refl) (no_more !)) $
       lands_as ! refl refl (tt, tt) $ sets ! (of_opd ! (unit_lit !)) refl (tt, tt) $ returns ! (look_at ! 0 refl) $ free_all ! refl $ done !)
 
-  -- `lends` and `goes_on` of a function that passes nothing on
-  pub lends_alone : (P : Ptr → R.Denot → SProp 𝓤) → ((b o : ℕ) (value last : R.Denot) → told value last → ent 𝓤 (sem 𝓛 (lies_at R full_share (block_ptr b o) last)) (P (block_ptr b o) value))
-      → Meets 𝓛 (of_pointer {n = 0} [] [] tt).signature ((tables 𝓤 𝓛.H 𝓜 𝓡 𝓡.env).C name) (closing 𝓛 (of_pointer {n = 0} [] [] tt) (leaves {n = 0} [] [] tt 𝓛 R (λ κs a e. P)))
-  lends_alone P back = lends {n = 0} [] [] tt 𝓛 R 𝓜 𝓡 (λ κs a e. told) name callee (lending R callee) closed met (λ κs. tt) (λ κs. tt) (λ κs a are. forwards_alone) (λ κs a e. P) (λ κs a e. back)
-
+  -- `goes_on` of a function that passes nothing on
   pub goes_on_alone : Meets 𝓛 (of_pointer {n = 0} [] [] tt).signature ((tables 𝓤 𝓛.H 𝓜 𝓡 𝓡.env).C name) (closing 𝓛 (of_pointer {n = 0} [] [] tt) (leaves {n = 0} [] [] tt 𝓛 R (told_there {n = 0} [] [] tt 𝓛 R (λ κs a e. told))))
   goes_on_alone = goes_on {n = 0} [] [] tt 𝓛 R 𝓜 𝓡 (λ κs a e. told) name callee (lending R callee) closed met (λ κs. tt) (λ κs. tt) (λ κs a are. forwards_alone)

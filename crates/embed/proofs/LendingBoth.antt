@@ -33,16 +33,19 @@ module _ {M : Type 1} {𝓤 : Ura M} (𝓛 : Logic 𝓤) (S R : RattleType) wher
       ex 𝓤 (λ (x : S.Denot). ex 𝓤 (λ (left : R.Denot). sep 𝓤 (sem 𝓛 (lies_at S full_share first x)) (sep 𝓤 (sem 𝓛 (lies_at R full_share second left)) (fact 𝓤 (told both.0 x both.1 left)))))
 
   -- the function is given a value that is at the first pointer, and this, which has the one at the second
-  abbrev pub leaves_both : (Ptr → S.Denot × R.Denot → SProp 𝓤) → (S.Denot → S.Denot → R.Denot → R.Denot → Type 0) → Clauses 𝓤 of_pointers
+  abbrev pub leaves_both : (Ptr → S.Denot × R.Denot → SProp 𝓤) → (S.Denot → S.Denot → R.Denot → R.Denot → Type 0)
+      → Clauses 𝓤 of_pointers
   leaves_both asked told κs a = record { ghost = S.Denot × R.Denot; requires = λ both. sep 𝓤 (sem 𝓛 (lies_at S full_share a.0 both.0)) (asked a.1.0 both); ensures = λ both r e. both_there told a.0 a.1.0 both }
 
   -- the call asks this of both values, and says this of them and of their last ones
-  abbrev pub tells_both : (S.Denot → R.Denot → SProp 𝓤) → (S.Denot → S.Denot → R.Denot → R.Denot → Type 0) → Clauses 𝓤 (of_loans S R)
+  abbrev pub tells_both : (S.Denot → R.Denot → SProp 𝓤) → (S.Denot → S.Denot → R.Denot → R.Denot → Type 0)
+      → Clauses 𝓤 (of_loans S R)
   tells_both needs told κs a = record { ghost = Unit {0}; requires = λ g. needs a.0.now a.1.0.now; ensures = λ g r e. fact 𝓤 (told a.0.now e.0.now a.1.0.now e.1.0.now) }
 
   module _ (𝓜 : Model 𝓤 𝓛.H) (𝓡 : Running 𝓤 𝓛.H 𝓜) (told : S.Denot → S.Denot → R.Denot → R.Denot → Type 0) (name callee : Callee)
       (closed : Closed 𝓤 𝓛.H (tables 𝓤 𝓛.H 𝓜 𝓡 𝓡.env).C (tables 𝓤 𝓛.H 𝓜 𝓡 𝓡.env).Λ name (lending_both S R callee)) where
-    lends_for : (asked : Ptr → S.Denot × R.Denot → SProp 𝓤) (needs : S.Denot → R.Denot → SProp 𝓤) → ((at : Ptr) (both : S.Denot × R.Denot) → ent 𝓤 (asked at both) (sep 𝓤 (sem 𝓛 (lies_at R full_share at both.1)) (needs both.0 both.1)))
+    lends_for : (asked : Ptr → S.Denot × R.Denot → SProp 𝓤) (needs : S.Denot → R.Denot → SProp 𝓤)
+        → ((at : Ptr) (both : S.Denot × R.Denot) → ent 𝓤 (asked at both) (sep 𝓤 (sem 𝓛 (lies_at R full_share at both.1)) (needs both.0 both.1)))
         → Meets 𝓛 (of_loans S R).signature ((tables 𝓤 𝓛.H 𝓜 𝓡 𝓡.env).C callee) (closing 𝓛 (of_loans S R) (tells_both needs told))
         → Meets 𝓛 of_pointers.signature ((tables 𝓤 𝓛.H 𝓜 𝓡 𝓡.env).C name) (closing 𝓛 of_pointers (leaves_both asked told))
     lends_for asked needs asks met =
@@ -90,6 +93,7 @@ module _ {M : Type 1} {𝓤 : Ura M} (𝓛 : Logic 𝓤) (S R : RattleType) wher
     lends_both = lends_for (λ at both. sem 𝓛 (lies_at R full_share at both.1)) (λ x left. emp 𝓤) (λ at both. via 𝓤 (sep 𝓤 (emp 𝓤) (sem 𝓛 (lies_at R full_share at both.1))) (emp∗ 𝓤 _) (comm∗ 𝓤 (emp 𝓤) (sem 𝓛 (lies_at R full_share at both.1))))
 
     -- the call asks that this is so of both
-    pub lends_own : (own : S.Denot → R.Denot → Type 0) → Meets 𝓛 (of_loans S R).signature ((tables 𝓤 𝓛.H 𝓜 𝓡 𝓡.env).C callee) (closing 𝓛 (of_loans S R) (tells_both (λ x left. fact 𝓤 (own x left)) told))
+    pub lends_own : (own : S.Denot → R.Denot → Type 0)
+        → Meets 𝓛 (of_loans S R).signature ((tables 𝓤 𝓛.H 𝓜 𝓡 𝓡.env).C callee) (closing 𝓛 (of_loans S R) (tells_both (λ x left. fact 𝓤 (own x left)) told))
         → Meets 𝓛 of_pointers.signature ((tables 𝓤 𝓛.H 𝓜 𝓡 𝓡.env).C name) (closing 𝓛 of_pointers (leaves_both (λ at both. sep 𝓤 (sem 𝓛 (lies_at R full_share at both.1)) (fact 𝓤 (own both.0 both.1))) told))
     lends_own own = lends_for (λ at both. sep 𝓤 (sem 𝓛 (lies_at R full_share at both.1)) (fact 𝓤 (own both.0 both.1))) (λ x left. fact 𝓤 (own x left)) (λ at both. id⊢ 𝓤 _)

@@ -1,5 +1,4 @@
 pub mod Steps
-mod Left
 mod Lending
 mod LendingBoth
 mod Calling

@@ -10,12 +10,12 @@ ghost use Rattle.host_calls.specs.Calls.{Goes};
 ghost use Rattle.host_calls.specs.Stores.{Closes, Finds, Gives, IsItsOwn, Takes};
 ghost use Rattle.host_calls.specs.Leaving.{Leaves};
 ghost use Rattle.host_calls.specs.Openings.{IsOpened};
-ghost use Rattle.host_calls.specs.Lanes.{IsNewLane, Joins, JoinsOneStore, Leaves as LeavesLane, UpdatesEach};
+ghost use Rattle.host_calls.specs.Lanes.{Ends, IsNewLane, Joins, JoinsOneStore, Leaves as LeavesLane, UpdatesEach};
 ghost use Rattle.host_calls.specs.Loadings.{IsLoaded};
 ghost use Rattle.host_calls.specs.Looks.{Answers, Gets, Scans, Snaps};
 ghost use Rattle.host_calls.specs.Describing.{DescribesMap, DescribesProgram, DescribesStore};
 ghost use Rattle.host_calls.specs.Measuring.{Measures};
-ghost use Rattle.host_calls.specs.States.{Dumps, GivesPart, Makes, Returns};
+ghost use Rattle.host_calls.specs.States.{Dumps, GivesPart, GivesUp, Makes, Returns};
 ghost use Rattle.host_calls.specs.Rooms.{holds_facts, holds_lane, holds_map, holds_program, holds_session, holds_state, holds_stats, holds_store, holds_text};
 ghost use Rattle.host_calls.specs.contracts.handles.LaneHandle.{the_row as the_lane};
 ghost use Rattle.host_calls.specs.contracts.handles.SessionHandle.{the_row as the_session};
@@ -178,12 +178,12 @@ pub unsafe extern "C" fn nrbpf_raw_close_into(alloc: Global, at: *mut u8, room: 
     );
 }
 
-/// Gives a state up. Its handle is room then.
+/// Gives a state up. Its handle has none then, and is as good as room.
 #[unsafe(no_mangle)]
 pub unsafe extern "C" fn nrbpf_raw_drop_state(at: *mut u8)
     ghost value: { StateHandle }
     requires* { sem 𝓛 (holds_state at value) }
-    ensures* { sem 𝓛 (room_at the_state at) }
+    ensures* { ∃ₛ (λ after. sem 𝓛 (holds_state at after) ∗ ⌜ GivesUp value after ⌝) }
 {
     drop_state(&mut *(at as *mut StateHandle));
 }
@@ -207,12 +207,12 @@ pub unsafe extern "C" fn nrbpf_raw_new_lane(alloc: Global, at: *mut u8)
     std::ptr::write(at as *mut LaneHandle, make_lane(alloc));
 }
 
-/// Ends a lane. Its handle is room then.
+/// Ends a lane. Its handle has none then, and is as good as room.
 #[unsafe(no_mangle)]
 pub unsafe extern "C" fn nrbpf_raw_drop_lane(at: *mut u8)
     ghost value: { LaneHandle }
     requires* { sem 𝓛 (holds_lane at value) }
-    ensures* { sem 𝓛 (room_at the_lane at) }
+    ensures* { ∃ₛ (λ after. sem 𝓛 (holds_lane at after) ∗ ⌜ Ends value after ⌝) }
 {
     drop_lane(&mut *(at as *mut LaneHandle));
 }
@@ -337,12 +337,13 @@ pub unsafe extern "C" fn nrbpf_raw_dump(alloc: Global, state: *mut u8, room: *mu
     );
 }
 
-/// Puts the next bytes of a text into `out`, and their number into the text's words: 0 only at the end, or if a line has no room in `out`.
+/// Puts the next bytes of a text into `out`, and their number into the text's words: 0 only at the end, or if a line has no room in `out`. The other bytes
+/// of `out` stay.
 #[unsafe(no_mangle)]
 pub unsafe extern "C" fn nrbpf_raw_part(text: *mut u8, out: &mut [u8])
     ghost value: { TextHandle }
     requires* { sem 𝓛 (holds_text text value) }
-    ensures* { ∃ₛ (λ after. sem 𝓛 (holds_text text after) ∗ ⌜ GivesPart value after out.new ⌝) }
+    ensures* { ∃ₛ (λ after. sem 𝓛 (holds_text text after) ∗ ⌜ GivesPart value after out.old out.new ⌝) }
 {
     part(&mut *(text as *mut TextHandle), out);
 }

@@ -42,17 +42,21 @@ shown_whole (c ∷ cs) other = by (eqb (get_or (c ∷ cs) n 0) 13) refl ∙ ap (
         let byte : get_or (c ∷ cs) n 0 ≡ 13 = eqb-true _ _ is in
         absurd (other (take n (c ∷ cs)) (sym (take-append-drop n (c ∷ cs)) ∙ ap (λ t. take n (c ∷ cs) ++ t) (drop_more (c ∷ cs) n 0 lt ∙ ap (λ d. d ∷ drop (n + 1) (c ∷ cs)) byte ∙ ap (λ t. 13 ∷ t) (drop_all (n + 1) (c ∷ cs) (omega arith)))))
 
-pub shown_is : (bs : List ℕ) (r : Option (Bor (List ℕ))) → MatchOption r ((front : List ℕ) → bs ≢ front ++ (13 ∷ [])) (λ x. bs ≡ x.now ++ (13 ∷ [])) → MatchOption r (bs ≡ shown bs) (λ x. x.now ≡ shown bs)
+pub shown_is : (bs : List ℕ) (r : Option (Bor (List ℕ)))
+    → MatchOption r ((front : List ℕ) → bs ≢ front ++ (13 ∷ [])) (λ x. bs ≡ x.now ++ (13 ∷ []))
+    → MatchOption r (bs ≡ shown bs) (λ x. x.now ≡ shown bs)
 shown_is bs None other = shown_whole bs other
 shown_is bs (Some x) is = shown_front x.now ∙ ap shown (sym is)
 
 -- ---- what is told
 
 pub told_whole : (e : AsmRefusal) (at : ℕ) (wanted line number column words here space base first second all : List ℕ)
-    → base ≡ [] → number ≡ decimal (fault_number e.why) → column ≡ decimal (at + 1) → words ≡ wanted → here ≡ shown line → space ≡ flat_map below (take at line)
+    → base ≡ [] → number ≡ decimal (fault_number e.why) → column ≡ decimal (at + 1) → words ≡ wanted
+    → here ≡ shown line → space ≡ flat_map below (take at line)
     → first ≡ base ++ concat (codes "line " ∷ decimal e.line ∷ codes ": A" ∷ number ∷ [])
     → second ≡ first ++ concat (codes "," ∷ codes " column " ∷ column ∷ codes ": wanted " ∷ words ∷ [])
-    → all ≡ second ++ concat (codes "\n    " ∷ here ∷ codes "\n    " ∷ space ∷ codes "^\n" ∷ []) → all ≡ fault_text e ++ wanted_text at wanted line
+    → all ≡ second ++ concat (codes "\n    " ∷ here ∷ codes "\n    " ∷ space ∷ codes "^\n" ∷ [])
+    → all ≡ fault_text e ++ wanted_text at wanted line
 told_whole e at wanted line number column words here space base first second all empty number_is column_is words_are here_is space_is put_first put_second put_all =
     let a = codes "line " ∷ decimal e.line ∷ codes ": A" ∷ number ∷ [] in
     let b = codes "," ∷ codes " column " ∷ column ∷ codes ": wanted " ∷ words ∷ [] in

@@ -43,7 +43,8 @@ begins_in words x y text is b = (b.0 ++ y, is ∙ ap (λ t. t ++ y) b.1 ∙ appe
 at_once : (n : ℕ) (why : LoadFault) (text : List ℕ) → TellsRefusal n why text → HasRefusal n why text
 at_once n why text tells = ([], text, refl, tells)
 
-behind : (n : ℕ) (why : LoadFault) (front rest text : List ℕ) → text ≡ front ++ rest → HasRefusal n why rest → HasRefusal n why text
+behind : (n : ℕ) (why : LoadFault) (front rest text : List ℕ) → text ≡ front ++ rest → HasRefusal n why rest
+    → HasRefusal n why text
 behind n why front rest text is h = (front ++ h.0, h.1, is ∙ ap (λ t. front ++ t) h.2 ∙ sym (append_assoc front h.0 h.1), h.3)
 
 bad_line_told : (n : ℕ) (text : List ℕ) → BeginsWith (line_fault n BadLine) text → TellsRefusal n BadLine text
@@ -96,7 +97,8 @@ module _ (a : Above) (c : CatalogueView) (k : HasRead c a) where
   abbrev MapIs : Result CatalogueView LoadFault → Option LoadFault → Type 0
   MapIs r o = MatchResult r (λ _. o ≡ None) (λ why. o ≡ Some why)
 
-  by_tests : (b f : Bool) (w : CatalogueView) → MapIs (cond b (Err BadLine) (cond f (Ok w) (Err TooMany))) (cond b (Some BadLine) (cond f None (Some TooMany)))
+  by_tests : (b f : Bool) (w : CatalogueView)
+      → MapIs (cond b (Err BadLine) (cond f (Ok w) (Err TooMany))) (cond b (Some BadLine) (cond f None (Some TooMany)))
   by_tests true f w = refl
   by_tests false true w = refl
   by_tests false false w = refl
@@ -142,18 +144,22 @@ module _ (a : Above) (c : CatalogueView) (k : Alike a c) where
 -- ---- a map
 
 -- what is told of a map that has a fault
-fault_told : (n : ℕ) (why : LoadFault) (text : List ℕ) (b f : Bool) → cond b (Some BadLine) (cond f None (Some TooMany)) ≡ Some why → BeginsIf true (line_fault n why) text → TellsRefusal n why text
+fault_told : (n : ℕ) (why : LoadFault) (text : List ℕ) (b f : Bool)
+    → cond b (Some BadLine) (cond f None (Some TooMany)) ≡ Some why → BeginsIf true (line_fault n why) text
+    → TellsRefusal n why text
 fault_told n why text true f is told = subst (λ w. BeginsIf true (line_fault n w) text → TellsRefusal n w text) (same_Some _ _ is) (bad_line_told n text) told
 fault_told n why text false true is told = absurd cc
 fault_told n why text false false is told = subst (λ w. BeginsIf true (line_fault n w) text → TellsRefusal n w text) (same_Some _ _ is) (too_many_told n text) told
 
 map_refused : (limits : MapLimits) (a : Above) (c : CatalogueView) (s : Shape) (n : ℕ) (why : LoadFault) (text : List ℕ) → Alike a c → with_map limits c s ≡ Err why
-    → MatchOption (map_fault limits a s) (text ≡ []) (λ w. BeginsIf true (line_fault n w) text) → TellsRefusal n why text
+    → MatchOption (map_fault limits a s) (text ≡ []) (λ w. BeginsIf true (line_fault n w) text)
+    → TellsRefusal n why text
 map_refused limits a c s n why text k is told =
     let fault : map_fault limits a s ≡ Some why = subst (λ r. MatchResult r (λ _. map_fault limits a s ≡ None) (λ w. map_fault limits a s ≡ Some w)) is (same_map a c k.read limits s) in
     fault_told n why text (ltb 0 (length a.names)) (are_few limits (a.shapes ++ s ∷ [])) fault (subst (λ o. MatchOption o (text ≡ []) (λ w. BeginsIf true (line_fault n w) text)) fault told)
 
-map_kept : (limits : MapLimits) (a : Above) (c w : CatalogueView) (s : Shape) (n : ℕ) → Alike a c → with_map limits c s ≡ Ok w → Alike (with_shape n a s (map_fault limits a s)) w
+map_kept : (limits : MapLimits) (a : Above) (c w : CatalogueView) (s : Shape) (n : ℕ) → Alike a c
+    → with_map limits c s ≡ Ok w → Alike (with_shape n a s (map_fault limits a s)) w
 map_kept limits a c w s n k is =
     let after = after_map limits c s w is in
     let none : length a.names ≡ 0 = sym (same_count a c k.read) ∙ ap length after.0 in
@@ -176,7 +182,8 @@ program_kept files a c w p k is =
     record { read = record { shapes = ap (λ x. x.shapes) (sym after.same) ∙ k.read.shapes; names = names }; good = k.good }
 
 module _ (n : ℕ) (a : Above) (p : ProgramLine) (own : List ℕ) (good : a.bad_map ≡ None) (f : Checked → Entry) (w : LoadFault) where
-  by_verdict : (v : Option Refused) (ch : Checked) (program : List Form) → verdict program (signature a.shapes p.arg_len p.mode) ≡ v → (unless_refused ch v >>= λ x. Ok (f x)) ≡ Err w
+  by_verdict : (v : Option Refused) (ch : Checked) (program : List Form)
+      → verdict program (signature a.shapes p.arg_len p.mode) ≡ v → (unless_refused ch v >>= λ x. Ok (f x)) ≡ Err w
       → IsJudged None a.shapes n p program own → TellsRefusal n w own
   by_verdict None ch program was is told = absurd cc
   by_verdict (Some e) ch program was is told =
@@ -206,11 +213,13 @@ module _ (n : ℕ) (a : Above) (p : ProgramLine) (own : List ℕ) (good : a.bad_
 abbrev entry_of : ProgramLine → Checked → Result Entry LoadFault
 entry_of p x = Ok (record { name = p.name; checked = x })
 
-entry_refused : (files : Files) (n : ℕ) (a : Above) (p : ProgramLine) (own : List ℕ) (w : LoadFault) → a.bad_map ≡ None → entry_for files a.shapes p ≡ Err w → TellsOfFile files n a p own → TellsRefusal n w own
+entry_refused : (files : Files) (n : ℕ) (a : Above) (p : ProgramLine) (own : List ℕ) (w : LoadFault)
+    → a.bad_map ≡ None → entry_for files a.shapes p ≡ Err w → TellsOfFile files n a p own → TellsRefusal n w own
 unfolding entry_for checked_program bytes_of_hex instructions_of
 entry_refused files n a p own w good is told = by_file (file_named files p.file) is told
   where
-    by_file : (o : Option (List ℕ)) → (or_bad_line o >>= λ text. checked_program a.shapes p.arg_len p.mode text >>= entry_of p) ≡ Err w
+    by_file : (o : Option (List ℕ))
+        → (or_bad_line o >>= λ text. checked_program a.shapes p.arg_len p.mode text >>= entry_of p) ≡ Err w
         → TellsOfRead n a p (or_bad_line o >>= λ text. or_bad_hex (spaced_bytes text) >>= λ bytes. or_decode (decoded bytes)) own → TellsRefusal n w own
     by_file None is told = subst (λ x. TellsRefusal n x own) (err_is BadLine w is) (begins_sooner (refused_by n 1) (codes "\n") own told)
     by_file (Some text) is told = by_hex n a p own good (λ x. record { name = p.name; checked = x }) w (spaced_bytes text) is told
@@ -220,7 +229,8 @@ has_map_where true t is = refl
 has_map_where false t is = absurd cc
 
 module _ (files : Files) (n : ℕ) (a : Above) (c : CatalogueView) (p : ProgramLine) (why : LoadFault) (text : List ℕ) (k : Alike a c) (told : TellsOfProgram files n a p text) where
-  by_number : (b : Bool) (x : CatalogueView) → ltb (length c.programs) 256 ≡ b → cond b (Ok x) (Err TooMany) ≡ Err why → HasRefusal n why text
+  by_number : (b : Bool) (x : CatalogueView) → ltb (length c.programs) 256 ≡ b
+      → cond b (Ok x) (Err TooMany) ≡ Err why → HasRefusal n why text
   by_number true x was is = absurd cc
   by_number false x was is =
       let names = same_count a c k.read in
@@ -230,7 +240,8 @@ module _ (files : Files) (n : ℕ) (a : Above) (c : CatalogueView) (p : ProgramL
       (behind n TooMany told.misplaced (told.beyond ++ told.own) text told.whole
       (at_once n TooMany _ (begins_in (refused_by n 5) told.beyond told.own _ refl (begins_sooner (refused_by n 5) (codes "\n") told.beyond begins))))
 
-  by_entry : (r : Result Entry LoadFault) → entry_for files c.shapes p ≡ r → has_map a ≡ true → (r >>= with_entry c) ≡ Err why → HasRefusal n why text
+  by_entry : (r : Result Entry LoadFault) → entry_for files c.shapes p ≡ r → has_map a ≡ true
+      → (r >>= with_entry c) ≡ Err why → HasRefusal n why text
   unfolding with_entry
   by_entry (Err w) was has is =
       let own : TellsOfFile files n a p told.own = subst (λ b. TellsWhereMap b files n a p told.own) has told.file in
@@ -238,7 +249,8 @@ module _ (files : Files) (n : ℕ) (a : Above) (c : CatalogueView) (p : ProgramL
       subst (λ x. HasRefusal n x text) (err_is w why is) (behind n w told.misplaced (told.beyond ++ told.own) text told.whole (behind n w told.beyond told.own _ refl (at_once n w told.own here)))
   by_entry (Ok entry) was has is = by_number _ _ refl is
 
-  by_place : (b : Bool) → is_misplaced a p.name ≡ b → cond b (Err BadLine) (entry_for files c.shapes p >>= with_entry c) ≡ Err why → HasRefusal n why text
+  by_place : (b : Bool) → is_misplaced a p.name ≡ b
+      → cond b (Err BadLine) (entry_for files c.shapes p >>= with_entry c) ≡ Err why → HasRefusal n why text
   by_place true was is =
       let begins : BeginsWith (line_fault n BadLine) told.misplaced = subst (λ b. BeginsIf b (line_fault n BadLine) told.misplaced) was told.place in
       subst (λ w. HasRefusal n w text) (err_is _ _ is)
@@ -289,6 +301,8 @@ walk limits files n a c (l ∷ ls) text e k is told =
         (here.0, here.1 ++ told.1, told.2 ∙ ap (λ t. t ++ told.1) here.2 ∙ append_assoc here.0 here.1 told.1, longer n why here.1 told.1 here.3)
     by_result (Ok w) was is more = behind e.line e.why told.0 told.1 text told.2 (more w (line_kept limits files n l a c w (line_meaning limits l) k was) is)
 
-pub refusal_is_told : (limits : MapLimits) (files : Files) (manifest text : List ℕ) (e : LoadRefusal) → loaded_within limits manifest files ≡ Err e → TellsOfAll limits files None manifest text → HasRefusal e.line e.why text
+pub refusal_is_told : (limits : MapLimits) (files : Files) (manifest text : List ℕ) (e : LoadRefusal)
+    → loaded_within limits manifest files ≡ Err e → TellsOfAll limits files None manifest text
+    → HasRefusal e.line e.why text
 unfolding loaded_within
 refusal_is_told limits files manifest text e is told = walk limits files 1 nothing_above _ (lines_of manifest) text e (record { read = record { shapes = refl; names = refl }; good = refl }) is told

@@ -42,30 +42,36 @@ a_program bytes p is = rw is refl
 pub no_file : (files : Files) (name : List ℕ) → file_named files name ≡ None → program_in files name ≡ Err BadLine
 no_file files name is = rw is refl
 
-pub a_file : (files : Files) (name text : List ℕ) → file_named files name ≡ Some text → program_in files name ≡ program_of_text text
+pub a_file : (files : Files) (name text : List ℕ) → file_named files name ≡ Some text
+    → program_in files name ≡ program_of_text text
 a_file files name text is = rw is refl
 
 -- ---- what is told of it
 
 module _ (n : ℕ) (a : Above) (p : ProgramLine) (old new : List ℕ) where
   -- what is read is this
-  pub read_is : (read other : Result (List Form) LoadFault) → read ≡ other → Adds (TellsOfRead n a p other) old new → Adds (TellsOfRead n a p read) old new
+  pub read_is : (read other : Result (List Form) LoadFault) → read ≡ other → Adds (TellsOfRead n a p other) old new
+      → Adds (TellsOfRead n a p read) old new
   read_is read other is told = subst (λ r. Adds (TellsOfRead n a p r) old new) (sym is) told
 
-  pub not_judged_is : (bad : ℕ) (program : List Form) → a.bad_map ≡ Some bad → new ≡ old ++ not_judged n p bad → Adds (IsJudged a.bad_map a.shapes n p program) old new
+  pub not_judged_is : (bad : ℕ) (program : List Form) → a.bad_map ≡ Some bad → new ≡ old ++ not_judged n p bad
+      → Adds (IsJudged a.bad_map a.shapes n p program) old new
   not_judged_is bad program is put = subst (λ o. Adds (IsJudged o a.shapes n p program) old new) (sym is) (not_judged n p bad, put, refl)
 
-  pub judged_is : (told : List ℕ) (program : List Form) → a.bad_map ≡ None → new ≡ old ++ concat (codes "\n" ∷ told ∷ []) → TellsOf n p a.shapes program told
+  pub judged_is : (told : List ℕ) (program : List Form) → a.bad_map ≡ None
+      → new ≡ old ++ concat (codes "\n" ∷ told ∷ []) → TellsOf n p a.shapes program told
       → Adds (IsJudged a.bad_map a.shapes n p program) old new
   judged_is told program is put tells =
       subst (λ o. Adds (IsJudged o a.shapes n p program) old new) (sym is)
       (codes "\n" ++ told, put ∙ ap (λ t. old ++ (codes "\n" ++ t)) (append-nil told), (told, refl, tells))
 
   -- the program's file is refused
-  pub bad_file : (told : List ℕ) → new ≡ old ++ (refused_by n 2 ++ (named_words p ++ told)) → Adds (TellsOfRead n a p (Err BadHex)) old new
+  pub bad_file : (told : List ℕ) → new ≡ old ++ (refused_by n 2 ++ (named_words p ++ told))
+      → Adds (TellsOfRead n a p (Err BadHex)) old new
   bad_file told put = (refused_by n 2 ++ (named_words p ++ told), put, (told, sym (append_assoc (refused_by n 2) (named_words p) told)))
 
-  pub refused_file : (e : DecodeRefusal) (told : List ℕ) → BeginsWith (slot_fault e) told → new ≡ old ++ (refused_by n 3 ++ (named_words p ++ told)) → Adds (TellsOfRead n a p (Err (Decode e))) old new
+  pub refused_file : (e : DecodeRefusal) (told : List ℕ) → BeginsWith (slot_fault e) told
+      → new ≡ old ++ (refused_by n 3 ++ (named_words p ++ told)) → Adds (TellsOfRead n a p (Err (Decode e))) old new
   refused_file e told begins put = (
     refused_by n 3 ++ (named_words p ++ told),
     put,
@@ -78,16 +84,20 @@ module _ (n : ℕ) (a : Above) (p : ProgramLine) (old new : List ℕ) where
   )
 
   -- where a map stands above
-  pub where_map : (files : Files) → has_map a ≡ true → Adds (TellsOfFile files n a p) old new → Adds (TellsWhereMap (has_map a) files n a p) old new
+  pub where_map : (files : Files) → has_map a ≡ true → Adds (TellsOfFile files n a p) old new
+      → Adds (TellsWhereMap (has_map a) files n a p) old new
   where_map files has told = subst (λ b. Adds (TellsWhereMap b files n a p) old new) (sym has) told
 
   -- where it is asked for
-  pub if_asked : (files : Files) (asked : Bool) → asked ≡ true → Adds (TellsOfProgram files n a p) old new → Adds (TellsIfAsked asked files n a p) old new
+  pub if_asked : (files : Files) (asked : Bool) → asked ≡ true → Adds (TellsOfProgram files n a p) old new
+      → Adds (TellsIfAsked asked files n a p) old new
   if_asked files asked is told = subst (λ b. Adds (TellsIfAsked b files n a p) old new) (sym is) told
 
   -- the program's place, number and file
-  pub all_told : (files : Files) (now after : List ℕ) → Adds (BeginsIf (not (has_map a) || has_name a p.name) (line_fault n BadLine)) old now
-      → Adds (BeginsIf (is_full a) (line_fault n TooMany)) now after → Adds (TellsWhereMap (has_map a) files n a p) after new → Adds (TellsOfProgram files n a p) old new
+  pub all_told : (files : Files) (now after : List ℕ)
+      → Adds (BeginsIf (not (has_map a) || has_name a p.name) (line_fault n BadLine)) old now
+      → Adds (BeginsIf (is_full a) (line_fault n TooMany)) now after
+      → Adds (TellsWhereMap (has_map a) files n a p) after new → Adds (TellsOfProgram files n a p) old new
   all_told files now after x y z = (
     x.0 ++ (y.0 ++ z.0),
     z.1 ∙ ap (λ t. t ++ z.0) (y.1 ∙ ap (λ t. t ++ y.0) x.1) ∙ append_assoc (old ++ x.0) y.0 z.0 ∙ append_assoc old x.0 (y.0 ++ z.0),
@@ -108,10 +118,12 @@ or_false : (b : Bool) → (b || false) ≡ true → b ≡ true
 or_false true e = refl
 or_false false e = absurd cc
 
-some_map : (ss : List Shape) (bad : Option ℕ) → bad ≡ None → (nat_lt 0 (length ss) || is_some bad) ≡ true → 0 < length ss
+some_map : (ss : List Shape) (bad : Option ℕ) → bad ≡ None → (nat_lt 0 (length ss) || is_some bad) ≡ true
+    → 0 < length ss
 some_map ss bad none has =
     let only : (nat_lt 0 (length ss) || false) ≡ true = subst (λ o. (nat_lt 0 (length ss) || is_some o) ≡ true) none has in
     ltb-true 0 (length ss) (or_false _ only)
 
-pub maps_are_ok : (l : MapLimits) (a : Above) → IsWithin l a → has_map a ≡ true → a.bad_map ≡ None → AreShapesSupported a.shapes
+pub maps_are_ok : (l : MapLimits) (a : Above) → IsWithin l a → has_map a ≡ true → a.bad_map ≡ None
+    → AreShapesSupported a.shapes
 maps_are_ok l a within has none = shapes_are_ok l a.shapes within.limits_are (some_map a.shapes a.bad_map none has) within.each within.few

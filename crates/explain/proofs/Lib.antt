@@ -6,6 +6,7 @@ pub mod Assembly
 pub mod MapLines
 pub mod Judged
 pub mod Manifests
+pub mod Graphs
 pub mod FirstFault
 pub mod Export
 pub mod Lines

@@ -21,7 +21,7 @@ use Rattle.explain.specs.Listing.{line_of, is_structural, kinds_refusal, refusal
 use Rattle.explain.specs.Slots.{told_upto}
 use Rattle.explain.specs.Study.{IsStudy}
 use Rattle.explain.specs.Told.{Adds, BeginsWith}
-use Rattle.explain.proofs.Pieces.{three}
+use Rattle.explain.proofs.Pieces.{none_left, three}
 
 -- the text of one instruction is its line
 pub text_of_one : (i : Form) → text_of (i ∷ []) ≡ line_text i
@@ -38,12 +38,9 @@ pub record SoFar (told : ℕ → List ℕ) (p : List Form) (k slot : ℕ) (old n
 pub nothing : (told : ℕ → List ℕ) (p : List Form) (old : List ℕ) → SoFar told p 0 0 old old
 nothing told p old = record { text = []; written = sym (append-nil old); listed = λ rest l. l; slots = omega arith }
 
-none_left : (p : List Form) → drop (length p) p ≡ []
-none_left [] = refl
-none_left (i ∷ p) = none_left p
-
 -- behind the last one all are written
-pub whole : (told : ℕ → List ℕ) (p : List Form) (k slot : ℕ) (old new : List ℕ) → k ≡ length p → SoFar told p k slot old new → Adds (Lists told 0 p) old new
+pub whole : (told : ℕ → List ℕ) (p : List Form) (k slot : ℕ) (old new : List ℕ) → k ≡ length p
+    → SoFar told p k slot old new → Adds (Lists told 0 p) old new
 whole told p k slot old new end s =
     let none : drop k p ≡ [] = ap (λ n. drop n p) end ∙ none_left p in
     (s.text, s.written, subst (Lists told 0 p) (append-nil s.text) (s.listed [] (subst (λ q. Lists told slot q []) (sym none) refl)))
@@ -56,7 +53,8 @@ module _ (p : List Form) (k : ℕ) (d f : Form) (lt : k < length p) (is : f ≡ 
   counted = ap size here ∙ length-append (slot_contents f) (layout (drop (k + 1) p))
 
   -- one line more
-  pub line_more : (told : ℕ → List ℕ) (slot : ℕ) (old now after : List ℕ) → SoFar told p k slot old now → (line : List ℕ) × (after ≡ now ++ line) × IsLine slot f (told slot) line
+  pub line_more : (told : ℕ → List ℕ) (slot : ℕ) (old now after : List ℕ) → SoFar told p k slot old now
+      → (line : List ℕ) × (after ≡ now ++ line) × IsLine slot f (told slot) line
       → SoFar told p (k + 1) (slot + slot_count f) old after
   line_more told slot old now after s one =
       let line = one.0 in
@@ -87,11 +85,13 @@ pub is_line : (slot : ℕ) (i : Form) (words told old new : List ℕ) → line_t
 is_line slot i words told old new ends put = (_, put, record { words = words; disassembled = ends; whole = refl })
 
 -- one blank more
-pub blank_more : (n : ℕ) (old now after : List ℕ) → now ≡ old ++ replicate n 32 → after ≡ now ++ codes " " → after ≡ old ++ replicate (n + 1) 32
+pub blank_more : (n : ℕ) (old now after : List ℕ) → now ≡ old ++ replicate n 32 → after ≡ now ++ codes " "
+    → after ≡ old ++ replicate (n + 1) 32
 blank_more n old now after so_far one =
     one ∙ ap (λ t. t ++ codes " ") so_far ∙ append_assoc old (replicate n 32) (codes " ") ∙ ap (λ t. old ++ t) (sym (replicate_next n 32))
 
-pub aside_is : (columns left : ℕ) (told old n m out : List ℕ) → length told == 0 ≡ false → left ≡ 24 - columns → old ≡ [] → n ≡ old ++ codes " " → m ≡ n ++ replicate left 32 → out ≡ m ++ told
+pub aside_is : (columns left : ℕ) (told old n m out : List ℕ) → length told == 0 ≡ false → left ≡ 24 - columns
+    → old ≡ [] → n ≡ old ++ codes " " → m ≡ n ++ replicate left 32 → out ≡ m ++ told
     → out ≡ aside columns told
 aside_is columns left [] old n m out some is none x y z = absurd (false≢true (sym some))
 aside_is columns left (b ∷ told) old n m out some is none x y z =
@@ -131,7 +131,9 @@ module _ (p : List Form) (k : ℕ) (d f : Form) (lt : k < length p) (is : f ≡ 
       let all = ap size (take-append-drop (k + 1) p) in
       omega (arith, one, all, size_append (take k p) (drop k p), size_append (take (k + 1) p) (drop (k + 1) p), counted p k d f lt is)
 
-  pub counted_more : (last slot next : ℕ) → size p ≤ MAX_SLOTS → slot ≤ last → (slot + slot_count f < 2 ^ 64 → next ≡ slot + slot_count f) → CountedTo p last k slot → CountedTo p last (k + 1) next
+  pub counted_more : (last slot next : ℕ) → size p ≤ MAX_SLOTS → slot ≤ last
+      → (slot + slot_count f < 2 ^ 64 → next ≡ slot + slot_count f) → CountedTo p last k slot
+      → CountedTo p last (k + 1) next
   counted_more last slot next small upto sum c =
       let fits : slot + slot_count f < 2 ^ 64 = omega (arith, c.slots, take_next, size_take (k + 1) p, small) in
       record {
@@ -139,17 +141,21 @@ module _ (p : List Form) (k : ℕ) (d f : Form) (lt : k < length p) (is : f ≡ 
         each = λ j below. ⊎_elim (λ less. c.each j less) (λ same. subst (λ n. size (take n p) ≤ last) (sym same) (omega (arith, c.slots, upto))) (below_or j k below);
       }
 
-pub begin_upto : (p : List Form) (last k slot count : ℕ) → count ≡ k → CountedTo p last k slot → (length p ≤ k) ⊎ (last < slot) → BeginUpto p last count
+pub begin_upto : (p : List Form) (last k slot count : ℕ) → count ≡ k → CountedTo p last k slot
+    → (length p ≤ k) ⊎ (last < slot) → BeginUpto p last count
 begin_upto p last k slot count same c end =
     subst (λ n. BeginUpto p last n) (sym same)
     (record { each = c.each; enough = ⊎_elim (λ all. inl all) (λ far. inr (omega (arith, far, c.slots))) end })
 
-pub are_listed : (p : List Form) (upto : Option ℕ) (count limit : ℕ) → size p ≤ MAX_SLOTS → limit ≡ unwrap_or upto (2 ^ 64 - 1) → BeginUpto p limit count → AreListed p upto count
+pub are_listed : (p : List Form) (upto : Option ℕ) (count limit : ℕ) → size p ≤ MAX_SLOTS
+    → limit ≡ unwrap_or upto (2 ^ 64 - 1) → BeginUpto p limit count → AreListed p upto count
 are_listed p (Some last) count limit small is upto = subst (λ n. BeginUpto p n count) is upto
 are_listed p None count limit small is upto = ⊎_elim (λ all. all) (λ far. absurd (omega (arith, far, is, size_take count p, small))) upto.enough
 
-pub is_listing : (p : List Form) (kinds verdict : Option Refused) (count left : ℕ) (old now after : List ℕ) → Adds (Lists (told_upto p kinds) 0 (take count p)) old now → left + count ≡ length p
-    → after ≡ now ++ left_text left → AreListed p (last_listed kinds verdict) count → (text : List ℕ) × (after ≡ old ++ text) × IsListing p kinds verdict text
+pub is_listing : (p : List Form) (kinds verdict : Option Refused) (count left : ℕ) (old now after : List ℕ)
+    → Adds (Lists (told_upto p kinds) 0 (take count p)) old now → left + count ≡ length p
+    → after ≡ now ++ left_text left → AreListed p (last_listed kinds verdict) count
+    → (text : List ℕ) × (after ≡ old ++ text) × IsListing p kinds verdict text
 is_listing p kinds verdict count left old now after written rest put upto =
     let lines = written.0 in
     let same : left ≡ length p - count = omega (arith, rest) in (
@@ -164,7 +170,8 @@ some_slot i = ⊎_elim (λ one. omega (arith, one)) (λ two. omega (arith, two.0
 
 -- ---- a program
 
-pub kinds_are : (study : Study) (s : Subject) → study.subject ≡ s → IsStudy study → size s.program.now ≤ MAX_SLOTS → study.known.kinds ≡ kinds_refusal s.program.now (signature_of s)
+pub kinds_are : (study : Study) (s : Subject) → study.subject ≡ s → IsStudy study → size s.program.now ≤ MAX_SLOTS
+    → study.known.kinds ≡ kinds_refusal s.program.now (signature_of s)
 kinds_are study s same known few =
     known.kinds (subst (λ z. size z.program.now ≤ MAX_SLOTS) (sym same) few) ∙ ap (λ z. kinds_refusal z.program.now (signature_of z)) same
 
@@ -172,20 +179,24 @@ pub some_of : {A : Type 0} (P : A → Type 0) (o : Option A) (x : A) → o ≡ S
 some_of P o x is holds = subst (λ q. IfSome q P) is holds
 
 -- a study of a program that is too long has no refusal by kinds
-pub none_of : (study : Study) (s : Subject) → study.subject ≡ s → IsStudy study → MAX_SLOTS < size s.program.now → study.known.kinds ≡ None
+pub none_of : (study : Study) (s : Subject) → study.subject ≡ s → IsStudy study → MAX_SLOTS < size s.program.now
+    → study.known.kinds ≡ None
 none_of study s same known many = known.no_kinds (subst (λ z. MAX_SLOTS < size z.program.now) (sym same) many)
 
 pub some_is_none : {A : Type 0} (x : A) (o : Option A) → o ≡ Some x → o ≡ None → ⊥
 some_is_none x o is none = cc
 
 -- a listing alone, and then behind a text
-pub listed_behind : (p : List Form) (k v : Option Refused) (before none lines all : List ℕ) → none ≡ [] → all ≡ before ++ lines → AddsListing p k v none lines → AddsListing p k v before all
+pub listed_behind : (p : List Form) (k v : Option Refused) (before none lines all : List ℕ) → none ≡ []
+    → all ≡ before ++ lines → AddsListing p k v none lines → AddsListing p k v before all
 listed_behind p k v before none lines all empty put listing few =
     let own = listing few in
     (own.0, put ∙ ap (λ t. before ++ t) (own.1 ∙ ap (λ t. t ++ own.0) empty), own.2)
 
-pub explained : (s t : Subject) (k v : Option Refused) (head lines all : List ℕ) → t ≡ s → k ≡ kinds_refusal s.program.now (signature_of s) → v ≡ verdict_on s → head ≡ head_text s.line (line_of s)
-    → AddsListing t.program.now k v head lines → Adds (IsReason k v) lines all → size s.program.now ≤ MAX_SLOTS → Explains s all
+pub explained : (s t : Subject) (k v : Option Refused) (head lines all : List ℕ) → t ≡ s
+    → k ≡ kinds_refusal s.program.now (signature_of s) → v ≡ verdict_on s → head ≡ head_text s.line (line_of s)
+    → AddsListing t.program.now k v head lines → Adds (IsReason k v) lines all → size s.program.now ≤ MAX_SLOTS
+    → Explains s all
 explained s t k v head lines all same kinds is put listing reason small =
     let own = subst (λ z. AddsListing z.program.now k v head lines) same listing small in
     let known = subst (λ w. (text : List ℕ) × (lines ≡ head ++ text) × IsListing s.program.now w v text) kinds own in
@@ -196,7 +207,8 @@ explained s t k v head lines all same kinds is put listing reason small =
       record { listing = l.0; reason = r.0; lists = l.2; refuses = r.2; whole = refl },
     )
 
-pub explained_long : (s : Subject) (k v : Option Refused) (head lines more all : List ℕ) → k ≡ None → v ≡ verdict_on s → head ≡ head_text s.line (line_of s) → lines ≡ [] → more ≡ head ++ lines
+pub explained_long : (s : Subject) (k v : Option Refused) (head lines more all : List ℕ) → k ≡ None
+    → v ≡ verdict_on s → head ≡ head_text s.line (line_of s) → lines ≡ [] → more ≡ head ++ lines
     → Adds (IsReason k v) more all → ExplainsLong s all
 explained_long s k v head lines more all none is put empty behind reason =
     let r = subst (λ w. Adds (IsReason None w) more all) is (subst (λ w. Adds (IsReason w v) more all) none reason) in
@@ -226,7 +238,8 @@ module _ (p : List Form) where
   good some few = ap sized (both_true (lt-ltb 0 (size p) some) (le-leb (size p) MAX_SLOTS few))
 
 -- of the others all but the empty one are
-pub are_long : (p : List Form) (b : Bool) → b ≡ (length p == 0) → None ≡ sized p (has_good_size p) → not b ≡ ltb MAX_SLOTS (size p)
+pub are_long : (p : List Form) (b : Bool) → b ≡ (length p == 0) → None ≡ sized p (has_good_size p)
+    → not b ≡ ltb MAX_SLOTS (size p)
 are_long [] b is none = ap not is
 are_long (i ∷ q) b is none = by (ltb MAX_SLOTS (size (i ∷ q))) refl
   where
@@ -241,7 +254,8 @@ are_long (i ∷ q) b is none = by (ltb MAX_SLOTS (size (i ∷ q))) refl
         absurd (some_is_none (size (i ∷ q)) _ (good (i ∷ q) some (omega (arith, ltb-false MAX_SLOTS (size (i ∷ q)) e))) (sym none))
 
 -- what is told of a refusal begins with its rule and its slot
-pub reason_begins : (kinds : Option Refused) (e : Refused) (text : List ℕ) → IsReason kinds (Some e) text → BeginsWith (refusal_text e) text
+pub reason_begins : (kinds : Option Refused) (e : Refused) (text : List ℕ) → IsReason kinds (Some e) text
+    → BeginsWith (refusal_text e) text
 reason_begins kinds e text is = by (is_structural e.why) is
   where
     by : (b : Bool) → MatchBool b (TellsStructure e kinds text) (TellsKinds e text) → BeginsWith (refusal_text e) text

@@ -17,7 +17,8 @@ use Rattle.explain.proofs.Texts.{adds_nothing}
 
 -- ---- one line
 
-pub comment_line : (e : Explanation) (line old : List ℕ) → IsWithin e.limits (above_of e) → TakesLine e.line line (Some Comment) e e old old
+pub comment_line : (e : Explanation) (line old : List ℕ) → IsWithin e.limits (above_of e)
+    → TakesLine e.line line (Some Comment) e e old old
 comment_line e line old within = record { told = adds_nothing _ old refl; above = refl; within = within; limits = refl; files = refl; name = refl }
 
 pub program_line : (e f : Explanation) (p : ProgramLine) (line old new : List ℕ) → IsWithin e.limits (above_of e)
@@ -44,7 +45,8 @@ numbered n line m other e f old new is t =
 
 -- with what is told of the lines that are left, what stands there is what is told of the manifest
 pub record SoFar (limits : MapLimits) (files : Files) (name : Option (List ℕ)) (manifest : List ℕ) (e : Explanation) (n : ℕ) (left : List (List ℕ)) (out : List ℕ) : Type 0 where
-  pub whole : (rest : List ℕ) → TellsOfLines limits files name n (above_of e) left rest → TellsOfAll limits files name manifest (out ++ rest)
+  pub whole : (rest : List ℕ) → TellsOfLines limits files name n (above_of e) left rest
+      → TellsOfAll limits files name manifest (out ++ rest)
   pub within : IsWithin limits (above_of e)
   pub same_limits : e.limits ≡ limits
   pub same_files : files_of e.files.now ≡ files
@@ -58,7 +60,9 @@ nothing_within limits are = record { limits_are = are; each = none_within limits
 
 module _ (limits : MapLimits) (files : Files) (name : Option (List ℕ)) (manifest : List ℕ) where
   -- before the first line
-  pub at_first : (e : Explanation) (n : ℕ) (left : List (List ℕ)) (out : List ℕ) → AreLimits limits → e.limits ≡ limits → e.shapes.items ≡ [] → e.bad_map ≡ None → e.names.items ≡ [] → files_of e.files.now ≡ files → name_of e ≡ name
+  pub at_first : (e : Explanation) (n : ℕ) (left : List (List ℕ)) (out : List ℕ) → AreLimits limits
+      → e.limits ≡ limits → e.shapes.items ≡ [] → e.bad_map ≡ None → e.names.items ≡ []
+      → files_of e.files.now ≡ files → name_of e ≡ name
       → n ≡ 1 → left ≡ lines_of manifest → out ≡ [] → SoFar limits files name manifest e n left out
   at_first e n left out are same_limits shapes bad names same_files same_name one all none =
       let above : above_of e ≡ nothing_above =
@@ -77,7 +81,8 @@ module _ (limits : MapLimits) (files : Files) (name : Option (List ℕ)) (manife
       }
 
   -- one line more
-  pub line_more : (e f : Explanation) (n m : ℕ) (line : List ℕ) (left rest : List (List ℕ)) (old new : List ℕ) → SoFar limits files name manifest e n left old → left ≡ line ∷ rest → m ≡ next_line n
+  pub line_more : (e f : Explanation) (n m : ℕ) (line : List ℕ) (left rest : List (List ℕ)) (old new : List ℕ)
+      → SoFar limits files name manifest e n left old → left ≡ line ∷ rest → m ≡ next_line n
       → TakesLine n line (line_meaning e.limits line) e f old new → SoFar limits files name manifest f m rest new
   line_more e f n m line left rest old new s first next took =
       let t = subst (λ l. TakesLine n line (line_meaning l line) e f old new) s.same_limits took in
@@ -97,8 +102,10 @@ module _ (limits : MapLimits) (files : Files) (name : Option (List ℕ)) (manife
       }
 
   -- behind the last line
-  pub the_end : (e : Explanation) (n : ℕ) (left : List (List ℕ)) (old new : List ℕ) → SoFar limits files name manifest e n left old → left ≡ []
-      → Adds (BeginsIf (is_none (name_of e) && not (has_map (above_of e))) (line_fault n BadLine)) old new → TellsOfAll limits files name manifest new
+  pub the_end : (e : Explanation) (n : ℕ) (left : List (List ℕ)) (old new : List ℕ)
+      → SoFar limits files name manifest e n left old → left ≡ []
+      → Adds (BeginsIf (is_none (name_of e) && not (has_map (above_of e))) (line_fault n BadLine)) old new
+      → TellsOfAll limits files name manifest new
   the_end e n left old new s none told =
       let here = subst (λ o. Adds (BeginsIf (is_none o && not (has_map (above_of e))) (line_fault n BadLine)) old new) s.same_name told in
       subst (TellsOfAll limits files name manifest) (sym here.1) (s.whole here.0 (subst (λ ls. TellsOfLines limits files name n (above_of e) ls here.0) (sym none) here.2))

@@ -30,7 +30,7 @@ use Rattle.explain.specs.Slots.{kind_in, cell_in, begins_row, row_end, is_new, r
 use Rattle.explain.specs.Study.{IsStudy, Knows}
 use Rattle.explain.specs.Told.{BeginsWith}
 use Rattle.explain.specs.Words.{register_words, row_words}
-use Rattle.explain.proofs.Pieces.{three}
+use Rattle.explain.proofs.Pieces.{none_left, three}
 
 -- ---- one after another
 
@@ -42,7 +42,8 @@ numbers_to : (n : ℕ) → range_with_len 0 (suc n) ≡ range_with_len 0 n ++ n 
 numbers_to n = next_number 0 n ∙ ap (λ m. range_with_len 0 n ++ m ∷ []) (let e : 0 + n ≡ n = omega arith in e)
 
 -- of one number more
-pub told_more : (f : ℕ → List ℕ) (n : ℕ) (old now after : List ℕ) → now ≡ old ++ flat_map f (range_with_len 0 n) → after ≡ now ++ f n → after ≡ old ++ flat_map f (range_with_len 0 (n + 1))
+pub told_more : (f : ℕ → List ℕ) (n : ℕ) (old now after : List ℕ) → now ≡ old ++ flat_map f (range_with_len 0 n)
+    → after ≡ now ++ f n → after ≡ old ++ flat_map f (range_with_len 0 (n + 1))
 told_more f n old now after so_far one =
     one
     ∙ ap (λ t. t ++ f n) so_far
@@ -53,22 +54,21 @@ told_more f n old now after so_far one =
     ∙ ap (flat_map f) (sym (numbers_to n) ∙ ap (range_with_len 0) (sym (add-one n))))
 
 -- of all numbers
-pub told_all : (f : ℕ → List ℕ) (n m : ℕ) (old now : List ℕ) → n ≡ m → now ≡ old ++ flat_map f (range_with_len 0 n) → now ≡ old ++ flat_map f (range_with_len 0 m)
+pub told_all : (f : ℕ → List ℕ) (n m : ℕ) (old now : List ℕ) → n ≡ m → now ≡ old ++ flat_map f (range_with_len 0 n)
+    → now ≡ old ++ flat_map f (range_with_len 0 m)
 told_all f n m old now end so_far = so_far ∙ ap (λ k. old ++ flat_map f (range_with_len 0 k)) end
 
-none_left : (xs : List ℕ) → drop (length xs) xs ≡ []
-none_left [] = refl
-none_left (x ∷ xs) = none_left xs
-
 -- of one item more
-pub item_more : (f : ℕ → List ℕ) (xs : List ℕ) (k d x : ℕ) → k < length xs → x ≡ get_or xs k d → (out after all : List ℕ) → out ++ flat_map f (drop k xs) ≡ all → after ≡ out ++ f x
+pub item_more : (f : ℕ → List ℕ) (xs : List ℕ) (k d x : ℕ) → k < length xs → x ≡ get_or xs k d
+    → (out after all : List ℕ) → out ++ flat_map f (drop k xs) ≡ all → after ≡ out ++ f x
     → after ++ flat_map f (drop (k + 1) xs) ≡ all
 item_more f xs k d x lt is out after all so_far one =
     let here : drop k xs ≡ x ∷ drop (k + 1) xs = drop_more xs k d lt ∙ ap (λ q. q ∷ drop (k + 1) xs) (sym is) in
     ap (λ t. t ++ flat_map f (drop (k + 1) xs)) one ∙ append_assoc out (f x) (flat_map f (drop (k + 1) xs)) ∙ ap (λ q. out ++ flat_map f q) (sym here) ∙ so_far
 
 -- of all items
-pub items_all : (f : ℕ → List ℕ) (xs : List ℕ) (k : ℕ) (out all : List ℕ) → k ≡ length xs → out ++ flat_map f (drop k xs) ≡ all → out ≡ all
+pub items_all : (f : ℕ → List ℕ) (xs : List ℕ) (k : ℕ) (out all : List ℕ) → k ≡ length xs
+    → out ++ flat_map f (drop k xs) ≡ all → out ≡ all
 items_all f xs k out all end so_far = sym (append-nil out) ∙ ap (λ q. out ++ flat_map f q) (sym (ap (λ n. drop n xs) end ∙ none_left xs)) ∙ so_far
 
 -- ---- rows
@@ -77,7 +77,8 @@ items_all f xs k out all end so_far = sym (append-nil out) ∙ ap (λ q. out ++ 
 abbrev pub in_row : (ℕ → Bool) → ℕ → ℕ
 in_row is next = prefix_len is (range_with_len next (512 - next))
 
-taken : (is : ℕ → Bool) (a n : ℕ) → is a ≡ true → prefix_len is (range_with_len a (suc n)) ≡ 1 + prefix_len is (range_with_len (a + 1) n)
+taken : (is : ℕ → Bool) (a n : ℕ) → is a ≡ true
+    → prefix_len is (range_with_len a (suc n)) ≡ 1 + prefix_len is (range_with_len (a + 1) n)
 taken is a n holds = rw holds refl
 
 stopped : (is : ℕ → Bool) (a n : ℕ) → is a ≡ false → prefix_len is (range_with_len a n) ≡ 0
@@ -111,7 +112,8 @@ both_separated : (s a b : List ℕ) → Separated s a → Separated s b → Sepa
 both_separated s a b (inl none) h = subst (λ t. Separated s (t ++ b)) (sym none) h
 both_separated s a b (inr begins) h = inr (begins.0 ++ b, ap (λ t. t ++ b) begins.1 ∙ append_assoc s begins.0 b)
 
-each_separated : (s : List ℕ) (f : ℕ → List ℕ) (xs : List ℕ) → ((x : ℕ) → Separated s (f x)) → Separated s (flat_map f xs)
+each_separated : (s : List ℕ) (f : ℕ → List ℕ) (xs : List ℕ) → ((x : ℕ) → Separated s (f x))
+    → Separated s (flat_map f xs)
 each_separated s f [] h = inl refl
 each_separated s f (x ∷ xs) h = both_separated s (f x) (flat_map f xs) (h x) (each_separated s f xs h)
 
@@ -134,7 +136,8 @@ registers_separated : (before : Option Frame) (now : Frame) → Separated (codes
 unfolding registers_told
 registers_separated before now = each_separated (codes "; ") (register_told before now) (range_with_len 0 11) (register_separated before now)
 
-bytes_separated : (known : Byte) (before : Option Frame) (now : Frame) → Separated (codes "; ") (bytes_told known before now)
+bytes_separated : (known : Byte) (before : Option Frame) (now : Frame)
+    → Separated (codes "; ") (bytes_told known before now)
 unfolding bytes_told
 bytes_separated known before now = each_separated (codes "; ") (row_told known (is_new known before now)) (range_with_len 0 512) (row_separated known (is_new known before now))
 
@@ -157,7 +160,8 @@ changes_separated before now =
 slots_separated : (slots : List ℕ) → Separated (codes ", ") (slots_told slots)
 slots_separated slots = each_separated (codes ", ") (λ s. concat (codes ", " ∷ decimal s ∷ [])) slots (λ s. inr (_, refl))
 
-pub sources_separated : (jumps falls : List ℕ) → Separated (codes ", ") (concat (slots_told (take 4 jumps) ∷ more_told (length jumps - 4) ∷ slots_told falls ∷ []))
+pub sources_separated : (jumps falls : List ℕ)
+    → Separated (codes ", ") (concat (slots_told (take 4 jumps) ∷ more_told (length jumps - 4) ∷ slots_told falls ∷ []))
 sources_separated [] falls = both_separated (codes ", ") (slots_told falls) [] (slots_separated falls) (inl refl)
 sources_separated (j ∷ jumps) falls = inr (_, refl)
 
@@ -172,7 +176,8 @@ not_led : (r : Option ℕ) (t : ℕ) → (r ≡ Some t → ⊥) → is_led r t �
 not_led None t n = refl
 not_led (Some next) t n = ne_eqb next t (λ e. n (ap Some e))
 
-pub led_is : (i : Form) (s : ℕ) (e : Edge) (t : ℕ) (r : Option ℕ) → ((t : ℕ) → (r ≡ Some t) ↔ LeadsTo i s e (pos t)) → is_led r t ≡ leads i s e t
+pub led_is : (i : Form) (s : ℕ) (e : Edge) (t : ℕ) (r : Option ℕ) → ((t : ℕ) → (r ≡ Some t) ↔ LeadsTo i s e (pos t))
+    → is_led r t ≡ leads i s e t
 led_is i s e t r gives = by (leads i s e t) refl
   where
     by : (b : Bool) → leads i s e t ≡ b → is_led r t ≡ leads i s e t
@@ -187,7 +192,8 @@ some_mapped f (Some x) = refl
 abbrev pub into : List Form → Edge → ℕ → ℕ → List ℕ
 into p edge t n = filter (λ s. leads_by (instruction_at p s) s edge t) (range_with_len 0 n)
 
-into_next : (p : List Form) (edge : Edge) (t n : ℕ) → into p edge t (suc n) ≡ into p edge t n ++ cond (leads_by (instruction_at p n) n edge t) (n ∷ []) []
+into_next : (p : List Form) (edge : Edge) (t n : ℕ)
+    → into p edge t (suc n) ≡ into p edge t n ++ cond (leads_by (instruction_at p n) n edge t) (n ∷ []) []
 into_next p edge t n =
     ap (filter (λ s. leads_by (instruction_at p s) s edge t)) (numbers_to n) ∙ filter-append (λ s. leads_by (instruction_at p s) s edge t) (range_with_len 0 n) (n ∷ [])
 
@@ -196,18 +202,21 @@ take_all [] = refl
 take_all (i ∷ p) = ap (λ q. i ∷ q) (take_all p)
 
 -- the slots of an instruction more
-pub into_more : (p : List Form) (edge : Edge) (t s : ℕ) (i : Form) → Placed p i s → s < t → into p edge t (min (s + slot_count i) t) ≡ into p edge t s ++ cond (leads i s edge t) (s ∷ []) []
+pub into_more : (p : List Form) (edge : Edge) (t s : ℕ) (i : Form) → Placed p i s → s < t
+    → into p edge t (min (s + slot_count i) t) ≡ into p edge t s ++ cond (leads i s edge t) (s ∷ []) []
 into_more p edge t s i at lt =
     whole (one_or_two i) ∙ into_next p edge t s ∙ ap (λ o. into p edge t s ++ cond (leads_by o s edge t) (s ∷ []) []) at.stands
   where
     second : slot_contents i ≡ Some i ∷ None ∷ [] → into p edge t (suc (suc s)) ≡ into p edge t (suc s)
     second wide = into_next p edge t (suc s) ∙ ap (λ o. into p edge t (suc s) ++ cond (leads_by o (suc s) edge t) (suc s ∷ []) []) (at.wide wide) ∙ append-nil (into p edge t (suc s))
 
-    upto : (m : ℕ) → (m ≡ suc s) ⊎ (m ≡ suc (suc s)) → slot_contents i ≡ Some i ∷ None ∷ [] → into p edge t m ≡ into p edge t (suc s)
+    upto : (m : ℕ) → (m ≡ suc s) ⊎ (m ≡ suc (suc s)) → slot_contents i ≡ Some i ∷ None ∷ []
+        → into p edge t m ≡ into p edge t (suc s)
     upto m (inl one) wide = ap (into p edge t) one
     upto m (inr two) wide = ap (into p edge t) two ∙ second wide
 
-    whole : (slot_count i ≡ 1) ⊎ ((slot_count i ≡ 2) × (slot_contents i ≡ Some i ∷ None ∷ [])) → into p edge t (min (s + slot_count i) t) ≡ into p edge t (suc s)
+    whole : (slot_count i ≡ 1) ⊎ ((slot_count i ≡ 2) × (slot_contents i ≡ Some i ∷ None ∷ []))
+        → into p edge t (min (s + slot_count i) t) ≡ into p edge t (suc s)
     whole (inl one) = let m : min (s + slot_count i) t ≡ suc s = omega (arith, one, lt) in ap (into p edge t) m
     whole (inr two) = upto (min (s + slot_count i) t) (far (cases_lt (suc s) t)) two.1
       where
@@ -218,7 +227,8 @@ into_more p edge t s i at lt =
 -- ---- what is known of them
 
 -- one kept more
-pub kept_more : (q : ℕ → Bool) (xs : List ℕ) (k d x : ℕ) → k < length xs → x ≡ get_or xs k d → (out after all : List ℕ) → out ++ filter q (drop k xs) ≡ all → after ≡ out ++ cond (q x) (x ∷ []) []
+pub kept_more : (q : ℕ → Bool) (xs : List ℕ) (k d x : ℕ) → k < length xs → x ≡ get_or xs k d
+    → (out after all : List ℕ) → out ++ filter q (drop k xs) ≡ all → after ≡ out ++ cond (q x) (x ∷ []) []
     → after ++ filter q (drop (k + 1) xs) ≡ all
 kept_more q xs k d x lt is out after all so_far one =
     let here : drop k xs ≡ x ∷ drop (k + 1) xs = drop_more xs k d lt ∙ ap (λ y. y ∷ drop (k + 1) xs) (sym is) in
@@ -228,7 +238,8 @@ kept_more q xs k d x lt is out after all so_far one =
     ∙ ap (λ y. out ++ filter q y) (sym here)
     ∙ so_far
 
-pub kept_all : (q : ℕ → Bool) (xs : List ℕ) (k : ℕ) (out all : List ℕ) → k ≡ length xs → out ++ filter q (drop k xs) ≡ all → out ≡ all
+pub kept_all : (q : ℕ → Bool) (xs : List ℕ) (k : ℕ) (out all : List ℕ) → k ≡ length xs
+    → out ++ filter q (drop k xs) ≡ all → out ≡ all
 kept_all q xs k out all end so_far = sym (append-nil out) ∙ ap (λ y. out ++ filter q y) (sym (ap (λ n. drop n xs) end ∙ none_left xs)) ∙ so_far
 
 abbrev Agree : (ℕ → Option Frame) → (ℕ → Option Frame) → ℕ → Type 0
@@ -237,16 +248,19 @@ Agree f g n = (s : ℕ) → s < n → f s ≡ g s
 abbrev kept : (ℕ → Option Frame) → List ℕ → List ℕ
 kept f xs = filter (λ s. is_some (f s)) xs
 
-kept_one : (f g : ℕ → Option Frame) (a : ℕ) (xs : List ℕ) → f a ≡ g a → kept f xs ≡ kept g xs → (b : Bool) → kept f (cond b (a ∷ xs) xs) ≡ kept g (cond b (a ∷ xs) xs)
+kept_one : (f g : ℕ → Option Frame) (a : ℕ) (xs : List ℕ) → f a ≡ g a → kept f xs ≡ kept g xs → (b : Bool)
+    → kept f (cond b (a ∷ xs) xs) ≡ kept g (cond b (a ∷ xs) xs)
 kept_one f g a xs here rest true = ap (λ o. cond (is_some o) (a ∷ kept f xs) (kept f xs)) here ∙ ap (λ ys. cond (is_some (g a)) (a ∷ ys) ys) rest
 kept_one f g a xs here rest false = rest
 
-kept_same : (f g : ℕ → Option Frame) (q : ℕ → Bool) (a n m : ℕ) → a + n ≡ m → Agree f g m → kept f (filter q (range_with_len a n)) ≡ kept g (filter q (range_with_len a n))
+kept_same : (f g : ℕ → Option Frame) (q : ℕ → Bool) (a n m : ℕ) → a + n ≡ m → Agree f g m
+    → kept f (filter q (range_with_len a n)) ≡ kept g (filter q (range_with_len a n))
 kept_same f g q a zero m e same = refl
 kept_same f g q a (suc n) m e same = kept_one f g a (filter q (range_with_len (a + 1) n)) (same a (omega (arith, e))) (kept_same f g q (a + 1) n m (omega (arith, e)) same) (q a)
 
 -- the first that is kept is one of them
-one_below : (r : ℕ → Bool) (a : ℕ) (xs : List ℕ) (m s : ℕ) (rest : List ℕ) → a < m → (filter r xs ≡ s ∷ rest → s < m) → (b : Bool) → filter r (cond b (a ∷ xs) xs) ≡ s ∷ rest → s < m
+one_below : (r : ℕ → Bool) (a : ℕ) (xs : List ℕ) (m s : ℕ) (rest : List ℕ) → a < m → (filter r xs ≡ s ∷ rest → s < m)
+    → (b : Bool) → filter r (cond b (a ∷ xs) xs) ≡ s ∷ rest → s < m
 one_below r a xs m s rest lt later false is = later is
 one_below r a xs m s rest lt later true is = kept_or_not (r a) is
   where
@@ -254,18 +268,22 @@ one_below r a xs m s rest lt later true is = kept_or_not (r a) is
     kept_or_not true is = let one : a ≡ s = cc in omega (arith, lt, one)
     kept_or_not false is = later is
 
-first_below : (r q : ℕ → Bool) (a n m s : ℕ) (rest : List ℕ) → a + n ≡ m → filter r (filter q (range_with_len a n)) ≡ s ∷ rest → s < m
+first_below : (r q : ℕ → Bool) (a n m s : ℕ) (rest : List ℕ) → a + n ≡ m
+    → filter r (filter q (range_with_len a n)) ≡ s ∷ rest → s < m
 first_below r q a zero m s rest e is = absurd cc
 first_below r q a (suc n) m s rest e is =
     one_below r a (filter q (range_with_len (a + 1) n)) m s rest (omega (arith, e)) (λ later. first_below r q (a + 1) n m s rest (omega (arith, e)) later) (q a) is
 
-line_same : (f g : ℕ → Option Frame) (n : ℕ) (jumps falls : List ℕ) → ((s : ℕ) (rest : List ℕ) → falls ≡ s ∷ rest → s < n) → Agree f g n → line_above f jumps falls ≡ line_above g jumps falls
+line_same : (f g : ℕ → Option Frame) (n : ℕ) (jumps falls : List ℕ)
+    → ((s : ℕ) (rest : List ℕ) → falls ≡ s ∷ rest → s < n) → Agree f g n
+    → line_above f jumps falls ≡ line_above g jumps falls
 line_same f g n [] [] below same = refl
 line_same f g n [] (s ∷ falls) below same = same s (below s falls refl)
 line_same f g n (j ∷ jumps) falls below same = refl
 
 -- what is told at a slot hangs on what is known up to it
-pub told_same : (p : List Form) (f g : ℕ → Option Frame) (t : ℕ) → Agree f g t → f t ≡ g t → told_at p f t ≡ told_at p g t
+pub told_same : (p : List Form) (f g : ℕ → Option Frame) (t : ℕ) → Agree f g t → f t ≡ g t
+    → told_at p f t ≡ told_at p g t
 unfolding told_at
 told_same p f g t same here =
     let falls : falls_into p f t ≡ falls_into p g t = kept_same f g _ 0 t t (omega arith) same in
@@ -277,12 +295,14 @@ told_same p f g t same here =
     ∙ ap (λ fs. frame_told t jumps fs (line_above g jumps (falls_into p g t)) (g t)) falls
 
 -- what is told where nothing leads there, and where something does
-pub told_nothing : (p : List Form) (f : ℕ → Option Frame) (t : ℕ) → f t ≡ None → told_at p f t ≡ codes "nothing leads here"
+pub told_nothing : (p : List Form) (f : ℕ → Option Frame) (t : ℕ) → f t ≡ None
+    → told_at p f t ≡ codes "nothing leads here"
 unfolding told_at
 told_nothing p f t none = ap (frame_told t (slots_into p Jump t) (falls_into p f t) (line_above f (slots_into p Jump t) (falls_into p f t))) none
 
 pub told_known : (p : List Form) (f : ℕ → Option Frame) (t : ℕ) (now : Frame) (jumps falls : List ℕ) (before : Option Frame) (rest out : List ℕ) → f t ≡ Some now → jumps ≡ slots_into p Jump t
-    → falls ≡ falls_into p f t → before ≡ line_above f jumps falls → rest ≡ drop 2 (changes_told before now) → out ≡ reached_told t jumps falls before ++ rest → out ≡ told_at p f t
+    → falls ≡ falls_into p f t → before ≡ line_above f jumps falls → rest ≡ drop 2 (changes_told before now)
+    → out ≡ reached_told t jumps falls before ++ rest → out ≡ told_at p f t
 unfolding told_at
 told_known p f t now jumps falls before rest out is j fs b r o =
     o
@@ -298,12 +318,14 @@ up_to : (o : Option Refused) (t slot : ℕ) → t ≤ slot → IsUpTo o slot →
 up_to None t slot le upto = tt
 up_to (Some e) t slot le upto = omega (arith, le, upto)
 
-known_frame : (s : Study) (slot : ℕ) → IsStudy s → Knows s slot → (t : ℕ) → t ≤ slot → frame_in s.known.frames.items t ≡ joined_frame s.subject.program.now t
+known_frame : (s : Study) (slot : ℕ) → IsStudy s → Knows s slot → (t : ℕ) → t ≤ slot
+    → frame_in s.known.frames.items t ≡ joined_frame s.subject.program.now t
 known_frame s slot study knows t le =
     let good : HasGoodSize s.subject.program.now = record { some = omega (arith, knows.has.within); few = knows.has.few } in
     ap (option_and_then (λ o. o)) (study.frames good t (omega (arith, le, knows.has.within)) (up_to s.known.kinds t slot le knows.upto))
 
-pub told_of : (s : Study) (slot : ℕ) → IsStudy s → Knows s slot → told_at s.subject.program.now (frame_in s.known.frames.items) slot ≡ slot_told s.subject.program.now slot
+pub told_of : (s : Study) (slot : ℕ) → IsStudy s → Knows s slot
+    → told_at s.subject.program.now (frame_in s.known.frames.items) slot ≡ slot_told s.subject.program.now slot
 told_of s slot study knows =
     told_same s.subject.program.now (frame_in s.known.frames.items) (joined_frame s.subject.program.now) slot (λ t lt. known_frame s slot study knows t (omega (arith, lt))) (known_frame s slot study knows slot (omega arith))
 
@@ -316,8 +338,10 @@ take_min xs m is =
     (λ many. let four : m ≡ 4 = omega (arith, is, many) in ap (λ n. take n xs) four)
     (cases_lt (length xs) 4)
 
-pub sources_put : (jumps falls named : List ℕ) (mid left : ℕ) (old n m new : List ℕ) → old ≡ [] → mid ≡ min (length jumps) 4 → named ≡ take mid jumps → left + mid ≡ length jumps → n ≡ old ++ slots_told named
-    → m ≡ n ++ more_told left → new ≡ m ++ slots_told falls → new ≡ concat (slots_told (take 4 jumps) ∷ more_told (length jumps - 4) ∷ slots_told falls ∷ [])
+pub sources_put : (jumps falls named : List ℕ) (mid left : ℕ) (old n m new : List ℕ) → old ≡ []
+    → mid ≡ min (length jumps) 4 → named ≡ take mid jumps → left + mid ≡ length jumps → n ≡ old ++ slots_told named
+    → m ≡ n ++ more_told left → new ≡ m ++ slots_told falls
+    → new ≡ concat (slots_told (take 4 jumps) ∷ more_told (length jumps - 4) ∷ slots_told falls ∷ [])
 sources_put jumps falls named mid left old n m new none is front back x y z =
     let count : left ≡ length jumps - 4 = omega (arith, is, back) in
     three (slots_told named) (more_told left) (slots_told falls) old n m new x y z
@@ -326,7 +350,9 @@ sources_put jumps falls named mid left old n m new none is front back x y z =
     ∙ ap (λ c. concat (slots_told (take 4 jumps) ∷ more_told c ∷ slots_told falls ∷ [])) count
 
 -- the refusal by kinds, also of a program without instructions
-pub kinds_of : (p : List Form) (l : Signature) (k : Option Refused) → (HasGoodSize p → k ≡ lowest_refusal p l (size p)) → (HasBadSize p → k ≡ None) → size p ≤ MAX_SLOTS → k ≡ kinds_refusal p l
+pub kinds_of : (p : List Form) (l : Signature) (k : Option Refused)
+    → (HasGoodSize p → k ≡ lowest_refusal p l (size p)) → (HasBadSize p → k ≡ None) → size p ≤ MAX_SLOTS
+    → k ≡ kinds_refusal p l
 unfolding lowest_refusal
 kinds_of p l k good bad small =
     ⊎_elim (λ some. good (record { some = some; few = small }))

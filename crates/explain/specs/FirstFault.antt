@@ -35,7 +35,8 @@ HasRefusal n why text = (before : List ℕ) × (told : List ℕ) × (text ≡ be
 abbrev pub RefusalIsTold : Type 0
 RefusalIsTold =
     (limits : MapLimits) (files : Files) (manifest text : List ℕ) (e : LoadRefusal)
-    → loaded_within limits manifest files ≡ Err e → TellsOfAll limits files None manifest text → HasRefusal e.line e.why text
+    → loaded_within limits manifest files ≡ Err e → TellsOfAll limits files None manifest text
+    → HasRefusal e.line e.why text
 
 -- ---- the loader's own rules
 
@@ -46,7 +47,8 @@ pub record HasRead (c : CatalogueView) (a : Above) : Type 0 where
 
 -- it finds the same fault in a map, takes the same names, and has room for one more program if there is room
 pub record SharesRules (limits : MapLimits) (c : CatalogueView) (a : Above) : Type 0 where
-  pub map : (shape : Shape) → MatchResult (with_map limits c shape) (λ _. map_fault limits a shape ≡ None) (λ why. map_fault limits a shape ≡ Some why)
+  pub map : (shape : Shape)
+      → MatchResult (with_map limits c shape) (λ _. map_fault limits a shape ≡ None) (λ why. map_fault limits a shape ≡ Some why)
   pub name : (name : List ℕ) → is_taken c.programs name ≡ has_name a name
   pub room : (entry : Entry) → is_err (with_entry c entry) ≡ is_full a
 

@@ -6,5 +6,6 @@ pub mod Listing
 pub mod Study
 pub mod Assembly
 pub mod Manifest
+pub mod Graph
 pub mod FirstFault
 pub mod Explanation

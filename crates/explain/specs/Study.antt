@@ -14,7 +14,8 @@ use Rattle.explain.specs.Told.{Adds}
 -- the study's frames are the joined ones, up to the refusal by kinds, and that is the program's; none where the program is too long
 pub record IsStudy (s : Study) : Type 0 where
   pub frames : HasGoodSize s.subject.program.now → AreKnown s.subject.program.now s.known.kinds s.known.frames.items
-  pub kinds : size s.subject.program.now ≤ MAX_SLOTS → s.known.kinds ≡ kinds_refusal s.subject.program.now (signature_of s.subject)
+  pub kinds : size s.subject.program.now ≤ MAX_SLOTS
+      → s.known.kinds ≡ kinds_refusal s.subject.program.now (signature_of s.subject)
   pub no_kinds : MAX_SLOTS < size s.subject.program.now → s.known.kinds ≡ None
 
 -- the slot is one of a program that can be judged

@@ -1,7 +1,7 @@
 // Files as their authors wrote them: manifests line by line, the files that these name, and assembler text.
 
-ghost use Rattle.std.specs.Prelude.{◌≡◌, option_map};
-ghost use Rattle.loader.specs.ProgramFiles.{file_named, files_of};
+ghost use Rattle.std.specs.Prelude.{◌≡◌, is_ok, is_some, option_map, IfOk};
+ghost use Rattle.loader.specs.ProgramFiles.{file_named, files_of, instructions_of};
 
 mod assembly;
 mod faults;
@@ -28,7 +28,10 @@ pub fn text_of<'a>(files: &[(&'a str, &'a str)], name: &str) -> Option<&'a str>
 }
 
 // The instructions that bytes spell, if they spell some.
-fn decoded(alloc: Global, bytes: &[u8]) -> Result<Option<Vec<Insn>>, AllocError> {
+#[tactic(auto, unfolding(loader::specs::ProgramFiles::instructions_of))]
+fn decoded(alloc: Global, bytes: &[u8]) -> Result<Option<Vec<Insn>>, AllocError>
+    ensures { IfOk result (λ o. is_some o ≡ is_ok (instructions_of bytes.now)) }
+{
     match decode(alloc, bytes) {
         Ok(program) => Ok(Some(program)),
         Err(DecodeError::NoMemory) => Err(AllocError),

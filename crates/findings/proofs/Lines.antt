@@ -10,7 +10,7 @@ use Rattle.loader.specs.declared.refusals.LoadFault.{LoadFault}
 use Rattle.loader.specs.declared.refusals.LoadFault.TheVariants.{BadLine}
 use Rattle.loader.specs.Grammar.{ProgramLine, Meaning, Comment, Program, line_meaning}
 use Rattle.loader.specs.ProgramFiles.{Files, files_of}
-use Rattle.explain.proofs.Export.{nothing_within, taken}
+use Rattle.explain.proofs.Export.{nothing_within}
 use Rattle.explain.specs.Explanation.{IsWithin}
 use Rattle.explain.specs.Manifest.{Above, nothing_above, has_map, map_fault, with_line}
 use Rattle.findings.specs.declared.causes.Finding.{Finding as TheFinding}
@@ -20,7 +20,8 @@ use Rattle.findings.specs.Search.{above_of, name_of, of_named, Adds, TakesLine, 
 
 -- ---- what is wrong with a map
 
-pub refuses_map : (l : MapLimits) (a : Above) (s : Shape) (why : LoadFault) → IsWithin l a → map_fault l a s ≡ Some why → TakesMap l a s a (Some why)
+pub refuses_map : (l : MapLimits) (a : Above) (s : Shape) (why : LoadFault) → IsWithin l a
+    → map_fault l a s ≡ Some why → TakesMap l a s a (Some why)
 refuses_map l a s why within is =
     record {
       taken = subst (λ r. MatchOption r ((Some why ≡ None) × (a ≡ record a { shapes = a.shapes ++ s ∷ [] })) (λ e. (Some why ≡ Some e) × (a ≡ a))) (sym is) (refl, refl);
@@ -33,10 +34,12 @@ refuses_map l a s why within is =
 pub adds_none : (old : List TheFinding) (fs : List Finding) → fs ≡ [] → Adds old old fs
 adds_none old fs none = sym (append-nil (map finding_of old)) ∙ ap (λ gs. map finding_of old ++ gs) (sym none)
 
-pub comment_line : (s : Search) (line : List ℕ) (old : List TheFinding) → IsWithin s.limits (above_of s) → TakesLine s.line line (Some Comment) s s old old
+pub comment_line : (s : Search) (line : List ℕ) (old : List TheFinding) → IsWithin s.limits (above_of s)
+    → TakesLine s.line line (Some Comment) s s old old
 comment_line s line old within = record { found = adds_none old [] refl; above = refl; within = within; limits = refl; files = refl; name = refl }
 
-pub program_line : (s t : Search) (p : ProgramLine) (line : List ℕ) (old new : List TheFinding) → IsWithin s.limits (above_of s)
+pub program_line : (s t : Search) (p : ProgramLine) (line : List ℕ) (old new : List TheFinding)
+    → IsWithin s.limits (above_of s)
     → Adds old new (of_named s p)
     → above_of t ≡ record (above_of s) { names = (above_of s).names ++ p.name ∷ [] } → t.limits ≡ s.limits → t.files ≡ s.files → t.name ≡ s.name
     → TakesLine s.line line (Some (Program p)) s t old new
@@ -68,7 +71,9 @@ pub record SoFar (limits : MapLimits) (files : Files) (name : Option (List ℕ))
 
 module _ (limits : MapLimits) (files : Files) (name : Option (List ℕ)) (manifest : List ℕ) where
   -- before the first line
-  pub at_first : (s : Search) (n : ℕ) (left : List (List ℕ)) (found : List TheFinding) → AreLimits limits → s.limits ≡ limits → s.shapes.items ≡ [] → s.bad_map ≡ None → s.names.items ≡ [] → files_of s.files.now ≡ files → name_of s ≡ name
+  pub at_first : (s : Search) (n : ℕ) (left : List (List ℕ)) (found : List TheFinding) → AreLimits limits
+      → s.limits ≡ limits → s.shapes.items ≡ [] → s.bad_map ≡ None → s.names.items ≡ []
+      → files_of s.files.now ≡ files → name_of s ≡ name
       → n ≡ 1 → left ≡ lines_of manifest → found ≡ [] → SoFar limits files name manifest s n left found
   at_first s n left found are same_limits shapes bad names same_files same_name one all none =
       let above : above_of s ≡ nothing_above =
@@ -88,7 +93,8 @@ module _ (limits : MapLimits) (files : Files) (name : Option (List ℕ)) (manife
       }
 
   -- one line more
-  pub line_more : (s t : Search) (n m : ℕ) (line : List ℕ) (left rest : List (List ℕ)) (old new : List TheFinding) → SoFar limits files name manifest s n left old → left ≡ line ∷ rest → m ≡ next_line n
+  pub line_more : (s t : Search) (n m : ℕ) (line : List ℕ) (left rest : List (List ℕ)) (old new : List TheFinding)
+      → SoFar limits files name manifest s n left old → left ≡ line ∷ rest → m ≡ next_line n
       → TakesLine n line (line_meaning s.limits line) s t old new → SoFar limits files name manifest t m rest new
   line_more s t n m line left rest old new so first next took =
       let tk = subst (λ l. TakesLine n line (line_meaning l line) s t old new) so.same_limits took in
@@ -112,8 +118,10 @@ module _ (limits : MapLimits) (files : Files) (name : Option (List ℕ)) (manife
       }
 
   -- after the last line
-  pub the_end : (s : Search) (n : ℕ) (left : List (List ℕ)) (old new : List TheFinding) → SoFar limits files name manifest s n left old → left ≡ []
-      → Adds old new (finding_if (is_none (name_of s) && not (has_map (above_of s))) (finding n None BadLine)) → map finding_of new ≡ findings limits files name manifest
+  pub the_end : (s : Search) (n : ℕ) (left : List (List ℕ)) (old new : List TheFinding)
+      → SoFar limits files name manifest s n left old → left ≡ []
+      → Adds old new (finding_if (is_none (name_of s) && not (has_map (above_of s))) (finding n None BadLine))
+      → map finding_of new ≡ findings limits files name manifest
   the_end s n left old new so none found =
       let here = subst (λ o. Adds old new (finding_if (is_none o && not (has_map (above_of s))) (finding n None BadLine))) so.same_name found in
       here ∙ ap (λ ls. map finding_of old ++ of_lines limits files name n (above_of s) ls) (sym none) ∙ so.whole

@@ -1,7 +1,7 @@
 // The program's help and version.
 
 /// The version of the newest change that a user notices (CHANGELOG).
-pub const VERSION: &str = "2.6.1";
+pub const VERSION: &str = "2.7.0";
 
 /// The text after the program's commands and options.
 pub const PROGRAM: &str = "\

@@ -1,18 +1,22 @@
 //! Checks eBPF programs, and runs them as the operations of a replicated store of maps.
 //!
-//! Each command is one proved call: `perform`, `perform_kept` or `serve`. Standard streams, files and words have no model in the kit. So
+//! Each command is one proved call: `perform`, `perform_kept` or `serve`. If `serve` ends well, a second one, `hand_back`,
+//! writes the state after the answers or hands its text back. Standard streams, files and words have no model in the kit. So
 //! only tests say that the program does these things:
 //!
-//! - It makes a task of the words, with its options and paths. A second file that is standard input is a fault, and a pipeline that does not
-//!   divide the slots of a node.
+//! - It makes a task of the words, with its options and paths. Two files that are standard input are a fault, and so are
+//!   two that are standard output, and a pipeline that does not divide the slots of a node.
+//! - If there is no memory for the words, the exit status is that of a fault. If there is none for the name of the file next
+//!   to one to be written, it makes no call: `report` writes `no memory`.
 //! - It enters the folder of `-C`.
 //! - It opens a file at its first read, and gives the call what the file has, and no other file.
 //! - It makes the call that the task asks for.
 //! - If all is well, it writes a text into its file: first into one next to it, which then replaces it.
 //! - It writes the state of `stress` after a file of times.
-//! - Standard error gets the notes, faults, sizes, counts, and how much of a large file is read, loaded or written. While a large store opens,
-//!   a second thread says there each second how much memory the store has taken so far.
-//! - The exit status is the status's code.
+//! - Standard error gets the notes, faults, sizes, counts, and how much of a large file is read, loaded or written. While a
+//!   large store opens, a second thread says there each second how much memory the store has taken so far.
+//! - If nobody reads standard output any more, standard error does not say that it can't be written.
+//! - The exit status is the status's code: of the first of these steps that is not good.
 #![tactic(auto)]
 
 mod command_line;

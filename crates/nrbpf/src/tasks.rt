@@ -114,6 +114,11 @@ pub struct Asked<'a, T: Copy> {
     pub call: Call<'a>,
 }
 
+// Whether two of these paths are that of a standard stream.
+fn has_two_dashes(paths: &[Option<&str>]) -> bool {
+    paths.iter().flatten().filter(|path| **path == DASH).count() > 1
+}
+
 impl<'a> Call<'a> {
     // Whether two files are standard input, which can be read only once. `serve` reads its lines there.
     fn reads_twice(&self) -> bool {
@@ -121,9 +126,12 @@ impl<'a> Call<'a> {
             Task::Serve(_) => Some(DASH),
             _ => None,
         };
-        let paths = [self.manifest, self.file, self.state, self.history, lines];
-        let inputs = paths.iter().flatten().filter(|path| **path == DASH);
-        inputs.count() > 1
+        has_two_dashes(&[self.manifest, self.file, self.state, self.history, lines])
+    }
+
+    // Whether two files are standard output, where nobody could tell one from the other.
+    fn writes_twice(&self) -> bool {
+        has_two_dashes(&[self.output, self.times])
     }
 
     /// Whether the task opens a store.
@@ -140,6 +148,9 @@ impl<'a> Call<'a> {
     pub fn fault(&self) -> Option<&'static str> {
         if self.reads_twice() {
             return Some("only one file can be standard input");
+        }
+        if self.writes_twice() {
+            return Some("only one file can be standard output");
         }
         match self.task {
             Task::Stress(asked) if !makes_teams(asked.config, asked.together) => {

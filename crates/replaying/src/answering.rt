@@ -86,7 +86,7 @@ impl<V: StoreWatcher> Replay<'_, V> {
         ensures answered { IfOk result (λ r. answer_of r ≡ replay_answer self.now.spare (Some (texts_read texts.now))) }
     {
         let transcript = texts.file.as_str();
-        match open_texts(alloc, texts, places_within(self.spare), self.watcher)? {
+        match open_texts(alloc, texts, places_within(self.spare), 0, self.watcher)? {
             Opened::On(catalogue, state) => {
                 self.watcher.opens();
                 let replaying = Replaying::open(alloc, &catalogue, state.as_ref());

@@ -9,7 +9,7 @@ use Rattle.verifier.specs.declared.refusal.Mode.{Mode}
 use Rattle.verifier.specs.declared.refusal.Mode.TheVariants.{Update, Read}
 use Rattle.verifier.specs.Accepted.{Checked}
 use Rattle.loader.specs.StoreState.{StateSizes, StoreState, IsState, with_room, opened_state}
-use Rattle.loader.specs.CatalogueView.{CatalogueView, IsCatalogue, number_named, opening_state, sizes_for, with_places}
+use Rattle.loader.specs.CatalogueView.{CatalogueView, IsCatalogue, number_named, opening_state, sizes_for}
 use Rattle.loader.specs.Loading.{Outcome as Loads}
 use Rattle.dumps.specs.Dumping.{dump}
 use Rattle.dumps.specs.Loading.{Outcome, loaded_state, after_lines}
@@ -25,9 +25,9 @@ use Rattle.replica.specs.declared.refusals.StoreRefused.{StoreRefused}
 use Rattle.replica.specs.declared.refusals.StoreRefused.TheVariants.{UnknownProgram, ArgumentLength}
 use Rattle.replica.proofs.Export.{have_effects}
 use Rattle.engine.specs.Answer.{Answer}
-use Rattle.engine.specs.Opening.{opening_of}
+use Rattle.engine.specs.Opening.{opening_of_long, with_places_for}
 use Rattle.engine.specs.StateAnswer.{on_text, opened_by}
-use Rattle.engine.specs.Reading.{limits_of, loaded_by}
+use Rattle.engine.specs.Reading.{limits_of, loaded_by, long_of}
 use Rattle.engine.proofs.Export.{are_limits, on_loaded}
 use Rattle.oplog.specs.declared.configuration.TheConstants.{MAX_LIMIT}
 use Rattle.running.specs.declared.single_node.TheConstants.{RUN_PLACES}
@@ -37,7 +37,7 @@ use Rattle.running.specs.KeptRun.{lines_left, script_kept}
 use Rattle.running.specs.CutLaws.{SameLine, SameLines, IsCut, lines_kept, LinesMayBeCut, ScriptsMayBeCut}
 use Rattle.running.specs.CutLaws as cuts
 use Rattle.running.proofs.Turns.{after_append, whole, update_told, install_told}
-use Rattle.running.proofs.RunsOfLines.{line_turns_are_runs, loaded_is_catalogue, opened_is_catalogue}
+use Rattle.running.proofs.RunsOfLines.{line_turns_are_runs, loaded_is_catalogue, opened_is_catalogue, placed_for}
 use Rattle.running.proofs.UnderLimits.{grows}
 
 -- the catalogue, except that its stores open on something else
@@ -351,9 +351,10 @@ pub scripts_cut : ScriptsMayBeCut
 scripts_cut t whole first second s same few e = by (loaded_by t) refl e
   where
     opens_at : Loads → List ℕ → Result CatalogueView Answer
-    opens_at o state = opening_of (Some RUN_PLACES) o state
+    opens_at o state = opening_of_long (Some RUN_PLACES) (long_of t.sizes) o state
 
     by : (o : Loads) → loaded_by t ≡ o → (script_kept first (opens_at o t.state)).state ≡ Some s → Cut whole first second t.state s same few (opens_at o t.state) (opens_at o (dump s))
     by (Err refusal) is p = absurd cc
     by (Ok c) is p =
-        on_opened whole first second t.state s same few (with_places c RUN_PLACES) (opened_by (with_places c RUN_PLACES) t.state) refl (loaded_is_catalogue (limits_of t.sizes) t.manifest t.files c RUN_PLACES (are_limits t.sizes) is (omega arith)) refl p
+        on_opened whole first second t.state s same few (with_places_for t.sizes c RUN_PLACES) (opened_by (with_places_for t.sizes c RUN_PLACES) t.state) refl
+        (placed_for t.sizes c RUN_PLACES (loaded_is_catalogue (limits_of t.sizes) t.manifest t.files c RUN_PLACES (are_limits t.sizes) is (omega arith))) refl p

@@ -11,5 +11,4 @@ pub mod CutRuns
 pub mod RunWrites
 pub mod OneTurn
 pub mod OneResult
-pub mod WrittenDumps
 pub mod Export

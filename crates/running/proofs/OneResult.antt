@@ -6,7 +6,7 @@ use Rattle.encoding.specs.declared.faults.EncodeRefusal.{EncodeRefusal}
 use Rattle.encoding.specs.Encoded.{encoded_text}
 use Rattle.text.specs.Lines.{lines_of, next_line}
 use Rattle.loader.specs.StoreState.{StoreState}
-use Rattle.loader.specs.CatalogueView.{CatalogueView, IsCatalogue, opened_on, opening_state, with_places, sizes_for}
+use Rattle.loader.specs.CatalogueView.{CatalogueView, IsCatalogue, opened_on, opening_state, sizes_for}
 use Rattle.loader.proofs.Export.{number_behind, numbered}
 use Rattle.dumps.specs.declared.refusals.DumpRefusal.{DumpRefusal}
 use Rattle.dumps.specs.Dumping.{dump}
@@ -22,9 +22,10 @@ use Rattle.engine.specs.declared.replies.Status.{Status}
 use Rattle.engine.specs.declared.replies.Status.TheVariants as statuses
 use Rattle.engine.specs.declared.replies.Verdict.TheVariants as verdicts
 use Rattle.engine.specs.Answer.{Answer, not_text}
-use Rattle.engine.specs.Opening.{opening_of}
+use Rattle.engine.specs.Opening.{opening_of_long, with_places_for}
 use Rattle.engine.specs.Parted.{PartedAnswer, sent_to, whole}
-use Rattle.engine.specs.Reading.{Given, first_stranger, limits_of}
+use Rattle.engine.specs.declared.reading.MapSizes.{MapSizes}
+use Rattle.engine.specs.Reading.{Given, first_stranger, limits_of, long_of}
 use Rattle.engine.specs.Status.{status_of}
 use Rattle.engine.specs.StateAnswer.{refusal_text}
 use Rattle.engine.specs.Written.{AreTexts, IsWritten, loads}
@@ -35,22 +36,22 @@ use Rattle.running.specs.KeptRun.{KeptRun, lines_left, script_kept, with_dump}
 use Rattle.running.specs.RunAnswer.{bad_line, behind, line_turn, lines_answer, state_of, taken}
 use Rattle.running.specs.RunLaw.{AreCallsDone, AreOne, BeginsOn, CallsAreUnique, IsGoodRun, IsGoodText, IsHandedBack, IsRefusedCalls, IsRefusedRun, IsRefusedText, IsUnrun, IsWhole, RunIsUnique, dump_after, handed_back, with_signs}
 use Rattle.running.proofs.OneTurn.{reaches, unequal}
-use Rattle.running.proofs.RunsOfLines.{loaded_is_catalogue, opened_is_catalogue}
+use Rattle.running.proofs.RunsOfLines.{loaded_is_catalogue, opened_is_catalogue, placed_for}
 use Rattle.running.proofs.RunWrites.{good_answer, signed_kept}
 use Rattle.running.proofs.CutRuns.{no_updates}
 
 -- ---- what a run begins on
 
-empty_is_new : (c : CatalogueView) (refusal : DumpRefusal) → loaded_state (sizes_for (with_places c RUN_PLACES)) [] ≡ Err refusal → ⊥
+empty_is_new : (sizes : MapSizes) (c : CatalogueView) (refusal : DumpRefusal) → loaded_state (sizes_for (with_places_for sizes c RUN_PLACES)) [] ≡ Err refusal → ⊥
 unfolding loaded_state after_lines
-empty_is_new c refusal e = cc
+empty_is_new sizes c refusal e = cc
 
 module _ (g : Given) where
   abbrev opens_as : Result CatalogueView Answer
-  opens_as = opening_of (Some RUN_PLACES) (loads g) g.state
+  opens_as = opening_of_long (Some RUN_PLACES) (long_of g.sizes) (loads g) g.state
 
   abbrev by_length : CatalogueView → Bool → Result CatalogueView Answer
-  by_length loaded empty = if empty then Ok (with_places loaded RUN_PLACES) else on_loaded (with_places loaded RUN_PLACES) (loaded_state (sizes_for (with_places loaded RUN_PLACES)) g.state)
+  by_length loaded empty = if empty then Ok (with_places_for g.sizes loaded RUN_PLACES) else on_loaded (with_places_for g.sizes loaded RUN_PLACES) (loaded_state (sizes_for (with_places_for g.sizes loaded RUN_PLACES)) g.state)
 
   some_length : g.state ≢ [] → eqb (length g.state) 0 ≡ false
   some_length some = by g.state some
@@ -59,16 +60,16 @@ module _ (g : Given) where
       by [] some = absurd (some refl)
       by (x ∷ xs) some = unequal _ _ (λ e. absurd (omega (arith, e)))
 
-  is_placed : (loaded : CatalogueView) → loads g ≡ Ok loaded → IsCatalogue (with_places loaded RUN_PLACES)
-  is_placed loaded is = loaded_is_catalogue (limits_of g.sizes) g.manifest _ loaded RUN_PLACES (are_limits g.sizes) is (omega arith)
+  is_placed : (loaded : CatalogueView) → loads g ≡ Ok loaded → IsCatalogue (with_places_for g.sizes loaded RUN_PLACES)
+  is_placed loaded is = placed_for g.sizes loaded RUN_PLACES (loaded_is_catalogue (limits_of g.sizes) g.manifest _ loaded RUN_PLACES (are_limits g.sizes) is (omega arith))
 
   begins : (c : CatalogueView) → BeginsOn g c → IsCatalogue c × (opens_as ≡ Ok c)
   begins _ (BeginsOn.new loaded is empty) =
-      (is_placed loaded is, ap (λ o. opening_of (Some RUN_PLACES) o g.state) is ∙ ap (by_length loaded) (ap (λ (x : List ℕ). eqb (length x) 0) empty))
+      (is_placed loaded is, ap (λ o. opening_of_long (Some RUN_PLACES) (long_of g.sizes) o g.state) is ∙ ap (by_length loaded) (ap (λ (x : List ℕ). eqb (length x) 0) empty))
   begins _ (BeginsOn.given loaded state is some said) =
-      let opened : on_loaded (with_places loaded RUN_PLACES) (loaded_state (sizes_for (with_places loaded RUN_PLACES)) g.state) ≡ Ok (opened_on (with_places loaded RUN_PLACES) state) = ap (on_loaded (with_places loaded RUN_PLACES)) said in (
-        opened_is_catalogue (with_places loaded RUN_PLACES) (opened_on (with_places loaded RUN_PLACES) state) g.state (is_placed loaded is) opened,
-        ap (λ o. opening_of (Some RUN_PLACES) o g.state) is ∙ ap (by_length loaded) (some_length some) ∙ opened,
+      let opened : on_loaded (with_places_for g.sizes loaded RUN_PLACES) (loaded_state (sizes_for (with_places_for g.sizes loaded RUN_PLACES)) g.state) ≡ Ok (opened_on (with_places_for g.sizes loaded RUN_PLACES) state) = ap (on_loaded (with_places_for g.sizes loaded RUN_PLACES)) said in (
+        opened_is_catalogue (with_places_for g.sizes loaded RUN_PLACES) (opened_on (with_places_for g.sizes loaded RUN_PLACES) state) g.state (is_placed loaded is) opened,
+        ap (λ o. opening_of_long (Some RUN_PLACES) (long_of g.sizes) o g.state) is ∙ ap (by_length loaded) (some_length some) ∙ opened,
       )
 
   -- ---- what a script comes to
@@ -91,15 +92,15 @@ module _ (g : Given) where
     strange : (s : List ℕ × List ℕ) → first_stranger g ≡ Some s → text ≡ codes "not UTF-8\n" → Stops text
     barred : AreTexts g → opens_as ≡ Err (bad text) → Stops text
 
-  state_refused : (loaded : CatalogueView) (refusal : DumpRefusal) → AreTexts g → loads g ≡ Ok loaded → loaded_state (sizes_for (with_places loaded RUN_PLACES)) g.state ≡ Err refusal → Stops (refusal_text refusal)
+  state_refused : (loaded : CatalogueView) (refusal : DumpRefusal) → AreTexts g → loads g ≡ Ok loaded → loaded_state (sizes_for (with_places_for g.sizes loaded RUN_PLACES)) g.state ≡ Err refusal → Stops (refusal_text refusal)
   state_refused loaded refusal texts is said =
-      let some : g.state ≢ [] = λ empty. empty_is_new loaded refusal (ap (loaded_state (sizes_for (with_places loaded RUN_PLACES))) (sym empty) ∙ said) in
-      Stops.barred texts (ap (λ o. opening_of (Some RUN_PLACES) o g.state) is ∙ ap (by_length loaded) (some_length some) ∙ ap (on_loaded (with_places loaded RUN_PLACES)) said)
+      let some : g.state ≢ [] = λ empty. empty_is_new g.sizes loaded refusal (ap (loaded_state (sizes_for (with_places_for g.sizes loaded RUN_PLACES))) (sym empty) ∙ said) in
+      Stops.barred texts (ap (λ o. opening_of_long (Some RUN_PLACES) (long_of g.sizes) o g.state) is ∙ ap (by_length loaded) (some_length some) ∙ ap (on_loaded (with_places_for g.sizes loaded RUN_PLACES)) said)
 
   stops : (text : List ℕ) → IsUnrun g text → Stops text
   stops _ (IsUnrun.not_text text (s, is, same)) = Stops.strange s is same
   stops _ (IsUnrun.manifest text (texts, refusal, is, same)) =
-      Stops.barred texts (ap (λ o. opening_of (Some RUN_PLACES) o g.state) is ∙ ap (λ x. Err (bad x)) (sym same))
+      Stops.barred texts (ap (λ o. opening_of_long (Some RUN_PLACES) (long_of g.sizes) o g.state) is ∙ ap (λ x. Err (bad x)) (sym same))
   stops _ (IsUnrun.state loaded refusal texts is said) = state_refused loaded refusal texts is said
 
   module _ (script : List ℕ) where

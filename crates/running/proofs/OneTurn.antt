@@ -62,9 +62,9 @@ wrong Read Read other = absurd (other refl)
 wrong Update Read other = refl
 wrong Read Update other = refl
 
-right : (mode : Mode) → mode_refusal mode mode ≡ None
-right Update = refl
-right Read = refl
+pub own_mode : (mode : Mode) → mode_refusal mode mode ≡ None
+own_mode Update = refl
+own_mode Read = refl
 
 module _ (c : CatalogueView) (mode : Mode) (call : TheCall) where
   abbrev early : Option StoreRefused
@@ -98,7 +98,7 @@ module _ (c : CatalogueView) (mode : Mode) (call : TheCall) where
   goes_on : IsCall mode c call → early ≡ None
   goes_on (inl is) =
       of_program is.program is.named ∙ ap (λ b. if b then mode_refusal mode is.program.mode else Some ArgumentLength) (eq-eqb _ _ is.length_is)
-      ∙ ap (mode_refusal mode) is.mode_is ∙ right mode
+      ∙ ap (mode_refusal mode) is.mode_is ∙ own_mode mode
   goes_on (inr is) =
       of_place is.behind ∙ ap (λ b. if b then place_refusal c call.argument else Some UnknownProgram) (lt-ltb _ _ is.within)
       ∙ ap (λ b. if b then None else Some ArgumentLength) (le-leb _ _ is.short)

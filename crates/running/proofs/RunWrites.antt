@@ -12,7 +12,7 @@ use Rattle.encoding.specs.Faults.{refusal_line}
 use Rattle.verifier.specs.declared.refusal.Mode.TheVariants.{Update, Read}
 use Rattle.text.specs.Lines.{lines_of, next_line}
 use Rattle.loader.specs.StoreState.{StoreState}
-use Rattle.loader.specs.CatalogueView.{CatalogueView, IsCatalogue, opened_on, with_places, sizes_for}
+use Rattle.loader.specs.CatalogueView.{CatalogueView, IsCatalogue, opened_on, sizes_for}
 use Rattle.loader.specs.Loading.{Outcome as Loads}
 use Rattle.loader.proofs.Export.{number_behind, numbered}
 use Rattle.dumps.specs.Dumping.{dump}
@@ -34,9 +34,9 @@ use Rattle.engine.specs.declared.replies.Status.TheVariants as statuses
 use Rattle.engine.specs.declared.replies.Verdict.TheVariants as verdicts
 use Rattle.engine.specs.Answer.{Answer, not_text}
 use Rattle.engine.specs.Engine.{Performs}
-use Rattle.engine.specs.Opening.{opening_of}
+use Rattle.engine.specs.Opening.{opening_of_long, with_places_for}
 use Rattle.engine.specs.Parted.{PartedAnswer, parted_of, sent_to, whole}
-use Rattle.engine.specs.Reading.{Given, first_stranger, limits_of, read}
+use Rattle.engine.specs.Reading.{Given, first_stranger, limits_of, long_of, read}
 use Rattle.engine.specs.Status.{status_of}
 use Rattle.engine.specs.StateAnswer.{refusal_text}
 use Rattle.engine.specs.Written.{AreTexts, IsWritten, loads}
@@ -48,7 +48,7 @@ use Rattle.running.specs.RunAnswer.{Turn, behind, bad_line, line_turn, lines_ans
 use Rattle.running.specs.RunLaw.{AreCallsDone, CallsWrite, IsDone, IsRefusedCalls, AreRun, AsksByName, BeginsOn, IsGoodRun, IsGoodText, IsHandedBack, IsRefusedRun, IsRefusedText, IsTurn, IsUnrun, RunWrites, handed_back, with_signs}
 use Rattle.running.specs.RunLines.{CallRuns, CallTurn, IsInstallTurn, IsReadTurn, IsRefusedTurn, IsUpdateTurn, IsWhySaid, LineTurn, MeaningTurn}
 use Rattle.running.specs.Signed.{reply_in, signed_line, signed_text}
-use Rattle.running.proofs.RunsOfLines.{left_behind, line_turns_are_runs, loaded_is_catalogue, opened_is_catalogue}
+use Rattle.running.proofs.RunsOfLines.{left_behind, line_turns_are_runs, loaded_is_catalogue, opened_is_catalogue, placed_for}
 use Rattle.running.proofs.CutRuns.{no_updates}
 
 -- ---- one line
@@ -212,20 +212,20 @@ module _ (g : Given) (texts : AreTexts g) where
 
   module _ (loaded : CatalogueView) (is : loads g ≡ Ok loaded) where
     abbrev placed : CatalogueView
-    placed = with_places loaded RUN_PLACES
+    placed = with_places_for g.sizes loaded RUN_PLACES
 
     is_placed : IsCatalogue placed
-    is_placed = loaded_is_catalogue (limits_of g.sizes) g.manifest _ loaded RUN_PLACES (are_limits g.sizes) is (omega arith)
+    is_placed = placed_for g.sizes loaded RUN_PLACES (loaded_is_catalogue (limits_of g.sizes) g.manifest _ loaded RUN_PLACES (are_limits g.sizes) is (omega arith))
 
-    by_state : (o : Outcome) → (g.state ≡ [] → ⊥) → loaded_state (sizes_for (with_places loaded RUN_PLACES)) g.state ≡ o → OpeningIs (on_loaded placed o)
+    by_state : (o : Outcome) → (g.state ≡ [] → ⊥) → loaded_state (sizes_for (with_places_for g.sizes loaded RUN_PLACES)) g.state ≡ o → OpeningIs (on_loaded placed o)
     by_state (Ok s) some said = (opened_is_catalogue placed (opened_on placed s) g.state is_placed (ap (on_loaded placed) said), BeginsOn.given loaded s is some said)
     by_state (Err e) some said = (refusal_text e, IsUnrun.state loaded e texts is said, refl)
 
-    by_length : (b : Bool) → eqb (length g.state) 0 ≡ b → OpeningIs (if b then Ok placed else on_loaded placed (loaded_state (sizes_for (with_places loaded RUN_PLACES)) g.state))
+    by_length : (b : Bool) → eqb (length g.state) 0 ≡ b → OpeningIs (if b then Ok placed else on_loaded placed (loaded_state (sizes_for (with_places_for g.sizes loaded RUN_PLACES)) g.state))
     by_length true empty = (is_placed, BeginsOn.new loaded is (nil_from_length g.state (eqb-true _ _ empty)))
     by_length false some = by_state _ (λ empty. false≢true (sym some ∙ ap (λ (x : List ℕ). eqb (length x) 0) empty)) refl
 
-  by_load : (o : Loads) → loads g ≡ o → OpeningIs (opening_of (Some RUN_PLACES) o g.state)
+  by_load : (o : Loads) → loads g ≡ o → OpeningIs (opening_of_long (Some RUN_PLACES) (long_of g.sizes) o g.state)
   by_load (Ok loaded) is = by_length loaded is (eqb (length g.state) 0) refl
   by_load (Err e) is = (_, IsUnrun.manifest _ (texts, e, is, refl), refl)
 
@@ -233,7 +233,7 @@ module _ (g : Given) (texts : AreTexts g) where
   by_opening script (Ok c) (is_whole, begins) = on_lines g script c texts is_whole begins
   by_opening script (Err a) (text, unrun, same) = inr (text, IsRefusedRun.unrun text unrun, ap (λ x. record { answer = x; state = None }) same)
 
-  pub runs_as : (script : List ℕ) → RunIs g script (script_kept script (opening_of (Some RUN_PLACES) (loads g) g.state))
+  pub runs_as : (script : List ℕ) → RunIs g script (script_kept script (opening_of_long (Some RUN_PLACES) (long_of g.sizes) (loads g) g.state))
   runs_as script = by_opening script _ (by_load (loads g) refl)
 
   by_calls : (refusal : EncodeRefusal) (r : Result CatalogueView Answer) → OpeningIs r → RefusesCalls g refusal (whole (refused_on refusal r))

@@ -23,7 +23,7 @@ use Rattle.loader.specs.Installed.{installed_program, most_argument, most_bytes}
 use Rattle.loader.specs.declared.installed.InstallRefusal.{InstallRefusal}
 use Rattle.loader.specs.declared.installed.InstallRefusal.TheVariants.{Decode, Verify}
 use Rattle.loader.specs.CatalogueView.{CatalogueView, Entry, IsCatalogue, number_named, opened_on, opening_state, sizes_for, with_places}
-use Rattle.loader.specs.declared.installed.TheConstants.{MOST_SPARE}
+use Rattle.loader.specs.declared.installed.TheConstants.{MOST_LONG, MOST_SPARE}
 use Rattle.loader.specs.Grammar.{mode_of}
 use Rattle.loader.specs.ProgramFiles.{Files}
 use Rattle.maps.specs.declared.shapes.MapLimits.{MapLimits}
@@ -38,12 +38,16 @@ use Rattle.oplog.specs.Operations.{Operation}
 use Rattle.oplog.specs.declared.records.Op.TheVariants.{Run, Install as AnInstall}
 use Rattle.oplog.specs.History.{Effect, ReadEffect, History, left_by, after, state_after, effect_at, read_at}
 use Rattle.replica.specs.StoreMeaning.{program_at, program_in, is_operation, AreUpdates, store_meaning}
-use Rattle.replica.specs.HistoryLaws.{IsEffectOf, HasEffects}
+use Rattle.replica.specs.HistoryLaws.{IsEffectOf}
 use Rattle.replica.specs.Refusals.{mode_refusal, program_refusal, offered_refusal, place_refusal, early_refusal, reading_refusal, install_refusal}
 use Rattle.replica.specs.declared.refusals.StoreRefused.{StoreRefused}
 use Rattle.replica.specs.declared.refusals.StoreRefused.TheVariants.{UnknownProgram, ArgumentLength, WrongMode, Ended, TooLarge, NotDecoded, NotAccepted}
 use Rattle.replica.proofs.Export.{is_asked, may_install, are_tested, tests_offered, suits_so, offered_below, have_effects}
+use Rattle.engine.specs.declared.reading.MapSizes.{MapSizes}
+use Rattle.engine.specs.declared.reading.MapSizes.TheVariants.{Standard, Large}
 use Rattle.engine.specs.Answer.{Answer}
+use Rattle.engine.specs.Opening.{with_places_for}
+use Rattle.engine.specs.Reading.{long_of}
 use Rattle.scripts.specs.Script.{ProgramCall, Meaning, Comment, Call, InvokeAt, ReadAt, Install, named_call, numbered_call, program_fields, new_program, word_meaning, call_meaning, line_meaning}
 use Rattle.running.specs.RunAnswer.{Turn, refused, with_operation, read_text, submitted, performed, numbered, called, taken, line_turn, behind, bad_line, lines_answer}
 use Rattle.running.specs.RunLines.{CallRuns, IsUpdateTurn, IsReadTurn, IsInstallTurn, IsRefusedTurn, IsWhy, IsWhyNamed, IsWhyInstall, MeaningTurn, LineTurn, ScriptRuns, LineTurnsAreRuns, RunLinesAreRuns, LoadedIsCatalogue, OpenedIsCatalogue}
@@ -186,9 +190,6 @@ install_goes_on false r e = cc
 -- ---- operations that are performed
 
 module _ (c : CatalogueView) (is_whole : IsCatalogue c) (h : History) (updates : AreUpdates c h) where
-  pub has_effects : HasEffects c h
-  has_effects = have_effects c is_whole h updates
-
   abbrev here : StoreState
   here = state_after store_meaning c h (length h)
 
@@ -216,7 +217,7 @@ module _ (c : CatalogueView) (is_whole : IsCatalogue c) (h : History) (updates :
 
   read_turn : (call : TheCall) → is_operation Read c (Run call) ≡ true → IsReadTurn c h call (read_of_call call)
   read_turn call is =
-      let u = has_effects.reads (length h) call is in
+      let u = (have_effects c is_whole h updates).reads (length h) call is in
       record { asked = (are_tested Read c (Run call)).0 is; done = u.0; does = u.1; text = ap (λ e. option_map_or (read_told (length h)) e []) u.2; same = refl; left = u.3 }
 
   stops : (Why : StoreRefused → Type 0) (why : StoreRefused) → Why why → IsRefusedTurn Why h (refused h why)
@@ -226,12 +227,12 @@ module _ (c : CatalogueView) (is_whole : IsCatalogue c) (h : History) (updates :
   module _ (limit : ℕ) where
     update_turn : (call : TheCall) → is_operation Update c (Run call) ≡ true → length h < limit → IsUpdateTurn limit c h call (update_of call)
     update_turn call is room =
-        let u = has_effects.updates (length h) call is in
+        let u = (have_effects c is_whole h updates).updates (length h) call is in
         record { asked = (are_tested Update c (Run call)).0 is; done = u.0; does = u.1; room = room; text = ap (λ e. option_map_or (update_told (length h)) e []) u.2; next = refl; left = ap (λ (s : StoreState). s.maps) (left_behind (Run call) _ u.2) }
 
     install_turn : (new : NewProgram) → is_operation Update c (AnInstall new) ≡ true → length h < limit → IsInstallTurn limit c h new (install_of new)
     install_turn new is room =
-        let u = has_effects.installs (length h) new is in
+        let u = (have_effects c is_whole h updates).installs (length h) new is in
         record { asked = (are_tested Update c (AnInstall new)).0 is; program = u.0; read = u.1; room = room; text = ap (λ e. option_map_or (install_told (length h)) e []) u.2; next = refl; left = left_behind (AnInstall new) _ u.2 }
 
     -- ---- why a call is refused
@@ -397,6 +398,15 @@ loaded_catalogue l text files c ok e =
 -- a catalogue with so many places is one
 placed_catalogue : (c : CatalogueView) (places : ℕ) → IsCatalogue c → places ≤ MOST_SPARE → IsCatalogue (with_places c places)
 placed_catalogue c places is few = record { shapes = is.shapes; accepted = is.accepted; checked = is.checked; distinct = is.distinct; few = is.few; few_places = few; few_bytes = omega arith; opening = tt }
+
+few_long : (sizes : MapSizes) → long_of sizes ≤ MOST_LONG
+few_long Standard = omega arith
+few_long Large = omega arith
+
+-- also with places for programs as long as these sizes allow
+pub placed_for : (sizes : MapSizes) (c : CatalogueView) (places : ℕ) → IsCatalogue (with_places c places) → IsCatalogue (with_places_for sizes c places)
+placed_for sizes c places is =
+    record { shapes = is.shapes; accepted = is.accepted; checked = is.checked; distinct = is.distinct; few = is.few; few_places = is.few_places; few_bytes = few_long sizes; opening = tt }
 
 pub line_turns_are_runs : LineTurnsAreRuns
 unfolding line_turn

@@ -7,7 +7,7 @@ use Rattle.loader.specs.CatalogueView.{CatalogueView}
 use Rattle.engine.specs.declared.parted.Destination.{Destination}
 use Rattle.engine.specs.declared.replies.Verdict.TheVariants as verdicts
 use Rattle.engine.specs.Answer.{Answer, not_text}
-use Rattle.engine.specs.Opening.{opening}
+use Rattle.engine.specs.Opening.{long_opening}
 use Rattle.engine.specs.Parted.{PartedAnswer, whole}
 use Rattle.engine.specs.Reading.{TextsRead}
 use Rattle.running.specs.declared.single_node.TheConstants.{RUN_PLACES}
@@ -19,7 +19,7 @@ refused_on refusal (Ok c) = record { text = refusal_line refusal; verdict = verd
 refused_on refusal (Err a) = a
 
 abbrev pub calls_refused : EncodeRefusal → TextsRead → PartedAnswer
-calls_refused refusal t = whole (refused_on refusal (opening (Some RUN_PLACES) t))
+calls_refused refusal t = whole (refused_on refusal (long_opening (Some RUN_PLACES) t))
 
 -- by what the calls are as a script
 abbrev pub script_run : Bool → Destination → TextsRead → Result (List ℕ) EncodeRefusal → PartedAnswer

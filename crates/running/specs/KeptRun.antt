@@ -1,7 +1,6 @@
 -- What `run` answers, and the state that it leaves, as functions of the manifest, its files, the script and the state's text that were read.
 use Rattle.std.specs.Prelude.{ℕ, Bool, List, [], ◌∷◌, Option, Some, None, option_map, option_and_then, Result, Ok, Err, if◌then◌else◌}
 use Rattle.std.specs.Option.{option_map_or}
-use Rattle.std.specs.Io.KnownBytes.{Appends, Keeps}
 use Rattle.text.specs.Lines.{lines_of}
 use Rattle.loader.specs.StoreState.{StoreState}
 use Rattle.loader.specs.CatalogueView.{CatalogueView}
@@ -9,18 +8,15 @@ use Rattle.oplog.specs.declared.configuration.TheConstants.{MAX_LIMIT}
 use Rattle.oplog.specs.History.{History}
 use Rattle.running.specs.declared.single_node.TheConstants.{RUN_PLACES}
 use Rattle.running.specs.declared.runs.Kept.{Kept}
-use Rattle.engine.specs.declared.replies.Status.{Status}
-use Rattle.engine.specs.declared.replies.Status.TheVariants as statuses
 use Rattle.engine.specs.declared.parted.Destination.{Destination}
 use Rattle.engine.specs.Answer.{Answer, not_text}
 use Rattle.engine.specs.Reading.{TextsRead}
-use Rattle.engine.specs.Opening.{opening}
+use Rattle.engine.specs.Opening.{long_opening}
 use Rattle.running.specs.Signed.{signed_text}
 use Rattle.running.specs.RunAnswer.{line_turn, lines_answer, state_of}
 use Rattle.engine.specs.Report.{answer_of}
 use Rattle.engine.specs.Parted.{PartedAnswer, sent_to, whole}
 use Rattle.dumps.specs.Dumping.{dump}
-use Rattle.engine.specs.Transfer.{AppendsBeginning}
 
 -- ---- what lines leave
 
@@ -48,7 +44,7 @@ script_kept script (Err a) = record { answer = a; state = None }
 abbrev pub run_kept : Bool → Option TextsRead → KeptRun
 run_kept is_signed None = record { answer = not_text; state = None }
 run_kept is_signed (Some t) =
-    let k = script_kept t.file (opening (Some RUN_PLACES) t) in
+    let k = script_kept t.file (long_opening (Some RUN_PLACES) t) in
     if is_signed then record k { answer = record k.answer { text = signed_text k.answer.text } } else k
 
 -- ---- a run whose state is dumped
@@ -65,14 +61,3 @@ dumped_run is_signed to t = with_dump to (run_kept is_signed t)
 
 abbrev pub kept_of : Kept → KeptRun
 kept_of k = record { answer = answer_of k.reply; state = k.state }
-
--- ---- a state that is written
-
--- the state's text is after what was there; or memory ran out and nothing was written; or the write broke off
-abbrev pub Dumps : Option (List ℕ) → Option (List ℕ) → Status → List ℕ → Type 0
-Dumps old new statuses.Good text = Appends old new text
-Dumps old new statuses.NoMemory text = Keeps old new
-Dumps old new statuses.CannotWrite text = AppendsBeginning old new text
-Dumps old new statuses.Refused text = ⊥
-Dumps old new statuses.CannotRead text = ⊥
-Dumps old new statuses.Differs text = ⊥

@@ -8,7 +8,7 @@ use Rattle.verifier.specs.declared.refusal.Mode.TheVariants.{Update, Read}
 use Rattle.verifier.specs.Accepted.{Checked}
 use Rattle.machine.specs.Effects.{Effect as RunEffect}
 use Rattle.text.specs.Lines.{lines_of, next_line}
-use Rattle.loader.specs.CatalogueView.{CatalogueView, number_named, opened_on, opening_state, with_places, sizes_for}
+use Rattle.loader.specs.CatalogueView.{CatalogueView, number_named, opened_on, opening_state, sizes_for}
 use Rattle.loader.specs.Installed.{installed_program}
 use Rattle.loader.specs.StoreState.{StoreState}
 use Rattle.dumps.specs.declared.refusals.DumpRefusal.{DumpRefusal}
@@ -27,6 +27,7 @@ use Rattle.engine.specs.declared.performing.Performed.{Performed}
 use Rattle.engine.specs.declared.replies.Status.{Status}
 use Rattle.engine.specs.declared.replies.Status.TheVariants as statuses
 use Rattle.engine.specs.Engine.{PerformsRead}
+use Rattle.engine.specs.Opening.{with_places_for}
 use Rattle.engine.specs.Parted.{parted_of}
 use Rattle.engine.specs.Reading.{Given}
 use Rattle.engine.specs.StateAnswer.{refusal_text}
@@ -40,12 +41,12 @@ use Rattle.running.specs.Signed.{signed_text}
 
 -- ---- what a run begins on
 
--- The manifest is good, and four more programs may be installed. The run begins on a new state if the state's text is empty, else on the one that the
+-- The manifest is good, and four more programs may be installed, longer ones if the maps may be large. The run begins on a new state if the state's text is empty, else on the one that the
 -- text says
 pub data BeginsOn (g : Given) : CatalogueView → Type 0 where
-  new : (loaded : CatalogueView) → loads g ≡ Ok loaded → g.state ≡ [] → BeginsOn g (with_places loaded RUN_PLACES)
-  given : (loaded : CatalogueView) (state : StoreState) → loads g ≡ Ok loaded → g.state ≢ [] → loaded_state (sizes_for (with_places loaded RUN_PLACES)) g.state ≡ Ok state
-      → BeginsOn g (opened_on (with_places loaded RUN_PLACES) state)
+  new : (loaded : CatalogueView) → loads g ≡ Ok loaded → g.state ≡ [] → BeginsOn g (with_places_for g.sizes loaded RUN_PLACES)
+  given : (loaded : CatalogueView) (state : StoreState) → loads g ≡ Ok loaded → g.state ≢ [] → loaded_state (sizes_for (with_places_for g.sizes loaded RUN_PLACES)) g.state ≡ Ok state
+      → BeginsOn g (opened_on (with_places_for g.sizes loaded RUN_PLACES) state)
 
 -- ---- one line
 
@@ -99,7 +100,7 @@ IsGoodRun g script text left = AreTexts g × (c : CatalogueView) × BeginsOn g c
 pub data IsUnrun (g : Given) : List ℕ → Type 0 where
   not_text : (text : List ℕ) → IsNotText g text → IsUnrun g text
   manifest : (text : List ℕ) → IsManifestRefused g text → IsUnrun g text
-  state : (loaded : CatalogueView) (refusal : DumpRefusal) → AreTexts g → loads g ≡ Ok loaded → loaded_state (sizes_for (with_places loaded RUN_PLACES)) g.state ≡ Err refusal
+  state : (loaded : CatalogueView) (refusal : DumpRefusal) → AreTexts g → loads g ≡ Ok loaded → loaded_state (sizes_for (with_places_for g.sizes loaded RUN_PLACES)) g.state ≡ Err refusal
       → IsUnrun g (refusal_text refusal)
 
 -- no line is run, or those before the first bad one are, and `line N bad` is the last

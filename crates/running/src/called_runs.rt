@@ -22,7 +22,7 @@ fn refused<V: StoreWatcher>(
 ) -> Result<Parted, AllocError>
     ensures { IfOk result (λ p. parted_of p ≡ calls_refused refusal (texts_read texts.now)) }
 {
-    match open_texts(alloc, texts, Some(RUN_PLACES), watcher)? {
+    match open_texts(alloc, texts, Some(RUN_PLACES), texts.sizes.long(), watcher)? {
         Opened::On(..) => Ok(Parted::whole(Reply::refused(refusal_line(alloc, refusal)?))),
         Opened::Refused(reply) => Ok(Parted::whole(reply)),
     }

@@ -19,5 +19,5 @@ pub use laws::{
     runs_may_be_cut,
 };
 pub use run_texts::{bad_line, put_bad_line};
-pub use runs::{Kept, Run, dump_to};
+pub use runs::{Kept, Run};
 pub use single_node::SingleNode;

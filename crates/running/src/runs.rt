@@ -4,20 +4,18 @@ ghost use Rattle.std.specs.Prelude.{◌≡◌, false, None, Ok, Option, option_m
 ghost use Rattle.loader.specs.CatalogueView.{OpensOn};
 ghost use Rattle.oplog.specs.declared.configuration.TheConstants.{MAX_LIMIT};
 ghost use Rattle.oplog.specs.History.{History};
-ghost use Rattle.dumps.specs.Dumping.{dump};
 ghost use Rattle.engine.specs.Reading.{texts_read};
-ghost use Rattle.engine.specs.Report.{answer_of, Failed};
-ghost use Rattle.running.specs.KeptRun.{run_kept, kept_of, script_kept, Dumps};
+ghost use Rattle.engine.specs.Report.{answer_of};
+ghost use Rattle.running.specs.KeptRun.{run_kept, kept_of, script_kept};
 ghost use Rattle.running.specs.RunAnswer.{state_of};
 ghost use Rattle.running.specs.Running.{IsSteady, HasLeft, with_signs};
 
 use crate::lines::take_lines;
 use crate::signed_texts::signed_text;
 use crate::single_node::{RUN_PLACES, SingleNode};
-use dumps::Dumping;
 use engine::{
-    AnswerText, Answering, Command, Gathered, Notes, Opened, Reply, Sink, Status, StoreWatcher,
-    Texts, Verdict, not_text, open_texts, write_pieces,
+    AnswerText, Answering, Command, Gathered, Notes, Opened, Reply, StoreWatcher, Texts, Verdict,
+    not_text, open_texts,
 };
 use loader::{Catalogue, StoreState};
 use oplog::MAX_LIMIT;
@@ -89,7 +87,7 @@ fn run_lines<V: StoreWatcher>(
 fn run_script<V: StoreWatcher>(alloc: Global, texts: Texts, watcher: &V) -> Result<Kept, AllocError>
     ensures { IfOk result (λ k. kept_of k ≡ run_kept false (Some (texts_read texts))) }
 {
-    let opened = open_texts(alloc, &texts, Some(RUN_PLACES), watcher)?;
+    let opened = open_texts(alloc, &texts, Some(RUN_PLACES), texts.sizes.long(), watcher)?;
     let script = texts.into_file();
     match opened {
         Opened::On(catalogue, state) => {
@@ -143,16 +141,5 @@ impl<V: StoreWatcher> Command for Run<'_, V> {
         } else {
             Ok(kept)
         }
-    }
-}
-
-/// Writes a state as text. Says how it ended: where memory runs out, nothing is written.
-pub fn dump_to<D: Sink>(alloc: Global, state: &StoreState, writer: &mut D) -> Status
-    ensures written { Dumps (D.contents writer.old) (D.contents writer.new) result (dump state.now) }
-    ensures failed { Failed result ⊥ (D.has_failed writer.new) }
-{
-    match Dumping::new(alloc, state) {
-        Ok(dumping) => write_pieces(writer, dumping.pieces(), Status::Good),
-        Err(_) => Status::NoMemory,
     }
 }

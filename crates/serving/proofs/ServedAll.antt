@@ -1,5 +1,5 @@
 -- What `serve` did, from what was opened.
-use Rattle.std.proofs.Common.{◌≡◌, ◌⊎◌, inl, inr, ℕ, Bool, List, [], Option, None, Result, Ok, Err, refl, sym, ap, subst, ◌∙◌}
+use Rattle.std.proofs.Common.{◌≡◌, ◌⊎◌, inl, inr, ℕ, Bool, List, [], Option, None, Result, Ok, Err, refl, sym, ap, subst, ◌∙◌, arith}
 use Rattle.std.specs.Prelude.{IfOk}
 use Rattle.std.specs.Io.KnownBytes.{Appends, Keeps}
 use Rattle.loader.specs.CatalogueView.{CatalogueView}
@@ -22,7 +22,7 @@ use Rattle.engine.specs.Texts.{no_memory_line}
 use Rattle.engine.proofs.Export.{reports}
 use Rattle.serving.specs.declared.service.Service.{Service}
 use Rattle.serving.specs.ServiceKept.{IsServiceOf, Stands}
-use Rattle.serving.specs.ServeAnswer.{Ports, Serves, ServesAll, served_text, nothing_served, service}
+use Rattle.serving.specs.ServeAnswer.{IsInLastRead, Ports, Serves, ServesAll, served_text, nothing_served, service}
 use Rattle.serving.proofs.Served.{none_served}
 use Rattle.serving.proofs.Turned.{between, appends_none, appends_kept, consumes_none, never_good, no_memory_at, none_given, state_served}
 
@@ -37,7 +37,7 @@ module _ (v : Bool) (given old new : Option (List ℕ)) (got : Status) (ended : 
         bytes = [];
         read = consumes_none given;
         whole = λ good. absurd (never_good old new got sends good);
-        answers = no_memory_at old old new got (served_text v c) [] 0 (subst (λ (t : List ℕ). Appends old old t) (sym (ap (λ x. x.text) (none_served c (nothing_served v)))) (appends_none old)) sends;
+        answers = no_memory_at old old new got (IsInLastRead []) (served_text v c) [] 0 (omega arith) (subst (λ (t : List ℕ). Appends old old t) (sym (ap (λ x. x.text) (none_served c (nothing_served v)))) (appends_none old)) sends;
         state = none_given old new got (state_served v c []) sends;
       }
 

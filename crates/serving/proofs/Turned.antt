@@ -1,7 +1,7 @@
 -- Turn after turn: what was read, and what was written.
-use Rattle.std.proofs.Common.{◌≡◌, inl, inr, ℕ, ◌+◌, ◌<◌, Bool, List, [], ◌++◌, length, take, Option, Some, None, Result, Ok, Err, refl, sym, ap, subst, ◌∙◌, append_assoc}
+use Rattle.std.proofs.Common.{◌≡◌, inl, inr, ℕ, ◌+◌, ◌<◌, ◌≤◌, Bool, List, [], ◌++◌, length, take, Option, Some, None, Result, Ok, Err, refl, sym, ap, subst, ◌∙◌, append_assoc, arith}
 use Rattle.std.proofs.Math.Seq.{take-append-add, take-length}
-use Rattle.std.proofs.lemmas.List.{append-nil}
+use Rattle.std.proofs.lemmas.List.{append-nil, length-append, length-take}
 use Rattle.std.proofs.lemmas.Option.{same_Some}
 use Rattle.std.specs.Io.KnownBytes.{Appends, Consumes, Keeps, IsAtEnd}
 use Rattle.loader.specs.StoreState.{StoreState}
@@ -16,8 +16,9 @@ use Rattle.engine.specs.Report.{Sends}
 use Rattle.oplog.specs.declared.configuration.TheConstants.{ENDLESS}
 use Rattle.running.specs.RunAnswer.{state_of}
 use Rattle.running.proofs.Export as run_turns
-use Rattle.serving.specs.ServeAnswer.{ServiceState, Served, served, served_text, nothing_served, given_back, AnswersBytes, Ports, Serves}
-use Rattle.serving.specs.ServiceKept.{Stands, TakesBytes, Turns, Going}
+use Rattle.serving.specs.declared.turns.TheConstants.{ROOM_BYTES}
+use Rattle.serving.specs.ServeAnswer.{ServiceState, Served, served, served_text, nothing_served, given_back, AnswersBytes, IsInLastRead, Ports, Serves}
+use Rattle.serving.specs.ServiceKept.{Stands, HasTaken, TakesBytes, Turns, Going}
 use Rattle.serving.proofs.Served.{served_parts, none_served}
 use Rattle.engine.proofs.Export.{appended, first_broken_off}
 
@@ -61,12 +62,12 @@ begins_both x y z a b p q = (length a + q.0, subst (λ (t : List ℕ). Appends x
 -- ---- how a turn ends
 
 -- the line that no memory is left was sent behind what a beginning is answered, or broke off
-pub no_memory_at : (old now new : Option (List ℕ)) (got : Status) (text : List ℕ → List ℕ) (bytes : List ℕ) (k : ℕ)
-    → Appends old now (text (take k bytes)) → Sends now new got no_memory_line statuses.NoMemory → AnswersBytes old new got text bytes
-no_memory_at old now new got text bytes k p (inl whole) =
-    subst (λ (s : Status). AnswersBytes old new s text bytes) (sym whole.0) (k, appended old now new (text (take k bytes)) no_memory_line p whole.1)
-no_memory_at old now new got text bytes k p (inr broke) =
-    subst (λ (s : Status). AnswersBytes old new s text bytes) (sym broke.0) (inr (k, begins_both old now new (text (take k bytes)) no_memory_line p broke.1))
+pub no_memory_at : (old now new : Option (List ℕ)) (got : Status) (P : ℕ → Type 0) (text : List ℕ → List ℕ) (bytes : List ℕ) (k : ℕ) → P k
+    → Appends old now (text (take k bytes)) → Sends now new got no_memory_line statuses.NoMemory → AnswersBytes old new got P text bytes
+no_memory_at old now new got P text bytes k so p (inl whole) =
+    subst (λ (s : Status). AnswersBytes old new s P text bytes) (sym whole.0) (k, so, appended old now new (text (take k bytes)) no_memory_line p whole.1)
+no_memory_at old now new got P text bytes k so p (inr broke) =
+    subst (λ (s : Status). AnswersBytes old new s P text bytes) (sym broke.0) (inr (k, so, begins_both old now new (text (take k bytes)) no_memory_line p broke.1))
 
 -- it is not said then that all is well
 pub never_good : (now new : Option (List ℕ)) (got : Status) → Sends now new got no_memory_line statuses.NoMemory → got ≡ statuses.Good → ⊥
@@ -80,6 +81,10 @@ none_given now new got s (inr broke) = subst (λ (x : Status). None ≡ given_ba
 
 -- ---- one turn
 
+-- what was read into room for one read
+pub few_read : (n : ℕ) (room was : List ℕ) → length room ≡ length was → length was ≤ ROOM_BYTES → length (take n room) ≤ ROOM_BYTES
+few_read n room was same few = omega (arith, length-take n room, same, few)
+
 module _ (c : CatalogueView) (s : ServiceState) (service : Service) (given left : Option (List ℕ)) where
   nothing_written : (old new : Option (List ℕ)) → Appends old new [] → Appends old new (served c s []).text
   nothing_written old new a = subst (λ (t : Served). Appends old new t.text) (sym (none_served c s)) a
@@ -87,36 +92,48 @@ module _ (c : CatalogueView) (s : ServiceState) (service : Service) (given left 
   pub at_end : (old : Option (List ℕ)) (room : List ℕ) (n : ℕ) → n ≡ 0 → 0 < length room → Consumes given left (take n room) × (n ≡ 0 → 0 < length room → IsAtEnd left)
       → Turns c s service (between given left old old) (Some statuses.Good)
   at_end old room n none there some =
-      record { bytes = []; read = subst (λ (k : ℕ). Consumes given left (take k room)) none some.0; whole = λ good. (some.1 none there, refl); answers = nothing_written old old (appends_none old) }
+      record { bytes = []; read = subst (λ (k : ℕ). Consumes given left (take k room)) none some.0; few = omega arith; whole = λ good. (some.1 none there, refl); answers = nothing_written old old (appends_none old) }
 
   pub unread : (old : Option (List ℕ)) → Keeps given left → Turns c s service (between given left old old) (Some statuses.CannotRead)
   unread old kept =
-      record { bytes = []; read = consumes_kept given left kept; whole = λ good. absurd cc; answers = nothing_written old old (appends_none old) }
+      record { bytes = []; read = consumes_kept given left kept; few = omega arith; whole = λ good. absurd cc; answers = nothing_written old old (appends_none old) }
 
-  module _ (old now new : Option (List ℕ)) (bytes before after : List ℕ) (read : Consumes given left bytes) (empty : before ≡ []) where
+  module _ (old now new : Option (List ℕ)) (bytes before after : List ℕ) (read : Consumes given left bytes) (few : length bytes ≤ ROOM_BYTES) (empty : before ≡ []) where
+    pub all_sent : (after ≡ before ++ (served c s bytes).text) × Stands (served c s bytes).serving service → Appends old new after → Turns c s service (between given left old new) None
+    all_sent taken sent =
+        record {
+          bytes = bytes;
+          read = read;
+          few = few;
+          whole = λ good. absurd cc;
+          answers = (subst (λ (x : List ℕ). Appends old new x) (taken.0 ∙ ap (λ (x : List ℕ). x ++ (served c s bytes).text) empty) sent, taken.1);
+        }
+
     -- the answers broke off
     broke_off : {E : Type 0} (r : Result (Unit {0}) E) → TakesBytes c s bytes service before after r → AppendsBeginning old new after
-        → AnswersBytes old new statuses.CannotWrite (λ b. (served c s b).text) bytes
+        → AnswersBytes old new statuses.CannotWrite (HasTaken c s bytes service) (λ b. (served c s b).text) bytes
     broke_off (Ok u) taken sent =
         inl (subst (λ (x : List ℕ). AppendsBeginning old new x) (taken.0 ∙ ap (λ (x : List ℕ). x ++ (served c s bytes).text) empty) sent)
     broke_off (Err e) taken sent =
         inr (
           taken.0,
+          taken.2,
           first_broken_off old new (served c s (take taken.0 bytes)).text no_memory_line
               (subst (λ (x : List ℕ). AppendsBeginning old new x) (taken.1 ∙ ap (λ (x : List ℕ). x ++ (served c s (take taken.0 bytes)).text) empty) sent),
         )
 
     pub unsent : {E : Type 0} (r : Result (Unit {0}) E) → TakesBytes c s bytes service before after r → AppendsBeginning old new after → Turns c s service (between given left old new) (Some statuses.CannotWrite)
-    unsent r taken sent = record { bytes = bytes; read = read; whole = λ good. absurd cc; answers = broke_off r taken sent }
+    unsent r taken sent = record { bytes = bytes; read = read; few = few; whole = λ good. absurd cc; answers = broke_off r taken sent }
 
-    pub without_memory : (got : Status) → (k : ℕ) × (after ≡ before ++ (served c s (take k bytes)).text) → Appends old now after → Sends now new got no_memory_line statuses.NoMemory
-        → Turns c s service (between given left old new) (Some got)
+    pub without_memory : (got : Status) → (k : ℕ) × (after ≡ before ++ (served c s (take k bytes)).text) × HasTaken c s bytes service k → Appends old now after
+        → Sends now new got no_memory_line statuses.NoMemory → Turns c s service (between given left old new) (Some got)
     without_memory got taken sent line =
         record {
           bytes = bytes;
           read = read;
+          few = few;
           whole = λ good. absurd (never_good now new got line (same_Some got statuses.Good good));
-          answers = no_memory_at old now new got (λ b. (served c s b).text) bytes taken.0
+          answers = no_memory_at old now new got (HasTaken c s bytes service) (λ b. (served c s b).text) bytes taken.0 taken.2
               (subst (λ (x : List ℕ). Appends old now x) (taken.1 ∙ ap (λ (x : List ℕ). x ++ (served c s (take taken.0 bytes)).text) empty) sent) line;
         }
 
@@ -134,14 +151,20 @@ module _ (v : Bool) (c : CatalogueView) (before : List ℕ) where
       sym (append_assoc (served_text v c before) (served c here (take k bytes)).text no_memory_line)
       ∙ ap (λ (t : List ℕ). t ++ no_memory_line) (text_both (take k bytes) ∙ ap (served_text v c) (sym (take-append-add before bytes k)))
 
-  module _ (old now new : Option (List ℕ)) (bytes : List ℕ) (so_far : Appends old now (served_text v c before)) where
-    pub answers_both : (status : Status) → AnswersBytes now new status (λ b. (served c here b).text) bytes → AnswersBytes old new status (served_text v c) (before ++ bytes)
+  -- all but the last read is before it
+  in_last : (bytes : List ℕ) (k : ℕ) → length bytes ≤ ROOM_BYTES → IsInLastRead (before ++ bytes) (length before + k)
+  in_last bytes k few = omega (arith, length-append before bytes, few)
+
+  module _ (old now new : Option (List ℕ)) (P : ℕ → Type 0) (bytes : List ℕ) (few : length bytes ≤ ROOM_BYTES) (so_far : Appends old now (served_text v c before)) where
+    pub answers_both : (status : Status) → AnswersBytes now new status P (λ b. (served c here b).text) bytes
+        → AnswersBytes old new status (IsInLastRead (before ++ bytes)) (served_text v c) (before ++ bytes)
     answers_both statuses.Good a = subst (λ (t : List ℕ). Appends old new t) (text_both bytes) (appended old now new _ _ so_far a)
     answers_both statuses.CannotRead a = subst (λ (t : List ℕ). Appends old new t) (text_both bytes) (appended old now new _ _ so_far a)
-    answers_both statuses.NoMemory a = (length before + a.0, subst (λ (t : List ℕ). Appends old new t) (take_both bytes a.0) (appended old now new _ _ so_far a.1))
+    answers_both statuses.NoMemory a =
+        (length before + a.0, in_last bytes a.0 few, subst (λ (t : List ℕ). Appends old new t) (take_both bytes a.0) (appended old now new _ _ so_far a.2))
     answers_both statuses.CannotWrite (inl a) = inl (subst (λ (t : List ℕ). AppendsBeginning old new t) (text_both bytes) (begins_both old now new _ _ so_far a))
     answers_both statuses.CannotWrite (inr a) =
-        inr (length before + a.0, subst (λ (t : List ℕ). AppendsBeginning old new t) (take_both bytes a.0) (begins_both old now new _ _ so_far a.1))
+        inr (length before + a.0, in_last bytes a.0 few, subst (λ (t : List ℕ). AppendsBeginning old new t) (take_both bytes a.0) (begins_both old now new _ _ so_far a.2))
     answers_both statuses.Refused a = a
     answers_both statuses.Differs a = a
 
@@ -196,7 +219,7 @@ module _ (v : Bool) (c at_turn : CatalogueView) (same : at_turn ≡ c) (service 
         bytes = going.bytes ++ turn.bytes;
         read = consumes_both given left rest going.bytes turn.bytes going.read turn.read;
         whole = λ good. (turn.whole (ap (λ (x : Status). Some x) good)).0;
-        answers = answers_both v c going.bytes old now new turn.bytes going.answers status turn.answers;
+        answers = answers_both v c going.bytes old now new (HasTaken c (served c (nothing_served v) going.bytes).serving turn.bytes after) turn.bytes turn.few going.answers status turn.answers;
         state = back status turn.bytes ended.state at (λ good. kept (ap (λ (x : Status). Some x) good)) (λ good. (turn.whole (ap (λ (x : Status). Some x) good)).1) given_state;
       })
 
@@ -209,7 +232,7 @@ ends_last v c service given left old now new got ended told going sends =
       bytes = going.bytes;
       read = going.read;
       whole = λ good. absurd (never_good now new got sends good);
-      answers = no_memory_at old now new got (served_text v c) going.bytes (length going.bytes)
+      answers = no_memory_at old now new got (IsInLastRead going.bytes) (served_text v c) going.bytes (length going.bytes) (omega arith)
           (subst (λ (x : List ℕ). Appends old now (served_text v c x)) (sym (take-length going.bytes)) going.answers) sends;
       state = none_given now new got (state_served v c going.bytes) sends;
     }

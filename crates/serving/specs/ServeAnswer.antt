@@ -1,6 +1,6 @@
 -- What `serve` writes: the answer of each line as soon as it ends, as `run` writes it; a bad line is answered too, and does not end it. And the
 -- state that it leaves.
-use Rattle.std.specs.Prelude.{◌≡◌, ◌⊎◌, ℕ, Bool, true, false, List, [], ◌∷◌, ◌++◌, length, take, Option, Some, None, option_and_then, unwrap_or, Result, Err, MatchResult, ◌==◌, if◌then◌else◌}
+use Rattle.std.specs.Prelude.{◌≡◌, ◌⊎◌, ℕ, ◌+◌, ◌≤◌, Bool, true, false, List, [], ◌∷◌, ◌++◌, length, take, Option, Some, None, option_and_then, unwrap_or, Result, Err, MatchResult, ◌==◌, if◌then◌else◌}
 use Rattle.std.specs.Result.{result_ok}
 use Rattle.std.specs.Str.{is_utf8}
 use Rattle.std.specs.Io.KnownBytes.{Appends, Consumes, IsAtEnd}
@@ -11,6 +11,7 @@ use Rattle.loader.specs.CatalogueView.{CatalogueView}
 use Rattle.oplog.specs.declared.configuration.TheConstants.{ENDLESS}
 use Rattle.oplog.specs.History.{History}
 use Rattle.serving.specs.declared.turns.ServeEnd.{ServeEnd}
+use Rattle.serving.specs.declared.turns.TheConstants.{ROOM_BYTES}
 use Rattle.serving.specs.declared.turns.ServeOptions.{ServeOptions}
 use Rattle.engine.specs.declared.replies.Status.{Status}
 use Rattle.engine.specs.declared.replies.Status.TheVariants as statuses
@@ -19,7 +20,7 @@ use Rattle.engine.specs.Answer.{Answer, not_text}
 use Rattle.running.specs.RunAnswer.{Turn, bad_line, line_turn, state_of}
 use Rattle.serving.specs.StoreText.{asks, store_text}
 use Rattle.engine.specs.Reading.{Given, TextsRead, read}
-use Rattle.engine.specs.Opening.{opening, places_within}
+use Rattle.engine.specs.Opening.{long_opening, places_within}
 use Rattle.engine.specs.Transfer.{AppendsBeginning}
 use Rattle.engine.specs.Report.{answer_of}
 use Rattle.engine.specs.Engine.{Reports}
@@ -91,15 +92,19 @@ pub record Ports : Type 0 where
 abbrev pub ports : {R W : Type 0} → (R → Option (List ℕ)) → R → R → (W → Option (List ℕ)) → W → W → Ports
 ports remaining given left contents old new = record { given = remaining given; left = remaining left; old = contents old; new = contents new }
 
--- these bytes were read and served, by how that ended: each line is answered; where memory ran out those of a beginning, and that none is
--- left; and where a write failed, a beginning of either is written
-abbrev pub AnswersBytes : Option (List ℕ) → Option (List ℕ) → Status → (List ℕ → List ℕ) → List ℕ → Type 0
-AnswersBytes old new statuses.Good text bytes = Appends old new (text bytes)
-AnswersBytes old new statuses.CannotRead text bytes = Appends old new (text bytes)
-AnswersBytes old new statuses.NoMemory text bytes = (k : ℕ) × Appends old new (text (take k bytes) ++ no_memory_line)
-AnswersBytes old new statuses.CannotWrite text bytes = AppendsBeginning old new (text bytes) ⊎ ((k : ℕ) × AppendsBeginning old new (text (take k bytes) ++ no_memory_line))
-AnswersBytes old new statuses.Refused text bytes = ⊥
-AnswersBytes old new statuses.Differs text bytes = ⊥
+-- these bytes were read and served, by how that ended: each line is answered; where memory ran out those of the first k bytes, for a k of which P
+-- is so, and that none is left; and where a write failed, a beginning of either is written
+abbrev pub AnswersBytes : Option (List ℕ) → Option (List ℕ) → Status → (ℕ → Type 0) → (List ℕ → List ℕ) → List ℕ → Type 0
+AnswersBytes old new statuses.Good P text bytes = Appends old new (text bytes)
+AnswersBytes old new statuses.CannotRead P text bytes = Appends old new (text bytes)
+AnswersBytes old new statuses.NoMemory P text bytes = (k : ℕ) × P k × Appends old new (text (take k bytes) ++ no_memory_line)
+AnswersBytes old new statuses.CannotWrite P text bytes = AppendsBeginning old new (text bytes) ⊎ ((k : ℕ) × P k × AppendsBeginning old new (text (take k bytes) ++ no_memory_line))
+AnswersBytes old new statuses.Refused P text bytes = ⊥
+AnswersBytes old new statuses.Differs P text bytes = ⊥
+
+-- behind the first k of these bytes there are no more than one read brings
+abbrev pub IsInLastRead : List ℕ → ℕ → Type 0
+IsInLastRead bytes k = length bytes ≤ k + ROOM_BYTES
 
 -- a state that is given back where all is well
 abbrev pub given_back : Status → StoreState → Option StoreState
@@ -111,12 +116,12 @@ given_back statuses.CannotWrite s = None
 given_back statuses.Differs s = None
 
 -- the programs of a catalogue were served an input, from what it had to what it has left, and to its end where all is well; the state that its
--- lines leave is given back then
+-- lines leave is given back then; where memory ran out, only lines that end in what the last read brought may be without an answer
 pub record Serves (has_values : Bool) (c : CatalogueView) (at : Ports) (ended : ServeEnd) : Type 0 where
   pub bytes : List ℕ
   pub read : Consumes at.given at.left bytes
   pub whole : ended.status ≡ statuses.Good → IsAtEnd at.left
-  pub answers : AnswersBytes at.old at.new ended.status (served_text has_values c) bytes
+  pub answers : AnswersBytes at.old at.new ended.status (IsInLastRead bytes) (served_text has_values c) bytes
   pub state : ended.state ≡ given_back ended.status (state_of c (served c (nothing_served has_values) bytes).serving.history)
 
 -- ---- the command
@@ -124,7 +129,7 @@ pub record Serves (has_values : Bool) (c : CatalogueView) (at : Ports) (ended : 
 -- what is served of what was read, with so many places behind the manifest's programs and on the state, or what is answered in its place
 abbrev pub service : ℕ → Option TextsRead → Result CatalogueView Answer
 service spare None = Err not_text
-service spare (Some t) = opening (places_within spare) t
+service spare (Some t) = long_opening (places_within spare) t
 
 -- what `serve` did; what is answered in its place leaves no state, and nothing of the input is read then
 abbrev pub ServesAll : Bool → Ports → ServeEnd → Result CatalogueView Answer → Type 0

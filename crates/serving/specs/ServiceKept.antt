@@ -1,5 +1,5 @@
 -- What is kept while an input is served. Clauses of private functions alone cite this.
-use Rattle.std.specs.Prelude.{◌≡◌, ℕ, Bool, List, [], ◌∷◌, ◌++◌, take, Option, Some, None, option_and_then, Result, Ok, Err, IfOk}
+use Rattle.std.specs.Prelude.{◌≡◌, ◌≤◌, ℕ, Bool, List, [], ◌∷◌, ◌++◌, length, take, Option, Some, None, option_and_then, Result, Ok, Err, IfOk}
 use Rattle.std.specs.Io.KnownBytes.{Appends, Consumes, IsAtEnd}
 use Rattle.loader.specs.CatalogueView.{CatalogueView}
 use Rattle.oplog.specs.declared.configuration.TheConstants.{ENDLESS}
@@ -10,6 +10,7 @@ use Rattle.engine.specs.declared.opening.Opened.{Opened}
 use Rattle.engine.specs.Answer.{Answer}
 use Rattle.engine.specs.Opening.{on_which}
 use Rattle.serving.specs.declared.service.TheConstants.{KEPT_BYTES}
+use Rattle.serving.specs.declared.turns.TheConstants.{ROOM_BYTES}
 use Rattle.serving.specs.declared.service.Service.{Service}
 use Rattle.serving.specs.declared.turns.ServeEnd.{ServeEnd}
 use Rattle.running.specs.declared.single_node.SingleNode.{SingleNode}
@@ -71,20 +72,25 @@ pub record IsAnswered (turn : Turn) (service : Service) : Type 0 where
 abbrev pub GoesOn : Service → Service → (ServiceState → ServiceState) → Type 0
 GoesOn old new next = (new.catalogue ≡ old.catalogue) × ((s : ServiceState) → Stands s old → Stands (next s) new)
 
--- these bytes' answers stand behind a text, and the service behind them; where memory runs out, those of a beginning
+-- the service has taken the turns of the lines that end in the first k of these bytes, and the next line is at hand
+abbrev pub HasTaken : CatalogueView → ServiceState → List ℕ → Service → ℕ → Type 0
+HasTaken c s bytes service k = service.number ≡ (served c s (take k bytes)).serving.number
+
+-- these bytes' answers stand behind a text, and the service behind them; where memory runs out, those of all lines whose turns it has taken
 abbrev pub TakesBytes : {E : Type 0} → CatalogueView → ServiceState → List ℕ → Service → List ℕ → List ℕ → Result (Unit {0}) E → Type 0
 TakesBytes c s bytes new before after (Ok u) = (after ≡ before ++ (served c s bytes).text) × Stands (served c s bytes).serving new
-TakesBytes c s bytes new before after (Err e) = (k : ℕ) × (after ≡ before ++ (served c s (take k bytes)).text)
+TakesBytes c s bytes new before after (Err e) = (k : ℕ) × (after ≡ before ++ (served c s (take k bytes)).text) × HasTaken c s bytes new k
 
--- what a turn read is answered, and the service stands behind it; or how it ended
+-- what a turn read is answered, and the service stands behind it; or how it ended: where memory ran out, all lines whose turns it has taken are answered
 abbrev pub TurnEnds : CatalogueView → ServiceState → List ℕ → Service → Option (List ℕ) → Option (List ℕ) → Option Status → Type 0
 TurnEnds c s bytes service old new None = Appends old new (served c s bytes).text × Stands (served c s bytes).serving service
-TurnEnds c s bytes service old new (Some status) = AnswersBytes old new status (λ b. (served c s b).text) bytes
+TurnEnds c s bytes service old new (Some status) = AnswersBytes old new status (HasTaken c s bytes service) (λ b. (served c s b).text) bytes
 
--- a turn of a service that stands so: where it ended well, its input is at its end and nothing was read
+-- a turn of a service that stands so: it reads as many bytes as there is room for, at most; where it ended well, its input is at its end and nothing was read
 pub record Turns (c : CatalogueView) (s : ServiceState) (service : Service) (at : Ports) (ended : Option Status) : Type 0 where
   pub bytes : List ℕ
   pub read : Consumes at.given at.left bytes
+  pub few : length bytes ≤ ROOM_BYTES
   pub whole : ended ≡ Some statuses.Good → IsAtEnd at.left × (bytes ≡ [])
   pub answers : TurnEnds c s bytes service at.old at.new ended
 

@@ -1,6 +1,13 @@
 // What the definition of a service says, in other words.
 
+ghost use Rattle.std.specs.Prelude.{◌≡◌};
+ghost use Rattle.serving.specs.declared.turns.TheConstants.{ROOM_BYTES};
 ghost use Rattle.serving.specs.ServeLaws.{ServedInParts, ServedIsEncoded, ServedIsRunWithoutEnd, ServedIsRun};
+
+/// The limit that the definitions cite, as a number.
+pub fn limits()
+    ensures bytes_of_a_read { ROOM_BYTES ≡ 65536 }
+{}
 
 /// What `serve` writes doesn't depend on how the reads cut its input: what two parts make it write is what the first does, and then what
 /// the second does on what the first left.

@@ -6,5 +6,5 @@ mod service;
 mod store_texts;
 mod turns;
 
-pub use laws::{served_in_parts, served_is_encoded, served_is_run};
-pub use turns::{ServeEnd, ServeOptions, Server};
+pub use laws::{limits, served_in_parts, served_is_encoded, served_is_run};
+pub use turns::{ROOM_BYTES, ServeEnd, ServeOptions, Server};

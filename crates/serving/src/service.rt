@@ -143,6 +143,7 @@ impl Service {
         ensures answered { (s : ServiceState) → Stands s self.old → OnOk result (out.new.items ≡ out.old.items ++ (turn_at self.old.catalogue s).text) }
         ensures goes_on { OnOk result (GoesOn self.old self.new (λ s. after_line self.old.catalogue s)) }
         ensures kept { OnErr result (out.new.items ≡ out.old.items) }
+        ensures at_hand { OnErr result (self.new.number ≡ self.old.number) }
     {
         self.answer_left()?;
         out.extend_from_slice(&self.answer)?;
@@ -158,6 +159,7 @@ impl Service {
         ensures answered { (s : ServiceState) → Stands s self.old → OnOk result (AddsServed self.old.catalogue s (byte ∷ []) out.old.items out.new.items) }
         ensures goes_on { OnOk result (GoesOn self.old self.new (λ s. (served self.old.catalogue s (byte ∷ [])).serving)) }
         ensures kept { OnErr result (out.new.items ≡ out.old.items) }
+        ensures at_hand { OnErr result (self.new.number ≡ self.old.number) }
     {
         if byte == b'\n' {
             return self.end_line(out);
@@ -166,7 +168,7 @@ impl Service {
         Ok(())
     }
 
-    // Answers each line that ends among these bytes.
+    // Answers each line that ends among these bytes, or where memory runs out each one before the line at hand.
     pub(crate) fn take(&mut self, bytes: &[u8], out: &mut Vec<u8>) -> Result<(), AllocError>
         requires steady { IsSteady self.old.catalogue self.old.node }
         ensures steady { IsSteady self.new.catalogue self.new.node }

@@ -1,6 +1,6 @@
 // The command `serve`.
 
-ghost use Rattle.std.specs.Prelude.{◌≡◌, ◌⊎◌, ◌<◌, length, Ok, Err, None, Some, Option, IfSome, IfOk};
+ghost use Rattle.std.specs.Prelude.{◌≡◌, ◌⊎◌, ◌<◌, ◌≤◌, length, Ok, Err, None, Some, Option, IfSome, IfOk};
 ghost use Rattle.engine.specs.declared.replies.Status.TheVariants as statuses;
 ghost use Rattle.engine.specs.declared.transfer.ReadFault.TheVariants as faults;
 ghost use Rattle.engine.specs.declared.opening.Opened.TheVariants.{On};
@@ -21,8 +21,8 @@ use engine::{
 use loader::{Catalogue, StoreState};
 use std::alloc::{AllocError, Global};
 
-// How many bytes are read at once, at most.
-const ROOM_BYTES: usize = 65536;
+/// How many bytes are read at once, at most.
+pub const ROOM_BYTES: usize = 65536;
 
 /// How a service ended, and the state that it leaves.
 #[derive(Drop)]
@@ -85,6 +85,7 @@ fn take_turn<R: Feed, W: Sink>(
 ) -> Option<Status>
     requires steady { IsSteady service.old.catalogue service.old.node }
     requires room { 0 < length room.old }
+    requires few { length room.old ≤ ROOM_BYTES }
     ensures steady { IsSteady service.new.catalogue service.new.node }
     ensures same { result ≡ None → service.new.catalogue ≡ service.old.catalogue }
     ensures kept { result ≡ Some statuses.Good → service.new ≡ service.old }
@@ -166,7 +167,13 @@ impl<V: StoreWatcher> Command for Opening<'_, V> {
         _notes: &mut Notes,
     ) -> Result<Opened, AllocError> {
         match read {
-            Ok(texts) => open_texts(alloc, &texts, places_within(self.spare), self.watcher),
+            Ok(texts) => open_texts(
+                alloc,
+                &texts,
+                places_within(self.spare),
+                texts.sizes.long(),
+                self.watcher,
+            ),
             Err(_) => Ok(Opened::Refused(not_text(alloc)?)),
         }
     }
@@ -212,11 +219,13 @@ impl<V: StoreWatcher> Server<'_, V> {
     /// [`encoding::encode`] makes of it.
     ///
     /// Writes for each line what `run` writes for it. A line that is bad writes `line N bad`, changes nothing, and the service goes on; so does
-    /// one that is not UTF-8, and one that `encode` refuses. A line `?` writes what the store has, and changes nothing. What a read brings is
-    /// answered, and all that was answered is written, before the next read. A last line that has no line feed is not answered. A refused manifest
-    /// writes only its refusal, more than 16 places `refused O1`, and a refused state `line N: En`; then nothing of the input is read. Says how it
-    /// ended: at the end of input well, and then gives the state that the answered lines leave. Where memory runs out, `no memory` stands behind the
-    /// answers so far.
+    /// one that is not UTF-8, and one that `encode` refuses. A line `?` writes what the store has, and changes nothing. A last line that has no
+    /// line feed is not answered. A refused manifest writes only its refusal, more than 16 places `refused O1`, and a refused state `line N: En`;
+    /// then nothing of the input is read. Says how it ended: at the end of input well, and then gives the state that the answered lines leave.
+    ///
+    /// When it has ended, all lines that were read are answered, unless a write failed or memory ran out. Where memory ran out, `no memory` stands
+    /// behind the answers so far, and they lack only lines that ended in the last [`ROOM_BYTES`] that were read. The loop writes the answers to a
+    /// read before the next one, which no clause says: the clauses compare the two ends.
     pub fn serve<F: Folder, S: Source + Drop, R: Feed, W: Sink>(
         &self,
         alloc: Global,

@@ -11,7 +11,7 @@ use Rattle.oplog.specs.declared.configuration.Sizes.{Sizes}
 use Rattle.accounts.proofs.Export.{at_below, at_joined, at_none, at_one, at_there}
 use Rattle.store_steps.specs.Views.{SessionView}
 use Rattle.store.specs.Sessions.{StoreView}
-use Rattle.store.proofs.Export.{at_of_all}
+use Rattle.store.proofs.Export.{at_of_all, at_taken}
 use Rattle.store_steps.proofs.Export.{at_drop}
 use Rattle.stress.specs.declared.calls.ScriptCall.{ScriptCall}
 use Rattle.stress.specs.declared.lines.AnsweredCall.{AnsweredCall}
@@ -25,7 +25,7 @@ use Rattle.stress.specs.Teams.{AreAtWork, AreEmpty, AreOnOneNode, AreSeated, Are
 use Rattle.stress.proofs.Asked.{one_call, one_more}
 use Rattle.stress.proofs.Dealt.{last_apart, skipped}
 use Rattle.stress.proofs.OneHistory.{asked_more, none_of_none, none_told, told_more}
-use Rattle.stress.proofs.Standing.{at_dropped, at_set, at_taken, read, set_else, stands}
+use Rattle.stress.proofs.Standing.{at_dropped, at_set, read, set_else, stands}
 use Rattle.stress.proofs.Steady.{long_of, steady_to}
 use Rattle.stress.proofs.Turns.{in_turn}
 

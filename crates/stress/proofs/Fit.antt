@@ -6,7 +6,6 @@ use Rattle.std.specs.List.{All}
 use Rattle.std.proofs.lemmas.Bool.{lt-ltb}
 use Rattle.std.proofs.lemmas.List.Elements.{All-nil, All-cons, All-append}
 use Rattle.std.proofs.lemmas.Option.{same_Some}
-use Rattle.verifier.specs.declared.refusal.Mode.{Mode}
 use Rattle.verifier.specs.declared.refusal.Mode.TheVariants.{Update, Read}
 use Rattle.verifier.specs.Accepted.{Checked}
 use Rattle.text.specs.Lines.{next_line}
@@ -16,6 +15,7 @@ use Rattle.replica.specs.StoreMeaning.{program_at}
 use Rattle.replica.specs.Refusals.{early_refusal, mode_refusal, offered_refusal, place_refusal, program_refusal}
 use Rattle.replica.specs.declared.refusals.StoreRefused.TheVariants.{UnknownProgram, ArgumentLength}
 use Rattle.scripts.specs.Script.{ProgramCall, Meaning, Comment, Call, InvokeAt, ReadAt, Install, line_meaning}
+use Rattle.running.proofs.Export.{own_mode}
 use Rattle.stress.specs.Playing.{line_calls}
 use Rattle.stress.specs.declared.calls.Asked.{Asked}
 use Rattle.stress.specs.declared.calls.Asked.TheVariants as asks
@@ -36,10 +36,6 @@ pub record IsFit (c : CatalogueView) (call : Called) : Type 0 where
   pub free : asked_refusal c call.asked bytes ≡ None
 
 -- ---- a program by its name
-
-own_mode : (m : Mode) → mode_refusal m m ≡ None
-own_mode Update = refl
-own_mode Read = refl
 
 -- a program of the catalogue, in its own mode
 offered_free : (c : CatalogueView) (k : ℕ) (argument : List ℕ) (p : Checked) → k < length c.programs → program_at c k ≡ Some p → (length argument == p.arg_len) ≡ true → early_refusal c p.mode k argument ≡ None

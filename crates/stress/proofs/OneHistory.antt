@@ -1,5 +1,5 @@
 -- What the sessions were told, in the histories that they know, and in one that has grown from all of these.
-use Rattle.std.proofs.Common.{eq-eqb, ne_eqb, eqb, ◌≡◌, ◌∙◌, ◌⊎◌, inl, inr, ⊎_elim, ℕ, zero, suc, ◌+◌, ◌≤◌, ◌<◌, Bool, false, cond, get_or, slice_index_or, List, [], ◌∷◌, ◌++◌, map, length, All, refl, sym, ap, subst, arith}
+use Rattle.std.proofs.Common.{eq-eqb, ne_eqb, eqb, ◌≡◌, ◌∙◌, ◌⊎◌, inl, inr, ⊎_elim, ℕ, zero, suc, ◌+◌, ◌≤◌, ◌<◌, Bool, false, cond, slice_index_or, List, [], ◌∷◌, ◌++◌, map, length, All, refl, sym, ap, subst, arith}
 use mathlib.Core.Option.{some-injective}
 use native.Mathlib.Decide.{ℕ_discrete}
 use native.Mathlib.Nat.{not-suc-le-zero, le_of_suc-le-suc}
@@ -27,7 +27,7 @@ use Rattle.combiner.specs.declared.slots.Reply.TheVariants.{Placed, Ended}
 use Rattle.readpath.specs.declared.reading.ReadAnswer.{ReadAnswer}
 use Rattle.store.specs.declared.answers.Answer.{Answer}
 use Rattle.store.specs.Opening.{AreOf, ClosedView, IsClosed, last_state}
-use Rattle.store.proofs.Export.{all_of_at}
+use Rattle.store.proofs.Export.{all_of_at, is_read, last_place}
 use Rattle.replica.specs.declared.refusals.StoreRefused.{StoreRefused}
 use Rattle.store_steps.specs.Views.{SessionView, request_of}
 use Rattle.store.specs.Sessions.{StoreView, TellsUpdate, fresh_session, fresh_sessions}
@@ -69,10 +69,6 @@ module _ (a b : Progress CatalogueView) (grown : Extends a b) where
 
   pub shown_on : (s : SessionView) (said : List ToldCall) → AreShown a s said → AreShown b s said
   shown_on s said h q u at = let one = h q u at in (at_on u.index _ one.0, one.1)
-
-at_end : {A : Type 0} (xs : List A) (x : A) → At (length xs) x (xs ++ x ∷ [])
-at_end [] x = refl
-at_end (y ∷ ys) x = at_end ys x
 
 -- ---- one call more
 
@@ -153,7 +149,7 @@ module _ (old new : SessionView) (t : AnsweredCall) (asked : IsAsked old new t) 
     only_one i = by (ℕ_discrete a.index i)
       where
         by : Dec (a.index ≡ i) → (lines_at i now ≡ 0) ⊎ HasAnswered i new
-        by (yes same) = inr (length old.note.answered, one, subst (At (length old.note.answered) one) (sym noted.1) (at_end old.note.answered one), same)
+        by (yes same) = inr (length old.note.answered, one, subst (At (length old.note.answered) one) (sym noted.1) (last_place old.note.answered one), same)
         by (no not) =
             ⊎_elim (λ none. inl (elsewhere i not ∙ none))
             (λ h. inr (h.0, h.1, subst (At h.0 h.1) (sym noted.1) (at_front old.note.answered (one ∷ []) h.0 h.1 h.2), h.3)) (only i)
@@ -264,7 +260,7 @@ module _ (sessions : List SessionView) (s : SessionView) (said more : List Answe
   behind = map told_of more
 
   ends : Extends s.progress l × (s.session ≡ length sessions)
-  ends = each (length sessions) s (at_end sessions s)
+  ends = each (length sessions) s (last_place sessions s)
 
   first : AreToldIn l sessions said
   first = known l (λ k z at. each k z (at_front sessions (s ∷ []) k z at))
@@ -313,7 +309,7 @@ module _ (sessions : List SessionView) (s : SessionView) (said more : List Answe
   only_all : OnlyTheirs (before ++ behind)
   only_all i =
       ⊎_elim
-      (λ none. ⊎_elim (λ no_more. inl (all_lines i 0 0 none no_more)) (λ mine. inr (length sessions, s, at_end sessions s, mine)) (new.only i))
+      (λ none. ⊎_elim (λ no_more. inl (all_lines i 0 0 none no_more)) (λ mine. inr (length sessions, s, last_place sessions s, mine)) (new.only i))
       (λ h. inr (h.0, h.1, at_front sessions (s ∷ []) h.0 h.1 h.2, h.3))
       (first.only i)
 
@@ -330,11 +326,6 @@ pub told_more : (sessions : List SessionView) (s : SessionView) (said more : Lis
 told_more sessions s said more known new l each = all_told sessions s said more known new l each
 
 -- ---- the history that is left
-
-is_read : {A : Type 0} (xs : List A) (k : ℕ) (x : A) → At k x xs → get_or xs k x ≡ x
-is_read [] k x at = refl
-is_read (y ∷ ys) zero x at = some-injective y x at
-is_read (y ∷ ys) (suc k) x at = is_read ys k x at
 
 module _ (store : StoreView) (sessions : List SessionView) (closed : ClosedView) (is : IsClosed store sessions closed) (said : List AnsweredCall) (known : AreTold sessions said)
     (numbers : AreNumbered sessions) where

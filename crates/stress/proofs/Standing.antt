@@ -1,7 +1,6 @@
 -- Lists by where their elements stand.
-use Rattle.std.proofs.Common.{◌≡◌, ℕ, zero, suc, ◌+◌, ◌<◌, ◌⊎◌, inl, inr, ⊎_elim, List, [], ◌∷◌, ◌++◌, length, take, drop, set, sym, refl, ap, ◌∙◌, arith}
+use Rattle.std.proofs.Common.{◌≡◌, ℕ, zero, suc, ◌+◌, ◌<◌, ◌⊎◌, inl, inr, ⊎_elim, List, [], ◌∷◌, ◌++◌, length, drop, set, refl, ap, ◌∙◌, arith}
 use mathlib.Core.Option as kernel
-use Rattle.std.proofs.Math.Seq.{take-append_seam}
 use Rattle.std.specs.Prelude.{slice_index_or}
 use Rattle.ownlock.specs.Seats.{At}
 use Rattle.accounts.proofs.Export.{at_joined, at_none, at_one}
@@ -16,18 +15,6 @@ module _ {A : Type 0} where
   stands [] i d below = absurd (omega (arith, below))
   stands (y ∷ ys) zero d below = refl
   stands (y ∷ ys) (suc i) d below = stands ys i d (omega (arith, below))
-
-  -- what is read stands there
-  pub at_read : (xs : List A) (i : ℕ) (x : A) → i < length xs → x ≡ slice_index_or xs i x → At i x xs
-  at_read [] i x below is = absurd (omega (arith, below))
-  at_read (y ∷ ys) zero x below is = ap kernel.some (sym is)
-  at_read (y ∷ ys) (suc i) x below is = at_read ys i x (omega (arith, below)) is
-
-  pub at_taken : (n : ℕ) (xs : List A) (i : ℕ) (x : A) → At i x (take n xs) → At i x xs
-  at_taken zero xs i x at = absurd (at_none i x at)
-  at_taken (suc n) [] i x at = absurd (at_none i x at)
-  at_taken (suc n) (y ∷ ys) zero x at = at
-  at_taken (suc n) (y ∷ ys) (suc i) x at = at_taken n ys i x at
 
   -- behind what stands there
   pub at_dropped : (xs : List A) (i : ℕ) (x : A) → At i x xs → drop i xs ≡ x ∷ drop (suc i) xs
@@ -58,7 +45,3 @@ module _ {A : Type 0} where
   set_else (z ∷ zs) zero y (suc i) x other at = at
   set_else (z ∷ zs) (suc k) y zero x other at = at
   set_else (z ∷ zs) (suc k) y (suc i) x other at = set_else zs k y i x (λ e. other (omega (arith, e))) at
-
-  -- what a vector holds once a slice of all that it held comes back
-  pub wrote_back : (n : ℕ) (now items : List A) → length now ≡ n → take n (now ++ drop (length now) items) ≡ now
-  wrote_back n now items long = ap (λ k. take k (now ++ drop (length now) items)) (sym long) ∙ take-append_seam now (drop (length now) items)

@@ -131,7 +131,7 @@ impl<'a, R: Threads + Wait + Sync, G: Gate + Sync, C: Clock + Sync, V: StoreWatc
     fn texts_run(&self, alloc: Global, texts: Texts) -> Result<Stressed, AllocError>
         ensures { IfOk result (MayMake self.now (Some (texts_read texts))) }
     {
-        let opened = open_texts(alloc, &texts, places_in(self.config), self.watcher)?;
+        let opened = open_texts(alloc, &texts, places_in(self.config), 0, self.watcher)?;
         let script = texts.into_file();
         match opened {
             Opened::On(catalogue, state) => {

@@ -12,7 +12,7 @@ use Rattle.host_calls.proofs.states.part.Met.{met}
 
 pub nrbpf_raw_part_spec : {M : Type 1} → statement M
 nrbpf_raw_part_spec 𝓤 𝓛 𝓜 𝓡 wired =
-    goes_on f.signature.outlives (rest f.signature.params) f.ended.kept.1 𝓛 R 𝓜 𝓡 (λ κs a e value last. GivesPart value last e.0.now) f.Key.name g.Key.name code.function
+    goes_on f.signature.outlives (rest f.signature.params) f.ended.kept.1 𝓛 R 𝓜 𝓡 (λ κs a e value last. GivesPart value last a.0.now e.0.now) f.Key.name g.Key.name code.function
     (code.unfolded 𝓤 𝓛.H 𝓜 𝓡 wired) (met 𝓤 𝓛 𝓜 𝓡 (code.calls-host_calls::states::part 𝓡.env wired))
     (λ κs. (mut_slice_vals, tt)) (λ κs. (mut_slice_Tells (named 0) κs.0 u8, tt)) (λ κs a are b o Q.
     qed 𝓛 (raw ((tables 𝓤 𝓛.H 𝓜 𝓡 𝓡.env).C g.Key.name (vptr b o ∷ mut_slice_vals a.0) (unit_then 𝓛 Q)) ∷ []) ∵ enter ! _ _ _ _ _ $ alloc_all ! (λ l. pass_all ! refl ((tt, tt), ((tt, (tt, (record { fits = are.0.0.1.0 }, tt))), tt)) $

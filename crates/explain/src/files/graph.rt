@@ -1,12 +1,24 @@
 // Programs as graphs, in the language of Graphviz: a node for each piece of a program that is run from its first instruction to its last, and an edge
 // for each way on. What is quoted are names of programs and words of the assembler, in which no sign asks for a backslash.
 
+ghost use Rattle.std.specs.Prelude.{◌≡◌, ◌++◌, is_ok, is_some, option_map, IfOk, OnOk};
+ghost use Rattle.std.specs.String.{string_bytes};
+ghost use Rattle.text.specs.Lines.{lines_of};
+ghost use Rattle.maps.specs.Shapes.{AreLimits};
+ghost use Rattle.loader.specs.Grammar.{line_meaning};
+ghost use Rattle.loader.specs.LineShown.{program_of};
+ghost use Rattle.loader.specs.ProgramFiles.{files_of};
+ghost use Rattle.explain.specs.Explanation.{Writes};
+ghost use Rattle.explain.specs.Graph.{asked_program, no_cluster, DrawsLine, DrawsLines, DrawsManifest, DrawsProgram, IsCluster};
+ghost use Rattle.explain.specs.Manifest.{program_in};
+
 use crate::files::{decoded, text_of};
 use crate::programs::{jump_target, successor};
-use crate::sentences::Word::{Count, Field, Number, Text};
-use crate::sentences::{Written, put};
+use crate::sentences::Word::{Count, Number, Text};
+use crate::sentences::{Written, put, put_all};
 use asm::disassemble;
 use insn::{Edge, Form, Insn};
+use itoa::Buffer;
 use loader::{Line, ProgramLine, read_line};
 use maps::MapLimits;
 use std::alloc::{AllocError, Global};
@@ -113,59 +125,157 @@ impl Drawing<'_> {
     }
 }
 
-// Adds the graph of a program.
-fn put_program(out: &mut String, name: &str, program: &[Insn]) -> Written {
-    let alloc = *out.allocator();
+// What is in the cluster of a program.
+fn inside(alloc: Global, name: &str, program: &[Insn]) -> Result<String, AllocError> {
     let spots = spots_of(alloc, program)?;
     let drawing = Drawing { name, spots };
     let words = disassemble(alloc, program)?;
-    let head = "  subgraph \"cluster_{0}\" {1}\n    label=\"{0}\";\n";
-    put(out, head, &[Text(name), Text("{")])?;
-    drawing.put_nodes(out, words.as_str())?;
-    drawing.put_edges(out)?;
-    out.push_str("  }\n")
+    let mut out = String::new(alloc);
+    drawing.put_nodes(&mut out, words.as_str())?;
+    drawing.put_edges(&mut out)?;
+    Ok(out)
+}
+
+// Adds the graph of a program.
+fn put_program(out: &mut String, name: &str, program: &[Insn]) -> Written
+    ensures { OnOk result (Writes (IsCluster name.now) out.old out.new) }
+{
+    let inside = inside(*out.allocator(), name, program)?;
+    let head = "  subgraph \"cluster_";
+    put_all(
+        out,
+        &[
+            head,
+            name,
+            "\" {\n    label=\"",
+            name,
+            "\";\n",
+            inside.as_str(),
+            "  }\n",
+        ],
+    )
+}
+
+// The program that the file of this name spells, if it spells one.
+fn program_in(
+    alloc: Global,
+    files: &[(&str, &str)],
+    name: &str,
+) -> Result<Option<Vec<Insn>>, AllocError>
+    ensures { IfOk result (λ o. is_some o ≡ is_ok (program_in (files_of files.now) name.now)) }
+{
+    let Some(text) = text_of(files, name) else {
+        return Ok(None);
+    };
+    let Some(bytes) = spaced_hex(alloc, text)? else {
+        return Ok(None);
+    };
+    decoded(alloc, &bytes)
+}
+
+// Adds a remark that the program of a line has nothing to draw.
+fn put_remark(out: &mut String, number: u32, name: &str) -> Written
+    ensures { OnOk result (string_bytes out.new ≡ string_bytes out.old ++ no_cluster number name.now) }
+{
+    let mut digits = Buffer::new();
+    let digits = digits.format(number);
+    put_all(
+        out,
+        &[
+            "  // line ",
+            digits,
+            ": ",
+            name,
+            " has no instructions to draw\n",
+        ],
+    )
 }
 
 // Adds the graph of the program of a line, or a remark that it has none.
-fn put_line(
+fn put_named(
     out: &mut String,
     number: u32,
     line: ProgramLine<'_>,
     files: &[(&str, &str)],
-) -> Written {
-    let alloc = *out.allocator();
-    if let Some(text) = text_of(files, line.file)
-        && let Some(bytes) = spaced_hex(alloc, text)?
-        && let Some(program) = decoded(alloc, &bytes)?
-    {
-        return put_program(out, line.name, &program);
+) -> Written
+    ensures { OnOk result (Writes (DrawsProgram (files_of files.now) number (program_of line.entry)) out.old out.new) }
+{
+    let spelled = program_in(*out.allocator(), files, line.file)?;
+    match spelled {
+        Some(program) => put_program(out, line.name, &program),
+        None => put_remark(out, number, line.name),
     }
-    let remark = "  // line {0}: {1} has no instructions to draw\n";
-    put(out, remark, &[Field(u64::from(number)), Text(line.name)])
 }
 
-/// The programs of a manifest with these files as a graph in the language of Graphviz, each in a cluster of its own; where a name is given,
-/// the program of this name alone. Whether the verifier accepts them makes no difference.
+// Adds what is drawn of a line, if it has a program that is asked for.
+fn put_line(
+    out: &mut String,
+    number: u32,
+    line: Option<ProgramLine<'_>>,
+    files: &[(&str, &str)],
+) -> Written
+    ensures { OnOk result (Writes (DrawsLine (files_of files.now) number (option_map program_of line.entry)) out.old out.new) }
+{
+    match line {
+        Some(program) => put_named(out, number, program, files),
+        None => Ok(()),
+    }
+}
+
+// The program of a line, if it is asked for.
+fn asked_program<'a>(
+    limits: &MapLimits,
+    line: &'a str,
+    name: Option<&str>,
+) -> Option<ProgramLine<'a>>
+    requires { AreLimits limits.now }
+    ensures { option_map program_of result ≡ asked_program (option_map (λ n. n.now) name.entry) (line_meaning limits.now line.now) }
+{
+    match (read_line(limits, line), name) {
+        (Some(Line::Program(program)), None) => Some(program),
+        (Some(Line::Program(program)), Some(name)) if program.name == name => Some(program),
+        _ => None,
+    }
+}
+
+// Adds what is drawn of the lines of a manifest.
+fn put_lines(
+    out: &mut String,
+    limits: &MapLimits,
+    manifest: &str,
+    name: Option<&str>,
+    files: &[(&str, &str)],
+) -> Written
+    requires { AreLimits limits.now }
+    ensures { OnOk result (Writes (DrawsLines limits.now (files_of files.now) (option_map (λ n. n.now) name.entry) 1 (lines_of manifest.now)) out.old out.new) }
+{
+    let mut lines = NumberedLines::new(manifest);
+    while let Some((number, line)) = lines.take_line() {
+        put_line(out, number, asked_program(limits, line, name), files)?;
+    }
+    Ok(())
+}
+
+/// The programs of a manifest with these files as a graph in the language of Graphviz, by limits of its maps, each in a cluster of its own; where a
+/// name is given, the program of this name alone. Whether the verifier accepts them makes no difference.
 ///
 /// # Errors
 ///
 /// The system has no memory left.
 pub fn graph_manifest(
     alloc: Global,
+    limits: &MapLimits,
     manifest: &str,
-    files: &[(&str, &str)],
     name: Option<&str>,
-) -> Result<String, AllocError> {
+    files: &[(&str, &str)],
+) -> Result<String, AllocError>
+    requires limits { AreLimits limits.now }
+    // Of each line that these limits read as that of a program its cluster, or the remark that its file spells no program; in the order of the lines.
+    ensures drawn { IfOk result (λ s. DrawsManifest limits.now (files_of files.now) (option_map (λ n. n.now) name.entry) manifest.now (string_bytes s)) }
+{
     let mut out = String::new(alloc);
     out.push_str("digraph programs {\n  node [shape=box, fontname=\"monospace\"];\n")?;
-    let mut lines = NumberedLines::new(manifest);
-    while let Some((number, line)) = lines.take_line() {
-        if let Some(Line::Program(line)) = read_line(&MapLimits::standard(), line) {
-            if name.is_none() || name == Some(line.name) {
-                put_line(&mut out, number, line, files)?;
-            }
-        }
-    }
+    put_lines(&mut out, limits, manifest, name, files)?;
     out.push_str("}\n")?;
     Ok(out)
 }

@@ -63,6 +63,8 @@ state has a line for each entry of a map, and then one for each installed progra
     p MODE ARGLEN HEX        an installed program
     nrbpf run --load day1 --dump day2 MANIFEST SCRIPT
 
+With `--large` an installed program may have 16384 bytes instead of 192, and its argument 16384 instead of 64.
+
 Refusals, which end the run:
     line N bad          line N of the script is none of these. The lines before it were run
     line N: C..         the manifest is refused (`nrbpf check --help`), and nothing runs

@@ -2,15 +2,16 @@
 
 use crate::commands::options::{self, Usage};
 use crate::disk::LateFile;
-use crate::keeping::destination_of;
+use crate::keeping::{destination_of, elsewhere};
 use crate::output::{Target, no_memory, put_after};
 use crate::progress::Screen;
 use crate::tasks::{Asked, Task};
 use clap::ArgMatches;
-use dumps::StateText;
-use engine::{Destination, Folder, Handed, Inputs, Sink, Source, Status, StoreWatcher};
+use engine::{
+    Destination, Folder, Inputs, Parted, Performed, ReadFault, Reply, Sink, Source, Status,
+    StoreWatcher, hand_back,
+};
 use loader::StoreState;
-use running::dump_to;
 use serving::{ServeEnd, ServeOptions, Server};
 use std::alloc::Global;
 use std::io::Input;
@@ -44,7 +45,8 @@ With `--calls` the lines are calls with values (`nrbpf encode --help`), such as 
 as the line of a script that `encode` makes of it. A line that `encode` refuses gets `line N bad`.
 
 With `--load FILE` the store begins with the state in FILE. With `--dump FILE` the state goes to FILE after standard
-input has ended (`nrbpf run --help`). So one service can go on from the state of another.
+input has ended (`nrbpf run --help`). So one service can go on from the state of another. `--large` allows the installed
+programs that it allows there.
 
 Refusals, before any line is read:
     refused O1          --spare is not from 0 to 16
@@ -78,11 +80,11 @@ pub fn task<'a>(matches: &ArgMatches<'a>) -> Option<Task<'a>> {
     }))
 }
 
-// Writes the text of a state after the answers, or `no memory`.
-fn dump_after<W: Sink>(alloc: Global, state: &StoreState, writer: &mut W) -> Status {
-    match dump_to(alloc, state, writer) {
-        Status::NoMemory => no_memory(writer),
-        status => status,
+// The text of a state, which goes after the answers or into a file.
+fn text_of(alloc: Global, state: StoreState, to: Destination) -> Result<Parted, ReadFault> {
+    match Parted::with_state(alloc, Reply::good(Vec::new(alloc)), state, to) {
+        Ok(text) => Ok(text),
+        Err(_) => Err(ReadFault::NoMemory),
     }
 }
 
@@ -107,12 +109,12 @@ pub fn perform<
     };
     let server = Server { watcher };
     let ServeEnd { status, state } = server.serve(rt.alloc(), task, inputs, &mut lines, writer);
-    match (destination_of(call.output), state) {
-        (Destination::Writer, Some(state)) => dump_after(rt.alloc(), &state, writer),
-        (Destination::Elsewhere, Some(state)) => match StateText::new(rt.alloc(), state) {
-            Ok(text) => put_after(rt, status, &target, Some(Handed::State(text))),
-            Err(_) => no_memory(writer),
-        },
+    match state {
+        Some(state) if status == Status::Good => {
+            let text = text_of(rt.alloc(), state, destination_of(call.output));
+            let Performed { status, made } = hand_back(writer, text);
+            put_after(rt, status, &target, elsewhere(made))
+        }
         _ => status,
     }
 }

@@ -1,8 +1,9 @@
 use Rattle.std.proofs.Common.{◌≤◌, ◌<◌, length, sym, subst, rules}
 use Rattle.std.specs.Prelude.{MatchResult}
+use Rattle.store.proofs.Export.{at_read}
 use Rattle.stress.specs.Teams.{Grow}
 use Rattle.stress.proofs.EachTeam.{all_grown, one_grown}
-use Rattle.stress.proofs.Standing.{at_read, stands}
+use Rattle.stress.proofs.Standing.{stands}
 use Rattle.stress.proofs.playing.note_each.Goals as goal
 
 pub loop-number-preserved : goal.loop-number-preserved

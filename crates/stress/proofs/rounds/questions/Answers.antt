@@ -1,7 +1,8 @@
 use Rattle.std.proofs.Common.{◌∙◌, ◌<◌, Some, ap, sym, arith}
 use Rattle.std.specs.Prelude.{length}
+use Rattle.store.proofs.Export.{at_read}
 use Rattle.stress.proofs.EachCall.{one_belongs}
-use Rattle.stress.proofs.Standing.{at_read, stands}
+use Rattle.stress.proofs.Standing.{stands}
 use Rattle.stress.proofs.rounds.questions.Goals as goal
 
 pub question-requires-clause-update : goal.question-requires-clause-update

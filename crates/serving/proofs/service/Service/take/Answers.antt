@@ -33,4 +33,8 @@ loop-byte-preserved c =
 pub returns-in_err-take_byte-clause-taken : goal.returns-in_err-take_byte-clause-taken
 returns-in_err-take_byte-clause-taken c =
     let p = err_from_is_err_and c.from_residual.result c.from_residual.ensures.1 in
-    rw p.1 (λ s stands. (c.loop-byte.byte-index, c.in_err-take_byte.ensures.kept ∙ (c.loop-byte.invariant.2 s stands).0))
+    rw p.1 (λ s stands. (
+      c.loop-byte.byte-index,
+      c.in_err-take_byte.ensures.kept ∙ (c.loop-byte.invariant.2 s stands).0,
+      c.in_err-take_byte.ensures.at_hand ∙ (c.loop-byte.invariant.2 s stands).1.number,
+    ))
