@@ -78,11 +78,16 @@ is-built:
 	@test -x $(program) && test -f $(library)/libnrbpf.a || { echo 'make: the program or the library is not built yet: run make' >&2; exit 1; }
 	@test "$$(sed -n 2p $(program).sums 2>/dev/null)" = "$$(./nrbpf --sum)" || { echo 'make: the program is built of other sources: run make' >&2; exit 1; }
 
+# What a build for Rust or Go takes, which compiles it over the installed library.
+sources = $(patsubst bindings/%,%,$(wildcard $(addprefix bindings/rust/,Cargo.toml Cargo.lock build.rs README.md src/*.rs examples/*.rs)) \
+	$(filter-out %_test.go %/tree.go,$(wildcard bindings/go/*.go)) $(addprefix bindings/go/,README.md calls.h dump.c example_test.go go.mod))
+
 installed = $(bindir)/nrbpf $(bindir)/nrbpf-c2hex $(bindir)/nrbpf-manifest2h $(includedir)/nrbpf.h $(includedir)/nrbpf.hpp \
 	$(libdir)/libnrbpf.a $(libdir)/$(shared).$(minor) $(libdir)/$(shared) $(libdir)/libnrbpf.so \
 	$(libdir)/pkgconfig/nrbpf.pc $(libdir)/cmake/nrbpf/nrbpfConfig.cmake $(libdir)/cmake/nrbpf/nrbpfConfigVersion.cmake \
 	$(datadir)/nrbpf/c2hex $(datadir)/nrbpf/nrbpf_program.h $(datadir)/nrbpf/stdint.h \
-	$(datadir)/man/man1/nrbpf.1 $(datadir)/bash-completion/completions/nrbpf
+	$(addprefix $(datadir)/nrbpf/,$(sources)) \
+	$(foreach it,nrbpf nrbpf-c2hex nrbpf-manifest2h,$(datadir)/man/man1/$(it).1 $(datadir)/bash-completion/completions/$(it))
 
 install: is-built
 	$(INSTALL) -d $(sort $(dir $(addprefix $(DESTDIR),$(installed))))
@@ -103,12 +108,15 @@ install: is-built
 	$(INSTALL) -m 644 c/nrbpf_program.h c/stdint.h $(DESTDIR)$(datadir)/nrbpf
 	$(INSTALL) -m 755 c/manifest2h $(DESTDIR)$(bindir)/nrbpf-manifest2h
 	ln -sf $(call way,$(bindir),$(datadir))/nrbpf/c2hex $(DESTDIR)$(bindir)/nrbpf-c2hex
-	$(INSTALL) -m 644 docs/nrbpf.1 $(DESTDIR)$(datadir)/man/man1/nrbpf.1
+	for file in $(sources); do $(INSTALL) -m 644 bindings/$$file $(DESTDIR)$(datadir)/nrbpf/$$file || exit; done
+	sed -i 's|](\.\./\.\./|](../../doc/nrbpf/|g' $(DESTDIR)$(datadir)/nrbpf/rust/README.md $(DESTDIR)$(datadir)/nrbpf/go/README.md
+	$(INSTALL) -m 644 docs/nrbpf.1 docs/nrbpf-c2hex.1 docs/nrbpf-manifest2h.1 $(DESTDIR)$(datadir)/man/man1
 	$(INSTALL) -m 644 docs/nrbpf.bash $(DESTDIR)$(datadir)/bash-completion/completions/nrbpf
+	for name in c2hex manifest2h; do ln -sf nrbpf $(DESTDIR)$(datadir)/bash-completion/completions/nrbpf-$$name || exit; done
 
 uninstall:
 	rm -f $(addprefix $(DESTDIR),$(installed))
-	rmdir $(DESTDIR)$(datadir)/nrbpf $(DESTDIR)$(libdir)/cmake/nrbpf 2>/dev/null || true
+	rmdir $(addprefix $(DESTDIR)$(datadir)/nrbpf,/rust/src /rust/examples /rust /go) $(DESTDIR)$(datadir)/nrbpf $(DESTDIR)$(libdir)/cmake/nrbpf 2>/dev/null || true
 
 # The files that git has, or in an unpacked tarball all that are no output: in one order, of one time, owner and mode.
 dist:

@@ -106,7 +106,7 @@ def cited(text, scope, bound=()):
 
 
 class Module:
-    """A file of specs/: for each definition how many lines it has, without comments, and what it cites."""
+    """A file of specs/: for each definition how many lines it has, without comments, and what it cites; and the `texts` of `definitions`."""
 
     def __init__(self, crate, name, file):
         self.crate, self.name, self.path = crate, name, f"Rattle.{crate}.specs.{name.replace('/', '.')}"
@@ -116,7 +116,7 @@ class Module:
         for line in lines:
             if re.match(r"(pub )?use ", line):
                 self.scope.take(line.partition("use ")[2])
-        definitions = list(self.definitions([it for it in lines if not re.match(r"(pub )?use ", it)]))
+        self.texts = definitions = list(self.definitions([it for it in lines if not re.match(r"(pub )?use ", it)]))
         for name, kind, text, _ in definitions:
             self.scope.names[name] = (self.path, name)
             for found in re.findall(r"^ +(\S+) :", text, re.M) if kind == "data" else []:
@@ -329,7 +329,8 @@ class Repository:
     the view, the codes and the invariant of its model, or its ghost fields. `calls` are the public calls and types. A law is a function that
     takes nothing and does nothing, so that its clauses are all that it is; `hidden` are the laws that users of the crate can't name; `ghosts`
     has of each ghost member of src/ how many lines it has, `texts` its text. `named` has of each call its clauses, each with what it names
-    itself; of these calls `laws` are laws, and `types` are types."""
+    itself; of these calls `laws` are laws, and `types` are types. `scopes` has what names stand for in a call's clauses and in a ghost member of
+    an impl. `type_lines` has how many lines a type or a trait of the code has."""
 
     def __init__(self, top):
         self.crates, self.libraries, self.modules, self.sources = [], [], {}, {}
@@ -345,6 +346,7 @@ class Repository:
                 for name in files_below(f"{folder}/src", ".rt"):
                     self.sources[crate, name] = Source(crate, name, f"{folder}/src/{name}.rt")
         self.texts, self.named, self.laws, self.types = {}, defaultdict(list), set(), set()
+        self.scopes, self.type_lines = {}, {}
         self.public = {crate: self.public_of(crate, "lib") for crate in self.libraries}
         for module in self.modules.values():
             for name, pairs in module.cites.items():
@@ -442,6 +444,7 @@ class Repository:
 
     def add_call(self, source, name, function, is_public, own=None):
         node = Call(source.crate, source.module, name)
+        self.scopes[node] = function.scope
         self.cites[node] |= self.types_in(function.signature, source, own)
         parameters = set(re.findall(r"\b(\w+)\s*:(?!:)", function.signature))
         for clause in function.clauses:
@@ -466,7 +469,8 @@ class Repository:
         for name, text in ghosts:
             if name not in PROOFS:
                 into = self.inner if is_model and name != "Value" else self.cites
-                self.add_ghost(source, own, trait if is_of else "", name, text, self.cited_in(text, scope, source) - {own}, into)
+                node = self.add_ghost(source, own, trait if is_of else "", name, text, self.cited_in(text, scope, source) - {own}, into)
+                self.scopes[node] = scope
         if is_model:
             self.modelled[own] = " ".join(text for _, text in ghosts)
         for name, function in functions.items():
@@ -477,7 +481,7 @@ class Repository:
         alike. `Value` says of a model what type it has, and no more."""
         if name == "Value":
             into[own] |= cited
-            return
+            return None
         trait = re.match(r"\w*", trait)[0]
         of = f"{own.name} as {trait}" if trait not in ("", "Model") else own.name
         node = Definition(own.crate, f"src/{source.module}", f"{of}.{name}")
@@ -485,11 +489,13 @@ class Repository:
         self.texts[node] = text
         self.cites[node] |= cited
         into[own].add(node)
+        return node
 
     def add_type(self, source, block):
         """A trait cites what its members say. A type without a model is the record of its fields; one with a model leads to the types of those
         fields that its view names."""
         own = source.types[block.name]
+        self.type_lines[own] = sum(bool(it.strip()) for it in f"{block.head}{{{block.body}}}".splitlines())
         self.cites[own] |= self.types_in(block.head, source) - {own}
         if self.is_public(own):
             self.calls.add(Call(*own))

@@ -1,8 +1,8 @@
 // Stands before the C library in a run of a program (LD_PRELOAD, x86-64 Linux), and refuses it one growth, one read or one write.
 //
 // REFUSING says which: `growth 7` the seventh allocation, `all 7` that and all behind it, `read 2` the second read and `write 2` the second
-// write to standard output (as one that a signal broke off); `take 2` has the second such write take nothing. With the last three, and with
-// `short 0`, each read and write moves one byte.
+// write to standard output (as one that a signal broke off) or to a file (as if the disk was full); `take 2` has the second such write take
+// nothing. With the last three, and with `short 0`, each read and write moves one byte.
 // REFUSING_TO is a file descriptor: `r` goes there when something was refused, and at the end `left N`, the blocks not given back.
 // It uses no header, so that the compiler of the kit is enough.
 
@@ -18,8 +18,8 @@ extern int *__errno_location(void);
 extern char *getenv(const char *);
 
 enum { READ = 0, WRITE = 1, EXIT = 231 }; // the numbers of the system's calls
-enum { OUT = 1 };                        // standard output
-enum { EINTR = 4, ENOMEM = 12 };
+enum { OUT = 1, ERR = 2 };               // standard output and standard error
+enum { EINTR = 4, ENOMEM = 12, ENOSPC = 28 };
 
 static char kind;                        // the first letter of what is refused; 0 before the program begins and after it ended
 static long when;
@@ -100,8 +100,8 @@ void free(void *block) {
     __libc_free(block);
 }
 
-static long broken_off(void) {
-    *__errno_location() = EINTR;
+static long failed(int why) {
+    *__errno_location() = why;
     return -1;
 }
 
@@ -109,14 +109,14 @@ static long broken_off(void) {
 static size moved(size n) { return n && kind && kind != 'g' && kind != 'a' ? 1 : n; }
 
 long read(int file, void *bytes, size n) {
-    if (is_refused('r', __atomic_add_fetch(&reads, 1, __ATOMIC_SEQ_CST))) return broken_off();
+    if (is_refused('r', __atomic_add_fetch(&reads, 1, __ATOMIC_SEQ_CST))) return failed(EINTR);
     return syscall(READ, file, bytes, moved(n));
 }
 
 long write(int file, const void *bytes, size n) {
-    if (file == OUT) {
+    if (file != ERR) {
         long turn = __atomic_add_fetch(&writes, 1, __ATOMIC_SEQ_CST);
-        if (is_refused('w', turn)) return broken_off();
+        if (is_refused('w', turn)) return failed(file == OUT ? EINTR : ENOSPC);
         if (is_refused('t', turn)) return 0;
     }
     return syscall(WRITE, file, bytes, moved(n));

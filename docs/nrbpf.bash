@@ -36,3 +36,23 @@ _nrbpf() {
     esac
 }
 complete -o filenames -F _nrbpf nrbpf ./nrbpf
+_nrbpf_c2hex() {
+    local word=${COMP_WORDS[COMP_CWORD]} before=${COMP_WORDS[COMP_CWORD - 1]}
+    case $before:$word in
+        -o:*) COMPREPLY=($(compgen -d -- "$word")) ;;
+        *:-*) COMPREPLY=($(compgen -W '-o --lines' -- "$word")) ;;
+        *) COMPREPLY=($(compgen -f -X '!*.c' -- "$word") $(compgen -d -- "$word")) ;;
+    esac
+}
+complete -o filenames -F _nrbpf_c2hex nrbpf-c2hex c/c2hex
+_nrbpf_manifest2h() {
+    local word=${COMP_WORDS[COMP_CWORD]} before=${COMP_WORDS[COMP_CWORD - 1]}
+    case $before:$word in
+        -o:*) COMPREPLY=($(compgen -f -- "$word")) ;;
+        --name:*) COMPREPLY=() ;;
+        --types:*) COMPREPLY=() ;;
+        *:-*) COMPREPLY=($(compgen -W '-o --name --types' -- "$word")) ;;
+        *) COMPREPLY=($(compgen -f -- "$word")) ;;
+    esac
+}
+complete -o filenames -F _nrbpf_manifest2h nrbpf-manifest2h c/manifest2h

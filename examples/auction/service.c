@@ -57,6 +57,10 @@ static uint16_t install(nrbpf_session *session, const char *name) {
     for (const char *at = file.text; size < MOST_PROGRAM && sscanf(at, " %2hhx%n", &bytes[size], &length) == 1; at += length) size++;
     check(nrbpf_install(session, NRBPF_MODE_READ, sizeof item, bytes, size, &answer, NULL));
     free((char *)file.text);
+    if (answer.reply == NRBPF_REPLY_NO_ROOM) {
+        fputs("there is no place for another program\n", stderr);
+        exit(1);
+    }
     return (uint16_t)answer.reply;
 }
 
