@@ -17,7 +17,7 @@ use Rattle.accounts.specs.Values.{StoreValue, TheDesk}
 use Rattle.accounts.specs.Moves.{desk_rules, placed_from, record_of, unplaced}
 use Rattle.accounts.specs.StoreRules.{IsNoting, MayAppend}
 use Rattle.accounts.specs.Picks.{put_progress, put_note}
-use Rattle.accounts.specs.DeskNotes.{Looked, desk_noting, desk_in, desk_held, noted_answer, request_in, requests_in, stage_at, PostNoted, ClaimNoted, CollectNoted, DeskPicked, DeskIs, BatchNoted}
+use Rattle.accounts.specs.DeskNotes.{Looked, desk_noting, desk_in, desk_held, noted_answer, noted_request, request_in, requests_in, stage_at, PostNoted, ClaimNoted, CollectNoted, DeskPicked, DeskIs, BatchNoted}
 use Rattle.accounts.proofs.Desks.{posted_is, collected_is}
 use Rattle.accounts.proofs.Lists.{get_of}
 use Rattle.accounts.proofs.Puts.{seen_desk_may_put}
@@ -41,7 +41,7 @@ module _ {C M V : Type 0} (view : V → StoreValue M) where
       let slot : Slot = record { stage = Posted op; count = p.0.count } in
       let at : At s slot y.slots = subst (λ (z : DeskView). At s slot z.slots) (sym p.3) (set_here x.slots s slot (at_below x.slots s p.0 p.1)) in
       let stage = stage_is k s slot x y own at (ap (λ (z : DeskView). z.node) (sym p.3)) in
-      ap (λ o. record n { pending = option_map (λ z. record { op = z; seen = length k.progress.history }) (option_and_then request_in o) }) stage
+      ap (λ o. noted_request (length k.progress.history) (option_and_then request_in o) n) stage
 
   desk_is : (k : Known (Progress C) SessionNote V) (p : ℕ) (v : V) (x : DeskView) → k.held ≡ (p, v) ∷ [] → view v ≡ TheDesk x → desk_held view k.held ≡ Some x
   desk_is k p v x held is = ap (desk_held view) held ∙ ap desk_in is

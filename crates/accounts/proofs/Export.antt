@@ -3,11 +3,11 @@ pub use Rattle.accounts.proofs.Batches.{batch_is, claims_ascend}
 pub use Rattle.accounts.proofs.DeskNotes.{batch_noted, claim_noted, collect_noted, desk_notes, desk_picked, desk_picks, post_noted}
 pub use Rattle.accounts.proofs.Desks.{WasEmpty, answered_at, answered_long, collected_is, none_claimed, posted_is}
 pub use Rattle.accounts.proofs.Ended.{answered, ends, stand}
-pub use Rattle.accounts.proofs.Finish.{grown_long, opens}
+pub use Rattle.accounts.proofs.Finish.{at_replicate, grown_long, opens}
 pub use Rattle.accounts.proofs.Kept.{no_next}
 pub use Rattle.accounts.proofs.Lists.{at_behind, at_front, at_joined, at_none, at_of, get_of}
 pub use Rattle.accounts.proofs.Moved.{one_place, some_none}
-pub use Rattle.accounts.proofs.Parts.{author_is, placed_back}
+pub use Rattle.accounts.proofs.Parts.{author_is, placed_back, whole_note}
 pub use Rattle.accounts.proofs.Picked.{log_picked, log_picks, puts_account, replica_picked, replica_picks, same_picked, same_picks}
 pub use Rattle.accounts.proofs.Puts.{at_map, at_mapped, at_there, desk_puts}
 pub use Rattle.accounts.proofs.Putting.{may_take_desk, may_take_first, store_opens, takes_desk, takes_its_replica, takes_log}

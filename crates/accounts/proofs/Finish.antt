@@ -22,7 +22,7 @@ use Rattle.combiner.specs.Slots.{slot}
 use Rattle.combiner.specs.declared.slots.Stage.TheVariants.{Empty}
 
 module _ {A : Type 0} where
-  at_replicate : (n i : ℕ) (a b : A) → At i b (replicate n a) → (b ≡ a) × (i < n)
+  pub at_replicate : (n i : ℕ) (a b : A) → At i b (replicate n a) → (b ≡ a) × (i < n)
   at_replicate zero i a b h = absurd (at_none i b h)
   at_replicate (suc n) zero a b h = (sym (some-injective a b h), omega arith)
   at_replicate (suc n) (suc i) a b h = let r = at_replicate n i a b h in let lt = r.1 in (r.0, omega (arith, lt))

@@ -14,7 +14,7 @@ use Rattle.accounts.proofs.Parts.{Alike, alike_on, alike_request, batch_back, po
 use Rattle.oplog.specs.Sessions.{IsSessionOf, session}
 use Rattle.accounts.specs.Accounts.{Accounts, HasNoRecord, IsInBatch, IsNoted, IsRequest, IsAllowed, IsRecorded}
 use Rattle.accounts.specs.Agreement.{Answers, DeskAgrees, IsUnclaimed, StageAgrees}
-use Rattle.accounts.specs.Moves.{answered_with, unplaced}
+use Rattle.accounts.specs.Moves.{answered_with, posted_with, unplaced}
 use Rattle.combiner.specs.Desks.{DeskView, batch_of, first_author}
 use Rattle.combiner.specs.declared.slots.Stage.{Stage}
 use Rattle.combiner.specs.declared.slots.Stage.TheVariants.{Posted}
@@ -70,12 +70,12 @@ module _ {C M : Type 0} (E : Meaning C M) where
         let same : r.0 ≡ n = at_one ns c r.0 n (subst (λ z. At z r.0 ns) e r.1) here in
         some_none r.2.0 r.0.pending r.2.1 (ap (λ (z : SessionNote). z.pending) same ∙ idle)
 
-    pub post_accounts : (o : Pending) → n.pending ≡ None → IsAllowed E l.catalogue o.op → o.seen ≤ length l.history → Accounts E l (set ns c (record n { pending = Some o }))
-    post_accounts o idle may seen = request_changes E l l ns c n (record n { pending = Some o }) w here refl (unclaimed_idle idle) accounted
+    pub post_accounts : (o : Pending) → n.pending ≡ None → IsAllowed E l.catalogue o.op → o.seen ≤ length l.history → Accounts E l (set ns c (posted_with n o))
+    post_accounts o idle may seen = request_changes E l l ns c n (posted_with n o) w here refl (unclaimed_idle idle) accounted
         (λ q u h. w.answered c n q u here h)
         (λ o2 e. let same = same_Some o o2 e in subst (λ (z : Pending). IsAllowed E l.catalogue z.op × (z.seen ≤ length l.history)) same (may, seen))
       where
-        accounted : (i : ℕ) (r : Record) → At i r l.history → r.author ≡ c → IsNoted n i r → IsNoted (record n { pending = Some o }) i r
+        accounted : (i : ℕ) (r : Record) → At i r l.history → r.author ≡ c → IsNoted n i r → IsNoted (posted_with n o) i r
         accounted i r at e (inl h) = inl h
         accounted i r at e (inr h) = absurd (some_none h.0 n.pending h.1 idle)
 

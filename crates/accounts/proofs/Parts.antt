@@ -1,5 +1,5 @@
 -- Histories, batches and notes, part by part.
-use Rattle.std.proofs.Common.{◌≡◌, ◌≢◌, ℕ, zero, suc, ◌+◌, ◌*◌, ◌<◌, ◌≤◌, ◌⊎◌, List, [], ◌∷◌, ◌++◌, map, length, take, set, sym, refl, ap, ◌∙◌, subst, inl, inr, ⊎_elim, arith, Some, None, option_map}
+use Rattle.std.proofs.Common.{◌≡◌, ◌≢◌, ℕ, zero, suc, ◌+◌, ◌*◌, ◌<◌, ◌≤◌, ◌⊎◌, List, [], ◌∷◌, ◌++◌, map, length, take, set, sym, refl, ap, ◌∙◌, subst, inl, inr, ⊎_elim, arith, Some, None, option_map, append_assoc}
 use Rattle.std.proofs.lemmas.Bool.{cases_lt}
 use mathlib.Core.Option as kernel
 use mathlib.Core.Option.{some-injective}
@@ -12,11 +12,15 @@ use Rattle.ownlock.specs.Seats.{At}
 use Rattle.accounts.proofs.Lists.{at_none, take_front}
 use Rattle.oplog.specs.Sessions.{session}
 use Rattle.accounts.specs.Accounts.{IsInBatch, IsNoted, IsRequest}
-use Rattle.accounts.specs.Moves.{placed_from, record_of, unplaced}
+use Rattle.accounts.specs.Moves.{answered_with, called_with, placed_from, record_of, unplaced}
+use Rattle.accounts.specs.Told.{updated_with}
+use Rattle.combiner.specs.declared.slots.Reply.{Reply}
+use Rattle.combiner.specs.declared.slots.Reply.TheVariants.{Ended, Placed}
 use Rattle.combiner.specs.declared.slots.Slot.{Slot}
 use Rattle.combiner.specs.declared.slots.Stage.{Stage}
 use Rattle.combiner.specs.declared.slots.Stage.TheVariants.{Answered, Claimed, Empty, Posted}
 use Rattle.accounts.specs.declared.sessions.Claim.{Claim}
+use Rattle.accounts.specs.declared.sessions.SessionEvent.TheVariants.{UpdateBack, UpdateCall}
 use Rattle.accounts.specs.declared.sessions.SessionNote.{SessionNote}
 use Rattle.combiner.specs.Slots.{requested, requests_from}
 use Rattle.combiner.specs.Desks.{DeskView, first_author}
@@ -47,6 +51,16 @@ alike_accounts n m i r a (inr h) = inr (h.0, sym a.pending ∙ h.1, h.2, h.3 ∙
 
 pub alike_request : (n m : SessionNote) (r : Record) → Alike n m → IsRequest n r → IsRequest m r
 alike_request n m r a h = (h.0, sym a.pending ∙ h.1, h.2, h.3 ∙ ap length a.answered)
+
+-- a call and its answer, by a session that combines nothing
+pub whole_note : (n : SessionNote) (op : Operation) (reply : Reply) → answered_with (record (called_with n op) { batch = [] }) op reply ≡ updated_with n op reply
+whole_note n op (Placed i x) = λ j. record {
+  answered = n.answered ++ record { index = i; op = op; reply = x } ∷ [];
+  pending = None;
+  batch = [];
+  events = append_assoc n.events (UpdateCall op ∷ []) (UpdateBack (Placed i x) ∷ []) j;
+}
+whole_note n op Ended = λ j. record { answered = n.answered; pending = None; batch = []; events = append_assoc n.events (UpdateCall op ∷ []) (UpdateBack Ended ∷ []) j }
 
 -- the notes once session c has another
 module _ (ns : List SessionNote) (c : ℕ) (n n' : SessionNote) (here : At c n ns) where

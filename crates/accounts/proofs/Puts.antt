@@ -18,7 +18,7 @@ use Rattle.oplog.specs.Sessions.{IsSessionOf, session}
 use Rattle.accounts.specs.Accounts.{Accounts, Extends, HasNoRecord, IsInBatch, IsPlacedIn, IsAllowed}
 use Rattle.accounts.specs.Agreement.{Answers, DeskAgrees, IsUnclaimed, SlotAgrees, StageAgrees, desk_place, AgreesWith}
 use Rattle.accounts.specs.DeskSteps.{ClaimStep, CollectStep, DeskMayPut, DeskPuts, DeskStep, Gives, PostStep, ReplyStep}
-use Rattle.accounts.specs.Moves.{Claims, Collects, DeskMove, Posts, Replies, answered_with, record_of, unplaced, Moves}
+use Rattle.accounts.specs.Moves.{Claims, Collects, DeskMove, Posts, Replies, answered_with, posted_with, record_of, unplaced, Moves}
 use Rattle.combiner.specs.Desks.{DeskView, BatchView, answer_for, answered_from, batch_of, claimed, first_author, replied}
 use Rattle.combiner.specs.declared.slots.Slot.{Slot}
 use Rattle.combiner.specs.declared.slots.Stage.{Stage}
@@ -103,7 +103,7 @@ module _ {C M : Type 0} (E : Meaning C M) where
     own : (s : ℕ) → c ≡ session known.config x.node s → c ≡ session l.config x.node s
     own s e = e ∙ ap (λ z. session z x.node s) grown.config
 
-    post_puts : (s : ℕ) (slot : Slot) (op : Operation) → c ≡ session known.config x.node s → At s slot x.slots → slot.stage ≡ Empty → IsAllowed E known.catalogue op → (n' : SessionNote) → n' ≡ record n { pending = Some (record { op = op; seen = length known.history }) }
+    post_puts : (s : ℕ) (slot : Slot) (op : Operation) → c ≡ session known.config x.node s → At s slot x.slots → slot.stage ≡ Empty → IsAllowed E known.catalogue op → (n' : SessionNote) → n' ≡ posted_with n (record { op = op; seen = length known.history })
         → DeskMove E x c l n n' × DeskAgrees E l (set ns c n') (record { node = x.node; slots = set x.slots s (record { stage = Posted op; count = slot.count }) })
     post_puts s slot op is at empty may n' e = (
       Posts asked idle (subst (λ z. IsAllowed E z op) grown.catalogue may) seen e,

@@ -15,7 +15,7 @@ use Rattle.accounts.specs.declared.sessions.Progress.{Progress}
 use Rattle.accounts.specs.declared.sessions.Pending.{Pending}
 use Rattle.accounts.specs.declared.sessions.SessionNote.{SessionNote}
 use Rattle.accounts.specs.Values.{LogValue, StoreValue, TheLog, TheReplica, TheDesk}
-use Rattle.accounts.specs.Moves.{answered_with, desk_rules, placed_from, record_of, unplaced}
+use Rattle.accounts.specs.Moves.{answered_with, desk_rules, placed_from, posted_with, record_of, unplaced}
 use Rattle.accounts.specs.LogSteps.{LogStep}
 use Rattle.accounts.specs.StoreRules.{Noting, MayAppend}
 use Rattle.accounts.specs.Putting.{HoldsDesk}
@@ -45,6 +45,11 @@ abbrev pub requests_in : Option DeskView → History
 requests_in (Some x) = (batch_of x).records
 requests_in None = []
 
+-- the note with this request, which the session posts when the history is so long
+abbrev pub noted_request : ℕ → Option Operation → SessionNote → SessionNote
+noted_request seen (Some op) n = posted_with n (record { op = op; seen = seen })
+noted_request seen None n = n
+
 -- the note with that answer to the request that the session waits for
 abbrev pub noted_answer : Option Reply → Option Pending → SessionNote → SessionNote
 noted_answer (Some reply) (Some o) n = answered_with n o.op reply
@@ -63,7 +68,7 @@ stage_at k x = option_map (λ slot. slot.stage) (slice_get x.slots (k.session - 
 module _ {C M V : Type 0} (view : V → StoreValue M) where
   abbrev pub desk_note : DeskDeed → Known (Progress C) SessionNote V → DeskView → SessionNote → SessionNote
   desk_note Looked k y n = n
-  desk_note PostedThere k y n = record n { pending = option_map (λ op. record { op = op; seen = length k.progress.history }) (option_and_then request_in (stage_at k y)) }
+  desk_note PostedThere k y n = noted_request (length k.progress.history) (option_and_then request_in (stage_at k y)) n
   desk_note ClaimedThere k y n = record n { batch = unplaced (requests_in (desk_held view k.held)) }
   desk_note RepliedThere k y n = record n { batch = [] }
   desk_note CollectedThere k y n = noted_answer (option_and_then answer_in (option_and_then (stage_at k) (desk_held view k.held))) n.pending n
@@ -77,7 +82,7 @@ module _ (C : Type 0) {M V : Type 0} (view : V → StoreValue M) where
   abbrev pub PostNoted : Type 0
   PostNoted =
       (k : Known (Progress C) SessionNote V) (s : ℕ) (op : Operation) (x y : DeskView) (n : SessionNote) → k.session ≡ session k.progress.config x.node s → posted s op x ≡ Some y
-      → desk_note view PostedThere k y n ≡ record n { pending = Some (record { op = op; seen = length k.progress.history }) }
+      → desk_note view PostedThere k y n ≡ posted_with n (record { op = op; seen = length k.progress.history })
 
   abbrev pub ClaimNoted : Type 0
   ClaimNoted =

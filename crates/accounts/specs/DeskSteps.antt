@@ -16,7 +16,7 @@ use Rattle.accounts.specs.Values.{StoreValue, TheDesk}
 use Rattle.oplog.specs.Sessions.{session, IsSessionOf}
 use Rattle.accounts.specs.Accounts.{Accounts, Extends, IsAllowed}
 use Rattle.accounts.specs.Agreement.{DeskAgrees}
-use Rattle.accounts.specs.Moves.{answered_with, DeskMove, desk_rules, record_of, unplaced}
+use Rattle.accounts.specs.Moves.{answered_with, posted_with, DeskMove, desk_rules, record_of, unplaced}
 
 module _ {C M : Type 0} (E : Meaning C M) where
   -- the answer that a combiner has for a request of its batch
@@ -26,7 +26,7 @@ module _ {C M : Type 0} (E : Meaning C M) where
 
   pub data DeskStep (known : Progress C) (c : ℕ) (n : SessionNote) (x : DeskView) (n' : SessionNote) (y : DeskView) : Type 0 where
     PostStep : (s : ℕ) (op : Operation) → c ≡ session known.config x.node s → IsAllowed E known.catalogue op
-        → n' ≡ record n { pending = Some (record { op = op; seen = length known.history }) } → posted s op x ≡ Some y → DeskStep known c n x n' y
+        → n' ≡ posted_with n (record { op = op; seen = length known.history }) → posted s op x ≡ Some y → DeskStep known c n x n' y
     ClaimStep : has_combiner x ≡ false → n.batch ≡ [] → n' ≡ record n { batch = unplaced (batch_of x).records } → y ≡ claimed x → DeskStep known c n x n' y
     -- each request of the session's batch has its answer
     ReplyStep : (b : BatchView) (k : ℕ) (t : Claim) → At k t n.batch → b.records ≡ map record_of n.batch

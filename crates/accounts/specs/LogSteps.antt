@@ -14,7 +14,7 @@ use Rattle.accounts.specs.StoreRules.{IsLogAfter, MayAppend}
 use Rattle.combiner.specs.Desks.{opened_desk}
 
 abbrev pub fresh_note : SessionNote
-fresh_note = record { answered = []; pending = None; batch = [] }
+fresh_note = record { answered = []; pending = None; batch = []; events = [] }
 
 -- no operation yet
 abbrev pub first_progress : {C : Type 0} → Sizes → C → Progress C
@@ -40,7 +40,7 @@ module _ {C M : Type 0} (E : Meaning C M) where
   abbrev pub LogPuts : Type 0
   LogPuts =
       (known l : Progress C) (n : SessionNote) (x y : LogValue M) (k : ℕ) → Extends known l → known.history ≡ l.history → LogAgrees E l x → LogStep known n x k y
-      → LogMove E l n (appended_progress l (take k n.batch)) (record { answered = n.answered; pending = n.pending; batch = placed_from (length known.history) k n.batch })
+      → LogMove E l n (appended_progress l (take k n.batch)) (record n { batch = placed_from (length known.history) k n.batch })
       × LogAgrees E (appended_progress l (take k n.batch)) y
 
   -- such a step is one that the rules of desks allow

@@ -8,6 +8,7 @@ use Rattle.oplog.specs.History.{Meaning, History}
 use Rattle.accounts.specs.declared.sessions.Progress.{Progress}
 use Rattle.accounts.specs.declared.sessions.Pending.{Pending}
 use Rattle.accounts.specs.declared.sessions.Claim.{Claim}
+use Rattle.accounts.specs.declared.sessions.SessionEvent.TheVariants.{UpdateCall, UpdateBack}
 use Rattle.accounts.specs.declared.sessions.SessionNote.{SessionNote}
 use Rattle.combiner.specs.Desks.{DeskView, batch_of}
 use Rattle.combiner.specs.declared.slots.Slot.{Slot}
@@ -36,10 +37,20 @@ record_of t = t.request
 abbrev pub unplaced : List Record → List Claim
 unplaced rs = map (λ r. record { request = r; index = None }) rs
 
--- the note once the session has its answer
+-- the note once the session has called this update; once it has posted this request; and once it has this answer
+abbrev pub called_with : SessionNote → Operation → SessionNote
+called_with n op = record n { events = n.events ++ UpdateCall op ∷ [] }
+
+abbrev pub posted_with : SessionNote → Pending → SessionNote
+posted_with n o = record (called_with n o.op) { pending = Some o }
+
 abbrev pub answered_with : SessionNote → Operation → Reply → SessionNote
-answered_with n op (Placed i reply) = record n { answered = n.answered ++ record { index = i; op = op; reply = reply } ∷ []; pending = None }
-answered_with n op Ended = record n { pending = None }
+answered_with n op (Placed i reply) = record n {
+  answered = n.answered ++ record { index = i; op = op; reply = reply } ∷ [];
+  pending = None;
+  events = n.events ++ UpdateBack (Placed i reply) ∷ [];
+}
+answered_with n op Ended = record n { pending = None; events = n.events ++ UpdateBack Ended ∷ [] }
 
 -- what session c may hold at once, the one taken last first: nothing, the desk of its node alone, the replica of its node, the log, or these two
 pub data MayHold {C : Type 0} (l : Progress C) (c : ℕ) (places : List ℕ) : Type 0 where
@@ -56,7 +67,7 @@ raised l n = record l { completed = max l.completed n }
 module _ {C M : Type 0} (E : Meaning C M) where
   -- at the desk of its node a session changes nothing but its note
   pub data DeskMove (x : DeskView) (c : ℕ) (l : Progress C) (n n' : SessionNote) : Type 0 where
-    Posts : (o : Pending) → n.pending ≡ None → IsAllowed E l.catalogue o.op → o.seen ≤ length l.history → n' ≡ record n { pending = Some o } → DeskMove x c l n n'
+    Posts : (o : Pending) → n.pending ≡ None → IsAllowed E l.catalogue o.op → o.seen ≤ length l.history → n' ≡ posted_with n o → DeskMove x c l n n'
     Claims : n.batch ≡ [] → n' ≡ record n { batch = unplaced (batch_of x).records } → DeskMove x c l n n'
     Replies : n' ≡ record n { batch = [] } → DeskMove x c l n n'
     Collects : (s : ℕ) (slot : Slot) (o : Pending) (answer : Reply) → c ≡ session l.config x.node s → At s slot x.slots → slot.stage ≡ Answered answer → n.pending ≡ Some o → n' ≡ answered_with n o.op answer → DeskMove x c l n n'

@@ -7,6 +7,7 @@ use Rattle.oplog.specs.History.{Meaning, History, reply_at, read_reply_at}
 use Rattle.accounts.specs.declared.sessions.Progress.{Progress}
 use Rattle.accounts.specs.declared.sessions.Pending.{Pending}
 use Rattle.accounts.specs.declared.sessions.AnsweredUpdate.{AnsweredUpdate}
+use Rattle.accounts.specs.declared.sessions.SessionEvent.TheVariants.{UpdateCall, UpdateBack}
 use Rattle.accounts.specs.declared.sessions.SessionNote.{SessionNote}
 use Rattle.combiner.specs.Desks.{DeskView}
 use Rattle.combiner.specs.declared.slots.Slot.{Slot}
@@ -29,7 +30,21 @@ numbered a seq (u ∷ us) = record { author = a; seq = seq; op = u.op } ∷ numb
 -- the note, once the session was answered op at place i with that reply; it waits for nothing then, and combines
 -- nothing
 abbrev pub note_with : SessionNote → ℕ → Operation → ℕ → SessionNote
-note_with n i op reply = record { answered = n.answered ++ record { index = i; op = op; reply = reply } ∷ []; pending = None; batch = [] }
+note_with n i op reply = record n {
+  answered = n.answered ++ record { index = i; op = op; reply = reply } ∷ [];
+  pending = None;
+  batch = [];
+  events = n.events ++ UpdateCall op ∷ UpdateBack (Placed i reply) ∷ [];
+}
+
+-- and once it was told that the history has ended
+abbrev pub note_ended : SessionNote → Operation → SessionNote
+note_ended n op = record n { pending = None; batch = []; events = n.events ++ UpdateCall op ∷ UpdateBack Ended ∷ [] }
+
+-- by whether the update was placed
+abbrev pub updated_with : SessionNote → Operation → Reply → SessionNote
+updated_with n op (Placed i reply) = note_with n i op reply
+updated_with n op Ended = note_ended n op
 
 module _ {C M : Type 0} (E : Meaning C M) where
   -- the answer to the request o of session c, its next by this number, is right, and its place is not before the history's length at the call

@@ -11,4 +11,4 @@ pub use law::{
     store_puts, store_rules, store_takes, store_tells, tells,
 };
 pub use meanings::{Effects, Viewed};
-pub use sessions::{AnsweredUpdate, Claim, Pending, Progress, SessionNote};
+pub use sessions::{AnsweredUpdate, Claim, Pending, Progress, SessionEvent, SessionNote};

@@ -1,5 +1,6 @@
 // What all sessions see grow, and what each says of itself. No value of these is made: they stand in contracts alone.
 
+use combiner::Reply;
 use oplog::{Op, Record, Sizes};
 use std::collections::LinkedList;
 
@@ -20,6 +21,14 @@ pub struct Pending {
     pub seen: u64,
 }
 
+/// A session called an update, or was answered.
+pub enum SessionEvent {
+    /// It called this update.
+    UpdateCall(Op),
+    /// The update has its index and its reply, or the history has ended.
+    UpdateBack(Reply),
+}
+
 /// An update that a session was answered, its index in the history, and the reply that it was answered with.
 pub struct AnsweredUpdate {
     pub index: u64,
@@ -33,10 +42,11 @@ pub struct Claim {
     pub index: Option<u64>,
 }
 
-/// What a session has been answered, the request that it waits for, and the batch that it combines. Who combines nothing has an
-/// empty batch.
+/// What a session has been answered, the request that it waits for, the batch that it combines, and each of its calls and answers so far, in their
+/// order. Who combines nothing has an empty batch.
 pub struct SessionNote {
     pub answered: LinkedList<AnsweredUpdate>,
     pub pending: Option<Pending>,
     pub batch: LinkedList<Claim>,
+    pub events: LinkedList<SessionEvent>,
 }

@@ -3,23 +3,23 @@
 #![tactic(auto)]
 
 ghost use Rattle.std.specs.Prelude.{◌≡◌, ◌≤◌, [], ◌∷◌, IfSome, None, Some, vec_capacity};
-ghost use Rattle.store.specs.Opening.{IsClosed};
+ghost use Rattle.store.specs.Explained.{ClosesLinear};
+ghost use Rattle.store.specs.Opening.{last_state};
+ghost use Rattle.store.specs.Polled.{TellsAnswer};
 ghost use Rattle.store.specs.Sessions.{IsOf, SessionGoesOn};
 ghost use Rattle.store_steps.specs.Shelving.{sessions_of};
 ghost use Rattle.store_steps.specs.Views.{op_of};
 ghost use Rattle.accounts.specs.Accounts.{IsWellFormed};
 ghost use Rattle.accounts.specs.declared.sessions.Pending.{Pending};
 ghost use Rattle.replica.specs.StoreMeaning.{store_meaning};
-ghost use Rattle.example_calls.specs.Heard.{AreExplained, HasFinished, HasPolled, HasUpdated, HasUpdatedTwice, two_of};
+ghost use Rattle.example_calls.specs.Heard.{AreExplained, HasUpdated, HasUpdatedTwice, two_of};
 
 mod heard;
 
 pub use heard::Heard;
 use std::alloc::Global;
 use std::sync::Wait;
-use store::{
-    Answer, Catalogue, Closed, Config, Polled, Session, Store, StoreRefused, calls_are_told,
-};
+use store::{Answer, Catalogue, Closed, Config, Polled, Session, Store, StoreRefused};
 
 /// A store of one node, with a session for each of its two slots.
 pub const CONFIG: Config = Config {
@@ -40,7 +40,7 @@ fn update<R: Wait>(
 ) -> Option<Answer>
     requires own { IsOf store.now session.old }
     ensures session { SessionGoesOn store.now session.old session.new }
-    ensures told { IfSome result (λ a. HasUpdated store.now session.old session.new (op_of program argument.now) a) }
+    ensures told { IfSome result (λ a. HasUpdated session.old session.new (op_of program argument.now) a) }
 {
     session.invoke(rt, store, program, argument).ok()
 }
@@ -55,7 +55,7 @@ fn update_twice<R: Wait>(
 ) -> Option<(Answer, Answer)>
     requires own { IsOf store.now session.old }
     ensures session { SessionGoesOn store.now session.old session.new }
-    ensures told { IfSome result (λ t. HasUpdatedTwice store.now session.old session.new (op_of program argument.now) t.0 t.1) }
+    ensures told { IfSome result (λ t. HasUpdatedTwice session.old session.new (op_of program argument.now) t.0 t.1) }
 {
     let first = update(rt, store, session, program, argument)?;
     let second = update(rt, store, session, program, argument)?;
@@ -69,7 +69,7 @@ fn finish<R: Wait>(rt: &R, store: &Store, polled: &mut Polled) -> Result<Answer,
     requires asked { (o : Pending) × (polled.old.note.pending ≡ Some o) }
     ensures session { SessionGoesOn store.now polled.old polled.new }
     ensures rests { polled.new.note.pending ≡ None }
-    ensures told { HasFinished store.now polled.old polled.new result }
+    ensures told { (o : Pending) → polled.old.note.pending ≡ Some o → TellsAnswer polled.old polled.new o result }
 {
     for _ in rt.forever() {
         if let Some(told) = polled.try_complete(store) {
@@ -91,7 +91,7 @@ fn poll<R: Wait>(
     requires idle { polled.old.note.pending ≡ None }
     ensures session { SessionGoesOn store.now polled.old polled.new }
     ensures rests { polled.new.note.pending ≡ None }
-    ensures told { IfSome result (λ a. HasPolled store.now polled.old polled.new (op_of program argument.now) a) }
+    ensures told { IfSome result (λ a. HasUpdated polled.old polled.new (op_of program argument.now) a) }
 {
     match polled.try_post(store, program, argument) {
         Ok(Some(())) => finish(rt, store, polled).ok(),
@@ -105,7 +105,7 @@ fn close(store: Store, mut sessions: Vec<Session>, waiting: Session, polls: Poll
     requires idle { polls.note.pending ≡ None }
     requires two { sessions_of store.config ≡ 2 }
     requires room { (sessions.items ≡ []) × (2 ≤ vec_capacity sessions) }
-    ensures closed { IsClosed store (waiting ∷ polls ∷ []) result }
+    ensures linear { ClosesLinear store (waiting ∷ polls ∷ []) result }
 {
     sessions.push_reserved(waiting);
     sessions.push_reserved(polls.into_session());
@@ -139,7 +139,7 @@ pub fn answers_of_two<R: Wait>(
     program: u16,
     argument: &[u8],
 ) -> Option<(Heard, Closed)>
-    ensures explained { IfSome result (λ t. AreExplained (two_of catalogue) (op_of program argument.now) t.0 t.1) }
+    ensures explained { IfSome result (λ t. AreExplained (two_of catalogue) (op_of program argument.now) t.0 (last_state t.1)) }
 {
     let (store, mut sessions) = Store::open(alloc, CONFIG, catalogue).ok()?;
     let Some(other) = sessions.pop() else {
@@ -149,7 +149,6 @@ pub fn answers_of_two<R: Wait>(
         unreachable!()
     };
     let mut polled = Polled::new(other);
-    calls_are_told();
     let told = update_twice(rt, &store, &mut session, program, argument);
     let answer = poll(rt, &store, &mut polled, program, argument);
     let closed = close(store, sessions, session, polled);

@@ -7,7 +7,7 @@ use Rattle.replica.specs.declared.refusals.StoreRefused.{StoreRefused}
 use Rattle.accounts.specs.declared.sessions.Pending.{Pending}
 use Rattle.accounts.specs.declared.sessions.SessionNote.{SessionNote}
 use Rattle.accounts.specs.Accounts.{Extends}
-use Rattle.accounts.specs.Moves.{answered_with}
+use Rattle.accounts.specs.Moves.{answered_with, posted_with}
 use Rattle.accounts.specs.Told.{Tells}
 use Rattle.store_steps.specs.Polling.{HasAskedFor}
 use Rattle.store_steps.specs.Views.{SessionView, known_of}
@@ -17,15 +17,17 @@ use Rattle.store.specs.Polled.{HasPostedFor}
 use Rattle.store.proofs.Export.{gone_then}
 use Rattle.host_calls.specs.declared.attached.CallResult.{CallResult}
 use Rattle.host_calls.specs.declared.attached.CallResult.TheVariants.{Busy, Again, Answered, Refused, NotOpen, IsOut, NoWord, Allowed}
-use Rattle.host_calls.specs.CallResults.{HasGrown, TellsOut, TellsPosting, TellsRefused, TellsUpdate}
+use Rattle.host_calls.specs.CallResults.{HasGrown, posted_as, TellsOut, TellsPosting, TellsRefused, TellsUpdate}
 
 pub none_of : {A : Type 0} (x : Option A) → ((a : A) → x ≡ Some a → ⊥) → x ≡ None
 none_of None never = refl
 none_of (Some a) never = absurd (never a refl)
 
 -- what is told of a request that was posted within the call
-out_from : (old mid new : SessionView) (o : Pending) (told : CallResult) → mid.session ≡ old.session → record mid.note { batch = [] } ≡ record old.note { pending = Some o; batch = [] } → TellsOut mid new o told → TellsOut old new o told
-out_from old mid new o Again same note t = (t.0, t.1 ∙ ap (λ (n : SessionNote). n.answered) note)
+out_from : (old mid new : SessionView) (o : Pending) (told : CallResult) → mid.session ≡ old.session
+    → record mid.note { batch = [] } ≡ record (posted_with old.note o) { batch = [] } → TellsOut mid new o told
+    → TellsOut (posted_as old o) new o told
+out_from old mid new o Again same note t = t ∙ note
 out_from old mid new o (Answered place reply) same note t =
     let at = subst (λ n. Tells store_meaning new.progress mid.session (length n.answered) o (Placed place reply) × (new.note ≡ answered_with (record n { batch = [] }) o.op (Placed place reply))) note t in
     (subst (λ s. Tells store_meaning new.progress s (length old.note.answered) o (Placed place reply)) same at.0, at.1)
@@ -39,7 +41,7 @@ out_from old mid new o NoWord same note t = t
 out_from old mid new o Allowed same note t = t
 
 posting : (op : Operation) (old new : SessionView) (o : Pending) (told : CallResult) → o.op ≡ op
-    → length old.progress.history ≤ o.seen → TellsOut old new o told → TellsPosting op old new told
+    → length old.progress.history ≤ o.seen → TellsOut (posted_as old o) new o told → TellsPosting op old new told
 posting op old new o Busy is seen t = absurd t
 posting op old new o Again is seen t = (o, is, seen, t)
 posting op old new o (Answered place reply) is seen t = (o, is, seen, t)

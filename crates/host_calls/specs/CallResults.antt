@@ -10,13 +10,14 @@ use Rattle.replica.specs.declared.refusals.StoreRefused.{StoreRefused}
 use Rattle.replica.specs.declared.refusals.StoreRefused.TheVariants.{Ended as TheEnd}
 use Rattle.accounts.specs.declared.sessions.Pending.{Pending}
 use Rattle.accounts.specs.Accounts.{Extends, IsWellFormed}
+use Rattle.accounts.specs.Moves.{posted_with}
 use Rattle.store_steps.specs.Views.{SessionView, known_of}
 use Rattle.store_laws.specs.CallsMade.{GoneOn}
 use Rattle.store.specs.Looks.{HasReply}
 use Rattle.store_steps.specs.Sights.{SightTells}
 use Rattle.store.specs.Sessions.{IsFresh}
 use Rattle.store.specs.Polled.{HasPostedFor}
-use Rattle.store_steps.specs.Stages.{TellsDone}
+use Rattle.store_steps.specs.Stages.{IsOnItsWay, TellsDone}
 use Rattle.host_calls.specs.declared.attached.CallResult.{CallResult}
 use Rattle.host_calls.specs.declared.attached.CallResult.TheVariants.{Busy, Again, Answered, Refused, NotOpen, IsOut, NoWord, Allowed}
 
@@ -31,10 +32,10 @@ abbrev pub IsSeen : {A : Type 0} → (A → CatalogueView → StoreState → Typ
     → Type 0
 IsSeen P point old new answer = IsFresh old new (point answer) × SightTells (P answer) new.progress old.progress.completed (point answer)
 
--- the request is out: it is posted, once, and not answered; or it is answered, with its place in the history that the session knows now and
--- the reply there; or that history has its last record, and none of the request
+-- of a session that waits for this request: it waits still, and its note has changed in nothing but its batch; or it has the answer, with its place
+-- in the history that the session knows now and the reply there; or that history has its last record, and none of the request
 abbrev pub TellsOut : (old new : SessionView) → Pending → CallResult → Type 0
-TellsOut old new o Again = (new.note.pending ≡ Some o) × (new.note.answered ≡ old.note.answered)
+TellsOut old new o Again = IsOnItsWay old new
 TellsOut old new o (Answered point reply) = TellsDone old new o (Placed point reply)
 TellsOut old new o (Refused why) = (why ≡ TheEnd) × TellsDone old new o Ended
 TellsOut old new o Busy = ⊥
@@ -43,9 +44,13 @@ TellsOut old new o IsOut = ⊥
 TellsOut old new o NoWord = ⊥
 TellsOut old new o Allowed = ⊥
 
+-- the session, once it has posted this request
+abbrev pub posted_as : SessionView → Pending → SessionView
+posted_as s o = record s { note = posted_with s.note o }
+
 -- a request of this operation is posted now, when the history is no shorter than the session knew
 abbrev pub TellsNew : Operation → (old new : SessionView) → CallResult → Type 0
-TellsNew op old new told = (o : Pending) × (o.op ≡ op) × (length old.progress.history ≤ o.seen) × TellsOut old new o told
+TellsNew op old new told = (o : Pending) × (o.op ≡ op) × (length old.progress.history ≤ o.seen) × TellsOut (posted_as old o) new o told
 
 -- none is out, and none is refused: nothing has changed, or one is posted
 abbrev pub TellsPosting : Operation → (old new : SessionView) → CallResult → Type 0

@@ -184,4 +184,4 @@ module _ (old new : S) (caller : Caller) (i : IsIdle old caller) (m : K) (is : I
 -- ---- several deeds
 
 pub way_then : (old mid new : SessionView) → IsOnItsWay old mid → IsOnItsWay mid new → IsOnItsWay old new
-way_then old mid new a b = (b.0 ∙ a.0, b.1 ∙ a.1)
+way_then old mid new a b = b ∙ a

@@ -11,7 +11,9 @@ use Rattle.replica.specs.Refusals.{early_refusal}
 use Rattle.replica.specs.declared.refusals.StoreRefused.{StoreRefused}
 use Rattle.accounts.specs.declared.sessions.Pending.{Pending}
 use Rattle.accounts.specs.declared.sessions.SessionNote.{SessionNote}
-use Rattle.accounts.specs.Moves.{answered_with}
+use Rattle.accounts.specs.Moves.{answered_with, called_with, posted_with}
+use Rattle.accounts.specs.Told.{updated_with}
+use Rattle.accounts.proofs.Export.{whole_note}
 use Rattle.store_steps.specs.Standing.{SessionKnown, StoreSeat}
 use Rattle.store_steps.specs.declared.steps.Caller.{Caller}
 use Rattle.store_steps.specs.declared.deeds.Stage.TheVariants.{Asked, Claimed, Idle, Ready}
@@ -24,7 +26,7 @@ use Rattle.accounts.specs.LogSteps.{fresh_note}
 use Rattle.store_steps.specs.Shelving.{sessions_of}
 use Rattle.store.specs.Sessions.{TellsUpdate, known_of, said}
 use Rattle.store.specs.declared.answers.Answer.{Answer}
-use Rattle.store_laws.specs.CallsMade.{GoneOn, PollsBy, noted_with}
+use Rattle.store_laws.specs.CallsMade.{GoneOn, PollsBy}
 use Rattle.store_laws.proofs.Export.{calls_are_explained}
 use Rattle.store.proofs.Gone.{deeds_go, gone_did, gone_then, update_goes, visits_go}
 
@@ -49,7 +51,8 @@ reads_are_told store old new program argument a of rests bytes free goes tells =
   gone_did goes.0.did,
 )
 
-noted_so : (old new : SessionView) (op : Operation) (reply : Reply) → TellsUpdate old new op (said reply) → new.note ≡ noted_with old.note op reply
+noted_so : (old new : SessionView) (op : Operation) (reply : Reply) → TellsUpdate old new op (said reply)
+    → new.note ≡ updated_with old.note op reply
 noted_so old new op (Placed i reply) tells = tells.1
 noted_so old new op Ended tells = tells.2
 
@@ -77,7 +80,8 @@ pipelines_are_told old new op result rests goes tells =
         record {
           idle = (ap (λ (n : SessionNote). n.pending) l.note ∙ rests.0, ap (λ (n : SessionNote). n.batch) l.note ∙ rests.1);
           goes = inl u.2;
-          answered = noted_so old new op u.0 (subst (TellsUpdate old new op) u.1 tells) ∙ ap (λ n. noted_with n op u.0) (sym l.note);
+          answered = noted_so old new op u.0 (subst (TellsUpdate old new op) u.1 tells)
+              ∙ ap (λ n. updated_with n op u.0) (sym l.note);
         },
         update_goes _ _ op u.0 u.2,
       ),
@@ -93,8 +97,7 @@ deeds_on k m after first (Then j i n deeds deed) = Then k i after (deeds_on k m 
 pub record UnderWay (old : SessionView) (op : Operation) (s : SessionView) : Type 0 where
   pub request : Pending
   pub op_is : request.op ≡ op
-  pub waits : s.note.pending ≡ Some request
-  pub answered : s.note.answered ≡ old.note.answered
+  pub note : record s.note { batch = [] } ≡ record (posted_with old.note request) { batch = [] }
   pub asked : SessionKnown
   pub posts : PostsBy (known_of old) asked op
   pub deeds : Deeds asked (known_of s)
@@ -103,8 +106,7 @@ under_way : (old : SessionView) (op : Operation) (s : SessionView) → IsUnderWa
 under_way old op s (Posts new posted goes) = record {
   request = posted.0;
   op_is = posted.1;
-  waits = ap (λ (n : SessionNote). n.pending) posted.3;
-  answered = ap (λ (n : SessionNote). n.answered) posted.3;
+  note = ap (λ (n : SessionNote). record n { batch = [] }) posted.3;
   asked = known_of s;
   posts = goes;
   deeds = NoDeed (known_of s);
@@ -112,8 +114,7 @@ under_way old op s (Posts new posted goes) = record {
 under_way old op s (Asks new asked goes) = record {
   request = asked.0;
   op_is = asked.1;
-  waits = ap (λ (n : SessionNote). n.pending) asked.3;
-  answered = ap (λ (n : SessionNote). n.answered) asked.3;
+  note = asked.3;
   asked = goes.0;
   posts = goes.1;
   deeds = goes.2;
@@ -123,8 +124,7 @@ under_way old op s (GoesOn m new o under tells goes) =
     record {
       request = u.request;
       op_is = u.op_is;
-      waits = tells.0 ∙ u.waits;
-      answered = tells.1 ∙ u.answered;
+      note = tells ∙ u.note;
       asked = u.asked;
       posts = u.posts;
       deeds = deeds_on u.asked (known_of m) (known_of s) u.deeds goes;
@@ -143,10 +143,15 @@ request_or d (Some o) = o
 request_or d None = d
 
 -- the note of a session that has its answer
-polled_note : (n0 n : SessionNote) (op : Operation) (reply : Reply) → (n0.pending ≡ None) × (n0.batch ≡ []) → n.answered ≡ n0.answered
-    → answered_with (record n { batch = [] }) op reply ≡ noted_with n0 op reply
-polled_note n0 n op (Placed i reply) rests same = ap (λ z. record { answered = z ++ record { index = i; op = op; reply = reply } ∷ []; pending = None; batch = [] }) same
-polled_note n0 n op Ended rests same = λ i. record { answered = same i; pending = sym rests.0 i; batch = sym rests.1 i }
+polled_note : (n0 n : SessionNote) (o : Pending) (op : Operation) (reply : Reply)
+    → record n { batch = [] } ≡ record (posted_with n0 o) { batch = [] } → o.op ≡ op
+    → answered_with (record n { batch = [] }) op reply ≡ updated_with n0 op reply
+polled_note n0 n o op reply same is = ap (λ z. answered_with z op reply) same ∙ (called reply ∙ whole_note n0 op reply)
+  where
+    called : (reply : Reply)
+        → answered_with (record (posted_with n0 o) { batch = [] }) op reply ≡ answered_with (record (called_with n0 op) { batch = [] }) op reply
+    called (Placed i x) = ap (λ z. answered_with (record (called_with n0 z) { batch = [] }) op (Placed i x)) is
+    called Ended = ap (λ z. answered_with (record (called_with n0 z) { batch = [] }) op Ended) is
 
 pub polled_updates_are_told : PolledUpdatesAreTold
 polled_updates_are_told old asked new op o result rests under waits goes tells = (
@@ -177,14 +182,16 @@ polled_updates_are_told old asked new op o result rests under waits goes tells =
     one = sym (reply_back tells.0) ∙ (ap reply_in (sym tells.1 ∙ goes.1) ∙ reply_back reply)
 
     op_is : o.op ≡ op
-    op_is = ap (λ z. (request_or o z).op) (sym waits ∙ u.waits) ∙ u.op_is
+    op_is = ap (λ z. (request_or o z).op) (sym waits ∙ ap (λ (n : SessionNote). n.pending) u.note) ∙ u.op_is
 
-    note : new.note ≡ noted_with old.note op reply
+    note : new.note ≡ updated_with old.note op reply
     note =
-        tells.2.1 ∙ (ap (λ (z : Operation × Reply). answered_with (record asked.note { batch = [] }) z.0 z.1) (λ i. (op_is i, one i))
-        ∙ polled_note old.note asked.note op reply rests u.answered)
+        tells.2.1
+        ∙ (ap (λ (z : Operation × Reply). answered_with (record asked.note { batch = [] }) z.0 z.1) (λ i. (op_is i, one i))
+        ∙ polled_note old.note asked.note u.request op reply u.note u.op_is)
 
-not_out : (seat : StoreSeat) (caller : Caller) (k : SessionKnown) (o : Pending) → IsAsking seat caller k o → (session_view seat).note.pending ≡ None → Rests (session_view seat)
+not_out : (seat : StoreSeat) (caller : Caller) (k : SessionKnown) (o : Pending) → IsAsking seat caller k o
+    → (session_view seat).note.pending ≡ None → Rests (session_view seat)
 not_out seat caller k o a none = absurd (none-some o (sym none ∙ (ap (λ ks. (first_in ks).note.pending) a.is ∙ a.pending)))
 
 pub polled_rest : PolledRest

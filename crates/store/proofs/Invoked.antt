@@ -11,9 +11,9 @@ use Rattle.replica.specs.StoreMeaning.{store_meaning}
 use Rattle.accounts.specs.declared.sessions.Progress.{Progress}
 use Rattle.accounts.specs.declared.sessions.SessionNote.{SessionNote}
 use Rattle.accounts.specs.Accounts.{Extends, IsWellFormed}
-use Rattle.accounts.specs.Moves.{answered_with}
+use Rattle.accounts.specs.Moves.{answered_with, called_with, posted_with}
 use Rattle.accounts.specs.Told.{Tells}
-use Rattle.accounts.proofs.Export.{grown_long}
+use Rattle.accounts.proofs.Export.{grown_long, whole_note}
 use Rattle.store_steps.specs.declared.steps.Caller.{Caller}
 use Rattle.store_steps.specs.declared.values.Value.{Value}
 use Rattle.store_steps.specs.AtOnce.{IsAlone}
@@ -32,7 +32,9 @@ abbrev S : Type 0
 S = SeatView (Progress CatalogueView) SessionNote Value
 
 -- what a session may ask, whose history has a limit
-pub has_asked : (k a : K) (op : Operation) (config : Sizes) (p : HasPosted k a op) → k.progress.config ≡ config → AreSizes config → k.note.batch ≡ [] → length k.note.answered ≤ length k.progress.history → IsWellFormed store_meaning k.progress → HasAsked a p.request
+pub has_asked : (k a : K) (op : Operation) (config : Sizes) (p : HasPosted k a op) → k.progress.config ≡ config
+    → AreSizes config → k.note.batch ≡ [] → length k.note.answered ≤ length k.progress.history
+    → IsWellFormed store_meaning k.progress → HasAsked a p.request
 has_asked k a op config p same limits alone within well = record {
   pending = ap (λ (n : SessionNote). n.pending) p.note;
   alone = ap (λ (n : SessionNote). n.batch) p.note ∙ alone;
@@ -40,7 +42,9 @@ has_asked k a op config p same limits alone within well = record {
 }
 
 -- who waits for nothing may ask
-pub may_ask : (k : K) (config : Sizes) → k.progress.config ≡ config → AreSizes config → k.note.pending ≡ None → k.note.batch ≡ [] → length k.note.answered ≤ length k.progress.history → IsWellFormed store_meaning k.progress → IsAlone k
+pub may_ask : (k : K) (config : Sizes) → k.progress.config ≡ config → AreSizes config → k.note.pending ≡ None
+    → k.note.batch ≡ [] → length k.note.answered ≤ length k.progress.history → IsWellFormed store_meaning k.progress
+    → IsAlone k
 may_ask k config same limits free alone within well = record {
   pending = free;
   alone = alone;
@@ -53,10 +57,11 @@ pub record Invoked (k f : K) (op : Operation) (reply : Reply) : Type 0 where
   pub held : f.held ≡ []
   pub extends : Extends k.progress f.progress
   pub stands : Stands f
-  pub note : f.note ≡ answered_with k.note op reply
+  pub note : f.note ≡ answered_with (called_with k.note op) op reply
   pub tells : Tells store_meaning f.progress k.session (length k.note.answered) (request_of k.progress op) reply
 
-pub invoked : (k a f : K) (op : Operation) (reply : Reply) (p : HasPosted k a op) → HasCompleted a f p.request reply → Invoked k f op reply
+pub invoked : (k a f : K) (op : Operation) (reply : Reply) (p : HasPosted k a op) → HasCompleted a f p.request reply
+    → Invoked k f op reply
 invoked k a f op reply p c = record {
   session = c.back.session ∙ p.back.session;
   held = c.back.held;
@@ -66,11 +71,13 @@ invoked k a f op reply p c = record {
   tells = told reply (subst (λ (z : ℕ × SessionNote). Tells store_meaning f.progress z.0 (length z.1.answered) p.request reply) (λ i. (p.back.session i, p.note i)) c.tells);
 }
   where
-    noted : (reply : Reply) → answered_with (record k.note { pending = Some p.request }) op reply ≡ answered_with k.note op reply
-    noted (Placed i x) = refl
-    noted Ended = refl
+    noted : (reply : Reply)
+        → answered_with (posted_with k.note p.request) op reply ≡ answered_with (called_with k.note op) op reply
+    noted (Placed i x) = ap (λ z. answered_with (called_with k.note z) op (Placed i x)) p.op_is
+    noted Ended = ap (λ z. answered_with (called_with k.note z) op Ended) p.op_is
 
-    told : (reply : Reply) → Tells store_meaning f.progress k.session (length k.note.answered) p.request reply → Tells store_meaning f.progress k.session (length k.note.answered) (request_of k.progress op) reply
+    told : (reply : Reply) → Tells store_meaning f.progress k.session (length k.note.answered) p.request reply
+        → Tells store_meaning f.progress k.session (length k.note.answered) (request_of k.progress op) reply
     told (Placed i x) t =
         let far = p.seen in let low = t.0 in
         subst (λ (z : Operation). Tells store_meaning f.progress k.session (length k.note.answered) (request_of k.progress z) (Placed i x)) p.op_is (omega (arith, far, low), t.1)
@@ -79,33 +86,38 @@ invoked k a f op reply p c = record {
 -- ---- the session, once it has its answer
 
 module _ (k f : K) (op : Operation) (reply : Reply) (v : Invoked k f op reply) where
-  pub is_idle : (old new : S) (caller : Caller) → (i : IsIdle old caller) → i.known ≡ k → IsSession new f → IsIdle new caller
+  pub is_idle : (old new : S) (caller : Caller) → (i : IsIdle old caller) → i.known ≡ k → IsSession new f
+      → IsIdle new caller
   is_idle old new caller i same is = record {
     known = f;
     is = is;
     free = free_by caller k f v.session v.held v.extends (subst (λ z. IsFree caller z) same i.free);
     pending = ap (λ (n : SessionNote). n.pending) v.note ∙ none_pending reply;
-    batch = ap (λ (n : SessionNote). n.batch) v.note ∙ (same_batch reply ∙ (ap (λ (z : K). z.note.batch) (sym same) ∙ i.batch));
+    batch = ap (λ (n : SessionNote). n.batch) v.note
+        ∙ (same_batch reply ∙ (ap (λ (z : K). z.note.batch) (sym same) ∙ i.batch));
     well_formed = well_formed f.progress v.stands.notes v.stands.accounts;
     within = ap_length (fits reply v.tells);
   }
     where
-      none_pending : (reply : Reply) → (answered_with k.note op reply).pending ≡ None
+      none_pending : (reply : Reply) → (answered_with (called_with k.note op) op reply).pending ≡ None
       none_pending (Placed i x) = refl
       none_pending Ended = refl
 
-      same_batch : (reply : Reply) → (answered_with k.note op reply).batch ≡ k.note.batch
+      same_batch : (reply : Reply) → (answered_with (called_with k.note op) op reply).batch ≡ k.note.batch
       same_batch (Placed i x) = refl
       same_batch Ended = refl
 
       low : length k.note.answered ≤ length k.progress.history
       low = subst (λ (z : K). length z.note.answered ≤ length z.progress.history) same i.within
 
-      fits : (reply : Reply) → Tells store_meaning f.progress k.session (length k.note.answered) (request_of k.progress op) reply → length (answered_with k.note op reply).answered ≤ length f.progress.history
+      fits : (reply : Reply)
+          → Tells store_meaning f.progress k.session (length k.note.answered) (request_of k.progress op) reply
+          → length (answered_with (called_with k.note op) op reply).answered ≤ length f.progress.history
       fits (Placed i x) t = let more = length-append k.note.answered (record { index = i; op = op; reply = x } ∷ []) in let far = t.0 in let lt = t.1.0 in let top = v.stands.accounts.completed in let small = low in omega (arith, more, far, lt, top, small)
       fits Ended t = let long = grown_long store_meaning k.progress f.progress v.extends in let small = low in omega (arith, long, small)
 
-      ap_length : length (answered_with k.note op reply).answered ≤ length f.progress.history → length f.note.answered ≤ length f.progress.history
+      ap_length : length (answered_with (called_with k.note op) op reply).answered ≤ length f.progress.history
+          → length f.note.answered ≤ length f.progress.history
       ap_length h = subst (λ (n : SessionNote). length n.answered ≤ length f.progress.history) (sym v.note) h
 
 -- ---- as its user sees it
@@ -118,8 +130,10 @@ module _ (store : StoreView) (old new : SessionView) (id shelf : ShelfId) (k f :
   still_of : IsOf store old → shelf ≡ store.id → IsOf store new
   still_of own same = record {
     shelf = ap (λ (z : SessionView). z.shelf) now ∙ same;
-    config = ap (λ (z : SessionView). z.progress.config) now ∙ (sym v.extends.config ∙ (ap (λ (z : SessionView). z.progress.config) (sym was) ∙ own.config));
-    catalogue = ap (λ (z : SessionView). z.progress.catalogue) now ∙ (sym v.extends.catalogue ∙ (ap (λ (z : SessionView). z.progress.catalogue) (sym was) ∙ own.catalogue));
+    config = ap (λ (z : SessionView). z.progress.config) now
+        ∙ (sym v.extends.config ∙ (ap (λ (z : SessionView). z.progress.config) (sym was) ∙ own.config));
+    catalogue = ap (λ (z : SessionView). z.progress.catalogue) now
+        ∙ (sym v.extends.catalogue ∙ (ap (λ (z : SessionView). z.progress.catalogue) (sym was) ∙ own.catalogue));
   }
 
   same_session : new.session ≡ old.session
@@ -143,6 +157,13 @@ module _ (store : StoreView) (old new : SessionView) (id shelf : ShelfId) (k f :
   pub tells_update : k.note.pending ≡ None → k.note.batch ≡ [] → TellsUpdate old new op (said reply)
   tells_update free alone = both (λ a b. TellsUpdate a b op (said reply)) (by reply v.tells v.note)
     where
-      by : (reply : Reply) → Tells store_meaning f.progress k.session (length k.note.answered) (request_of k.progress op) reply → f.note ≡ answered_with k.note op reply → TellsUpdate (view_known id k) (view_known shelf f) op (said reply)
-      by (Placed i x) t note = (t, note ∙ λ j. record { answered = k.note.answered ++ record { index = i; op = op; reply = x } ∷ []; pending = None; batch = alone j })
-      by Ended t note = (refl, t, note ∙ λ j. record k.note { pending = sym free j })
+      with_batch : (reply : Reply)
+          → answered_with (called_with k.note op) op reply ≡ answered_with (record (called_with k.note op) { batch = [] }) op reply
+      with_batch reply = λ j. answered_with (record (called_with k.note op) { batch = alone j }) op reply
+
+      by : (reply : Reply)
+          → Tells store_meaning f.progress k.session (length k.note.answered) (request_of k.progress op) reply
+          → f.note ≡ answered_with (called_with k.note op) op reply
+          → TellsUpdate (view_known id k) (view_known shelf f) op (said reply)
+      by (Placed i x) t note = (t, note ∙ (with_batch (Placed i x) ∙ whole_note k.note op (Placed i x)))
+      by Ended t note = (refl, t, note ∙ (with_batch Ended ∙ whole_note k.note op Ended))

@@ -4,6 +4,7 @@ use Rattle.oplog.specs.Operations.{Operation}
 use Rattle.combiner.specs.declared.slots.Reply.{Reply}
 use Rattle.replica.specs.declared.refusals.StoreRefused.{StoreRefused}
 use Rattle.accounts.specs.declared.sessions.Pending.{Pending}
+use Rattle.accounts.specs.Moves.{posted_with}
 use Rattle.store.specs.declared.answers.Answer.{Answer}
 use Rattle.store.specs.Sessions.{said}
 use Rattle.store_steps.specs.Polling.{HasAskedFor}
@@ -12,7 +13,7 @@ use Rattle.store_steps.specs.Views.{SessionView}
 
 -- the session waits for the answer to this operation, which it posted when the history was no shorter than it had known
 abbrev pub HasPostedFor : (old new : SessionView) → Operation → Type 0
-HasPostedFor old new op = (o : Pending) × (o.op ≡ op) × (length old.progress.history ≤ o.seen) × (new.note ≡ record old.note { pending = Some o })
+HasPostedFor old new op = (o : Pending) × (o.op ≡ op) × (length old.progress.history ≤ o.seen) × (new.note ≡ posted_with old.note o)
 
 -- a post that isn't refused: where its desk is held the session is as it was, else the operation is posted, once
 abbrev pub TellsPost : {A : Type 0} → (old new : SessionView) → Operation → Result (Option A) StoreRefused → Type 0

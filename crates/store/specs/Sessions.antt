@@ -15,7 +15,7 @@ use Rattle.combiner.specs.declared.slots.Reply.{Reply}
 use Rattle.combiner.specs.declared.slots.Reply.TheVariants.{Placed, Ended as EndedAnswer}
 use Rattle.accounts.specs.Accounts.{Extends, IsWellFormed}
 use Rattle.accounts.specs.LogSteps.{first_progress, fresh_note}
-use Rattle.accounts.specs.Told.{Tells, note_with}
+use Rattle.accounts.specs.Told.{Tells, note_ended, note_with}
 use Rattle.store.specs.declared.answers.Answer.{Answer}
 use Rattle.store_laws.specs.CallsMade.{GoneOn}
 use Rattle.replica.specs.declared.refusals.StoreRefused.{StoreRefused}
@@ -86,10 +86,10 @@ abbrev pub TellsAnswered : (old new : SessionView) → Operation → Answer → 
 TellsAnswered old new op a =
     Tells store_meaning new.progress old.session (length old.note.answered) (request_of old.progress op) (Placed a.index a.reply) × (new.note ≡ note_with old.note a.index op a.reply)
 
--- an ended update: S4, the history has its last record, and none of this request, and the session counts nothing
+-- an ended update: S4, the history has its last record, and none of this request, and the session counts no update
 abbrev pub TellsEnded : (old new : SessionView) → Operation → StoreRefused → Type 0
 TellsEnded old new op refused =
-    (refused ≡ TheEnd) × Tells store_meaning new.progress old.session (length old.note.answered) (request_of old.progress op) EndedAnswer × (new.note ≡ old.note)
+    (refused ≡ TheEnd) × Tells store_meaning new.progress old.session (length old.note.answered) (request_of old.progress op) EndedAnswer × (new.note ≡ note_ended old.note op)
 
 -- the answer to an update that was not refused early: it is answered or it is ended
 abbrev pub TellsUpdate : (old new : SessionView) → Operation → Result Answer StoreRefused → Type 0

@@ -7,7 +7,7 @@ ghost use Rattle.loader.specs.CatalogueView.{MayOpenOn, OpensOn, opened_on, with
 ghost use Rattle.oplog.specs.Limits.{sizes_in, AreSizes, IsConfig};
 ghost use Rattle.store_steps.specs.Shelving.{sessions_of};
 ghost use Rattle.store.specs.Sessions.{fresh_sessions};
-ghost use Rattle.store.specs.Explained.{ClosesExplained};
+ghost use Rattle.store.specs.Explained.{ClosesExplained, ClosesLinear};
 ghost use Rattle.store.specs.Opening.{AreOf, AreIdle, IsClosed, known_back};
 
 use crate::closed::Closed;
@@ -308,6 +308,7 @@ impl Store {
         ensures back { IfErr result (λ t. (t.0 ≡ self) × (t.1.items ≡ sessions.items)) }
         ensures closed { IfOk result (λ c. IsClosed self sessions.items c) }
         ensures explained { IfOk result (λ c. ClosesExplained self sessions.items c) }
+        ensures linear { IfOk result (λ c. ClosesLinear self sessions.items c) }
     {
         if sessions.len() != session_count(&self.setup.config) {
             return Err((self, sessions));

@@ -21,7 +21,7 @@ use Rattle.accounts.specs.declared.sessions.SessionNote.{SessionNote}
 use Rattle.accounts.specs.Values.{StoreValue, TheLog, TheReplica, TheDesk}
 use Rattle.accounts.specs.Accounts.{Accounts}
 use Rattle.accounts.specs.Agreement.{AgreesWith}
-use Rattle.accounts.specs.Moves.{BatchAppended, DeskMove, Moves, Posts, Claims, Replies, Collects, answered_with, raised, record_of, with_records}
+use Rattle.accounts.specs.Moves.{BatchAppended, DeskMove, Moves, Posts, Claims, Replies, Collects, answered_with, posted_with, raised, record_of, with_records}
 use Rattle.accounts.specs.Told.{ReadTells, Tells}
 use Rattle.accounts.proofs.Export.{answered, no_next, at_of, get_of, one_place}
 use Rattle.schedule.specs.declared.parts.BegunRead.{BegunRead}
@@ -86,7 +86,7 @@ module _ (m : Opening) (s : Moment) (positions : Positions) (t : Trace) (stands 
   same_note : (n' : SessionNote) → n' ≡ n → Kept m positions (noting n') (t ++ events_of c n n')
   same_note n' is = batch_noted m s positions t stands c n here unread n' (ap (λ (z : SessionNote). z.answered) is) (ap (λ (z : SessionNote). z.pending) is)
 
-  posts : (n' : SessionNote) (o : Pending) → n.pending ≡ None → store_meaning.is_update s.progress.catalogue o.op ≡ true → n' ≡ record n { pending = Some o } → Kept m positions (noting n') (t ++ events_of c n n')
+  posts : (n' : SessionNote) (o : Pending) → n.pending ≡ None → store_meaning.is_update s.progress.catalogue o.op ≡ true → n' ≡ posted_with n o → Kept m positions (noting n') (t ++ events_of c n n')
   posts n' o idle may is =
       let old = subst (λ z. CallStands m s.progress.completed s.progress.history positions t c (length n.answered) z None) idle before in
       let none = no_next store_meaning s.progress s.notes c n w here idle in

@@ -38,3 +38,4 @@ pub mod CallsMade
 pub mod DeskNotes
 pub mod UpdateSteps
 pub mod UpdateEvents
+pub mod OwnEvents

@@ -15,7 +15,7 @@ use Rattle.replica.specs.Refusals.{early_refusal}
 use Rattle.replica.specs.StoreMeaning.{store_meaning}
 use Rattle.accounts.specs.declared.sessions.Progress.{Progress}
 use Rattle.accounts.specs.declared.sessions.SessionNote.{SessionNote}
-use Rattle.accounts.specs.Told.{ReadTells, note_with}
+use Rattle.accounts.specs.Told.{ReadTells, updated_with}
 use Rattle.oplog.specs.History.{History}
 use Rattle.schedule.specs.Explains.{Explains}
 use Rattle.schedule.specs.Trace.{Event, Call, Back, ReadBack, Updated, Trace, Positions, caller}
@@ -54,11 +54,6 @@ pub record WasRead (k after : SessionKnown) (call : ProgramCall) (answer : ReadA
   pub goes : ReadsBy k after (Runs_program call) answer
   pub answered : ReadTells store_meaning after.progress k.progress.completed (Runs_program call) answer.point answer.reply
 
--- the note once the session has this answer to an update of this operation: the answer is noted, or the history has ended
-abbrev pub noted_with : SessionNote → Operation → Reply → SessionNote
-noted_with n op (Placed i reply) = note_with n i op reply
-noted_with n op Ended = n
-
 -- it posted an operation, went on with it deed by deed, and collected this answer: calls that wait for nobody
 pub record PollsBy (k after : SessionKnown) (op : Operation) (reply : Reply) : Type 0 where
   pub asked : SessionKnown
@@ -72,7 +67,7 @@ pub record PollsBy (k after : SessionKnown) (op : Operation) (reply : Reply) : T
 pub record WasUpdate (k after : SessionKnown) (op : Operation) (reply : Reply) : Type 0 where
   pub idle : (k.note.pending ≡ None) × (k.note.batch ≡ [])
   pub goes : UpdatesBy k after op reply ⊎ PollsBy k after op reply
-  pub answered : after.note ≡ noted_with k.note op reply
+  pub answered : after.note ≡ updated_with k.note op reply
 
 -- The calls of a session one after another, up to what it knows after the last. Each goes from what the session knew before it to what it
 -- knew after it. Write `Reads` for each read that got an answer: as one of the others, a read makes no event.

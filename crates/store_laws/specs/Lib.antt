@@ -20,3 +20,5 @@ pub mod Stands
 pub mod AtLock
 -- The calls of each session, and the history that explains those of all.
 pub mod CallsMade
+-- The events of each session, as its note has them.
+pub mod OwnEvents

@@ -3,6 +3,7 @@ ghost use Rattle.store_laws.specs.Threads.{AnswersAreTold, ThreadsAreExplained};
 ghost use Rattle.store_laws.specs.RunEvents.{AnswersAreInRun, BetweenIsExplained, CalledLater, EachStepStands, EventsGoOn, KnownEventsBegin, RunsAreExplained, UpdatesAreExplained};
 ghost use Rattle.store_laws.specs.ReadsSaid.{EachMaySay, LooksStand, ReadsMaySay, SilentMaySay};
 ghost use Rattle.store_laws.specs.CallsMade.{CallsAreExplained, CallsBetween, LooksMakeNoEvents, VisitsMakeNoEvents};
+ghost use Rattle.store_laws.specs.OwnEvents.{NotesTell};
 ghost use Rattle.store_laws.specs.Stands.{OpeningStands, StepsKeepIt};
 ghost use Rattle.store_laws.specs.AtLock.{AnswersAreSteps, LoadsAreSteps, PutsAreSteps, RaisesAreSteps};
 
@@ -19,10 +20,11 @@ pub fn threads_are_explained()
 {}
 
 /// A run of a store's lock, each step of which the rules allow, leads to a history that explains the calls and answers of all its sessions in the
-/// order of the steps: their updates, and the reads that the sessions may say they made. Each update that a session noted as answered is among them. This is so between any two atomic steps, and the events
-/// that a session knows begin the events of all. At each step the history so far explains the events so far, and an update that is called later
+/// order of the steps: their updates, and the reads that the sessions may say they made. Each update that a session noted as answered is among
+/// them. This is so between any two atomic steps, and the events that a session knows begin the events of all. At each step the history so far explains the events so far, and an update that is called later
 /// has a later index. By the contract of a look its session loads the completed tail at one step of the run and puts the replica back at a later
-/// one. By the contract of a read its session may say that it asked at the first of these and had its answer at the second.
+/// one. By the contract of a read its session may say that it asked at the first of these and had its answer at the second. The events of updates
+/// that a session makes are those that its note has.
 pub fn runs_are_explained()
     ensures runs { RunsAreExplained }
     ensures told { AnswersAreInRun }
@@ -36,6 +38,7 @@ pub fn runs_are_explained()
     ensures each { EachMaySay }
     ensures reads { ReadsMaySay }
     ensures silent { SilentMaySay }
+    ensures own { NotesTell }
 {}
 
 /// Take for each session the calls that it made, one after another, each as its contract has it: reads and updates with their answers, and

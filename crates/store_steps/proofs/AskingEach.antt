@@ -9,6 +9,7 @@ use Rattle.combiner.specs.declared.slots.Reply.{Reply}
 use Rattle.node.specs.Answering.{answered_batch}
 use Rattle.replica.specs.StoreMeaning.{store_meaning}
 use Rattle.replica.specs.Views.{RepliesView}
+use Rattle.accounts.specs.Moves.{posted_with}
 use Rattle.accounts.specs.declared.sessions.Pending.{Pending}
 use Rattle.accounts.specs.declared.sessions.SessionNote.{SessionNote}
 use Rattle.accounts.proofs.Export.{at_map, at_mapped, at_one, at_there, grown_long}
@@ -91,7 +92,7 @@ posted_then k m asked op l p = record {
   request = p.request;
   op_is = p.op_is;
   seen = let far = grown_long store_meaning k.progress m.progress l.extends in let seen = p.seen in omega (arith, far, seen);
-  note = p.note ∙ ap (λ (n : SessionNote). record n { pending = Some p.request }) l.note;
+  note = p.note ∙ ap (λ (n : SessionNote). posted_with n p.request) l.note;
 }
 
 -- ---- the whole call

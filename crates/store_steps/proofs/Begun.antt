@@ -8,7 +8,7 @@ use Rattle.replica.specs.Views.{RepliesView}
 use Rattle.accounts.specs.declared.sessions.Pending.{Pending}
 use Rattle.accounts.specs.declared.sessions.SessionNote.{SessionNote}
 use Rattle.accounts.specs.Accounts.{Extends}
-use Rattle.accounts.specs.Moves.{answered_with}
+use Rattle.accounts.specs.Moves.{answered_with, posted_with}
 use Rattle.accounts.specs.Told.{Tells}
 use Rattle.accounts.proofs.Export.{grown_long}
 use Rattle.store_steps.specs.declared.deeds.Deed.{Deed}
@@ -88,11 +88,11 @@ module _ (old new : S) (caller : Caller) (i : IsIdle old caller) (few : suc (len
   begun stage deed way h held deeds =
       let was = seen_as old i.known i.is in
       record {
-        asked = subst (λ (z : SessionView). (o : Pending) × (o.op ≡ op) × (length z.progress.history ≤ o.seen) × (record (session_view new).note { batch = [] } ≡ record z.note { pending = Some o; batch = [] })) (sym was) (
+        asked = subst (λ (z : SessionView). (o : Pending) × (o.op ≡ op) × (length z.progress.history ≤ o.seen) × (record (session_view new).note { batch = [] } ≡ record (posted_with z.note o) { batch = [] })) (sym was) (
           p.request,
           p.op_is,
           p.seen,
-          λ j. record { answered = (way.1 ∙ ap (λ (n : SessionNote). n.answered) p.note) j; pending = (way.0 ∙ ap (λ (n : SessionNote). n.pending) p.note) j; batch = [] },
+          way ∙ ap (λ (n : SessionNote). record n { batch = [] }) p.note,
         );
         goes = goes_seen (λ x y. BeginsBy x y op) old new (session_view old) i.known after i.is i.free.held refl is held (m, posts, deeds);
         session = h.session ∙ (p.back.session ∙ sym (ap (λ (z : SessionView). z.session) was));
@@ -123,13 +123,12 @@ module _ (old new : S) (caller : Caller) (k m : K) (o : Pending) (a : IsAsking o
         held = h.held;
         extends = h.extends;
         well = well_formed m.progress h.stands.notes h.stands.accounts;
-        pending = ap (λ (n : SessionNote). n.pending) h.note ∙ a.pending;
-        answered = ap (λ (n : SessionNote). n.answered) h.note;
+        way = ap (λ (n : SessionNote). record n { batch = [] }) h.note;
       })
 
   done_then : (deed : Deed) (r : Pending) → HasDone (view_known old.shelf m) (session_view new) r deed → HasDone (view_known old.shelf k) (session_view new) r deed
-  done_then Busy r d = (d.0 ∙ ap (λ (n : SessionNote). n.pending) h.note, d.1 ∙ ap (λ (n : SessionNote). n.answered) h.note)
-  done_then Went r d = (d.0 ∙ ap (λ (n : SessionNote). n.pending) h.note, d.1 ∙ ap (λ (n : SessionNote). n.answered) h.note)
+  done_then Busy r d = d ∙ ap (λ (n : SessionNote). record n { batch = [] }) h.note
+  done_then Went r d = d ∙ ap (λ (n : SessionNote). record n { batch = [] }) h.note
   done_then (Collected reply) r d = (
     subst (λ (z : ℕ × SessionNote). Tells store_meaning (session_view new).progress z.0 (length z.1.answered) r reply) (λ j. (h.session j, h.note j)) d.0,
     d.1 ∙ (λ j. answered_with (record (h.note j) { batch = [] }) r.op reply),

@@ -40,7 +40,8 @@ K = SessionKnown
 abbrev S : Type 0
 S = StoreSeat
 
-pub asks : (s : S) (caller : Caller) (k : K) (o : Pending) → IsAsking s caller k o → (session_view s).note.pending ≡ Some o
+pub asks : (s : S) (caller : Caller) (k : K) (o : Pending) → IsAsking s caller k o
+    → (session_view s).note.pending ≡ Some o
 asks s caller k o a = ap (λ (z : SessionView). z.note.pending) (seen_as s k a.is) ∙ a.pending
 
 pub on_known : (shared : Shared) (s : S) (k : K) → IsSession s k → Knows s (IsOn shared) → IsOn shared k
@@ -48,30 +49,34 @@ on_known shared s k is on = subst (λ z. IsOn shared z) (one_known s on.0 k on.1
 
 -- ---- it waits for the same answer, and knows more
 
-pub record Moved (k m : K) (o : Pending) : Type 0 where
+pub record Moved (k m : K) : Type 0 where
   pub session : m.session ≡ k.session
   pub held : m.held ≡ []
   pub extends : Extends k.progress m.progress
   pub well : IsWellFormed store_meaning m.progress
-  pub pending : m.note.pending ≡ Some o
-  pub answered : m.note.answered ≡ k.note.answered
+  pub way : record m.note { batch = [] } ≡ record k.note { batch = [] }
 
-pub asking_on : (old new : S) (caller : Caller) (k m : K) (o : Pending) → IsAsking old caller k o → IsSession new m → Moved k m o → IsAsking new caller m o
+pub asking_on : (old new : S) (caller : Caller) (k m : K) (o : Pending) → IsAsking old caller k o → IsSession new m
+    → Moved k m → IsAsking new caller m o
 asking_on old new caller k m o a is v = record {
   is = is;
   free = free_by caller k m v.session v.held v.extends a.free;
-  pending = v.pending;
-  few = subst (λ z. suc (length z) < 2 ^ 64) (sym v.answered) a.few;
+  pending = ap (λ (n : SessionNote). n.pending) v.way ∙ a.pending;
+  few = subst (λ z. suc (length z) < 2 ^ 64) (sym answered) a.few;
   well_formed = v.well;
-  within = let long = grown_long store_meaning k.progress m.progress v.extends in let low = a.within in subst (λ z. length z ≤ length m.progress.history) (sym v.answered) (omega (arith, long, low));
-  before = subst (λ z. length z ≤ o.seen) (sym v.answered) a.before;
+  within = let long = grown_long store_meaning k.progress m.progress v.extends in let low = a.within in subst (λ z. length z ≤ length m.progress.history) (sym answered) (omega (arith, long, low));
+  before = subst (λ z. length z ≤ o.seen) (sym answered) a.before;
 }
+  where
+    answered : m.note.answered ≡ k.note.answered
+    answered = ap (λ (n : SessionNote). n.answered) v.way
 
-pub asked_of : (s : S) (caller : Caller) (k : K) (o : Pending) → IsAsking s caller k o → k.note.batch ≡ [] → HasAsked k o
+pub asked_of : (s : S) (caller : Caller) (k : K) (o : Pending) → IsAsking s caller k o → k.note.batch ≡ []
+    → HasAsked k o
 asked_of s caller k o a alone = record { pending = a.pending; alone = alone; few = a.few }
 
-moved_back : (k m : K) (o : Pending) → IsBack k m → m.note.pending ≡ Some o → m.note.answered ≡ k.note.answered → Moved k m o
-moved_back k m o b pending answered = record { session = b.session; held = b.held; extends = b.extends; well = well_formed m.progress b.stands.notes b.stands.accounts; pending = pending; answered = answered }
+moved_back : (k m : K) → IsBack k m → record m.note { batch = [] } ≡ record k.note { batch = [] } → Moved k m
+moved_back k m b way = record { session = b.session; held = b.held; extends = b.extends; well = well_formed m.progress b.stands.notes b.stands.accounts; way = way }
 
 -- ---- what a deed leaves
 
@@ -79,7 +84,9 @@ module _ (Goes : K → K → Deed → Type 0) (old new : S) (caller : Caller) (b
   abbrev Leaves : Stage → Deed → Type 0
   Leaves stage deed = HasGone Goes old new caller b kept stage deed
 
-  gone : (m : K) (stage : Stage) (deed : Deed) → IsSession new m → m.session ≡ k.session → m.held ≡ [] → Extends k.progress m.progress → IsWellFormed store_meaning m.progress → HasDone (view_known old.shelf k) (view_known new.shelf m) o deed → IsPolled new caller b kept stage
+  gone : (m : K) (stage : Stage) (deed : Deed) → IsSession new m → m.session ≡ k.session → m.held ≡ []
+      → Extends k.progress m.progress → IsWellFormed store_meaning m.progress
+      → HasDone (view_known old.shelf k) (view_known new.shelf m) o deed → IsPolled new caller b kept stage
       → Goes k m deed → Leaves stage deed
   gone m stage deed is session held extends well done polled goes = record {
     request = o;
@@ -93,40 +100,43 @@ module _ (Goes : K → K → Deed → Type 0) (old new : S) (caller : Caller) (b
   }
 
   -- the session waits on
-  on_way : (m : K) (stage : Stage) (deed : Deed) → (IsOnItsWay (view_known old.shelf k) (view_known new.shelf m) → HasDone (view_known old.shelf k) (view_known new.shelf m) o deed) → IsSession new m → Moved k m o → IsPolled new caller b kept stage → Goes k m deed → Leaves stage deed
-  on_way m stage deed told is v polled goes = gone m stage deed is v.session v.held v.extends v.well (told (v.pending ∙ sym a.pending, v.answered)) polled goes
+  on_way : (m : K) (stage : Stage) (deed : Deed)
+      → (IsOnItsWay (view_known old.shelf k) (view_known new.shelf m) → HasDone (view_known old.shelf k) (view_known new.shelf m) o deed) → IsSession new m → Moved k m → IsPolled new caller b kept stage → Goes k m deed → Leaves stage deed
+  on_way m stage deed told is v polled goes = gone m stage deed is v.session v.held v.extends v.well (told v.way) polled goes
 
   -- the seat is as it was
   pub stays_gone : new ≡ old → (stage : Stage) → IsPolled old caller b kept stage → Goes k k Busy → Leaves stage Busy
-  stays_gone e stage v goes = gone k stage Busy (ap (λ (z : S). z.sessions) e ∙ a.is) refl a.free.held (store_laws.extends_self k.progress) a.well_formed (refl, refl) (subst (λ z. IsPolled z caller b kept stage) (sym e) v) goes
+  stays_gone e stage v goes = gone k stage Busy (ap (λ (z : S). z.sessions) e ∙ a.is) refl a.free.held (store_laws.extends_self k.progress) a.well_formed refl (subst (λ z. IsPolled z caller b kept stage) (sym e) v) goes
 
-  pub waits_gone : (m : K) → IsSession new m → k.note.batch ≡ [] → HasTurned k m o b Waits → Goes k m Busy → Leaves Asked Busy
+  pub waits_gone : (m : K) → IsSession new m → k.note.batch ≡ [] → HasTurned k m o b Waits → Goes k m Busy
+      → Leaves Asked Busy
   waits_gone m is alone h goes =
-      let v = moved_back k m o h.back (ap (λ (n : SessionNote). n.pending) h.turns ∙ a.pending) (ap (λ (n : SessionNote). n.answered) h.turns) in
+      let v = moved_back k m h.back (ap (λ (n : SessionNote). record n { batch = [] }) h.turns) in
       on_way m Asked Busy (λ w. w) is v (m, o, asking_on old new caller k m o a is v, ap (λ (n : SessionNote). n.batch) h.turns ∙ alone) goes
 
   pub claims_gone : (m : K) → IsSession new m → HasTurned k m o b Combines → Goes k m Went → Leaves Claimed Went
   claims_gone m is h goes =
-      let v = moved_back k m o h.back (ap (λ (n : SessionNote). n.pending) h.turns.0 ∙ a.pending) (ap (λ (n : SessionNote). n.answered) h.turns.0) in
+      let v = moved_back k m h.back (ap (λ (n : SessionNote). record n { batch = [] }) h.turns.0) in
       on_way m Claimed Went (λ w. w) is v (m, o, asking_on old new caller k m o a is v, has_claimed k m o b h) goes
 
   pub held_gone : (m : K) → IsSession new m → HasClaimed k b → IsStill k m → Goes k m Busy → Leaves Claimed Busy
   held_gone m is claimed s goes =
-      let v : Moved k m o = record { session = s.session; held = s.held; extends = s.extends; well = s.well_formed a.well_formed; pending = ap (λ (n : SessionNote). n.pending) s.note ∙ a.pending; answered = ap (λ (n : SessionNote). n.answered) s.note } in
+      let v : Moved k m = record { session = s.session; held = s.held; extends = s.extends; well = s.well_formed a.well_formed; way = ap (λ (n : SessionNote). record n { batch = [] }) s.note } in
       on_way m Claimed Busy (λ w. w) is v (m, o, asking_on old new caller k m o a is v, claimed_still k m b s claimed) goes
 
   pub ran_gone : (m : K) → IsSession new m → HasAnswered k m b kept → Goes k m Went → Leaves Ready Went
   ran_gone m is h goes =
-      let v : Moved k m o = record { session = h.session; held = h.held; extends = h.extends; well = well_formed m.progress h.stands.notes h.stands.accounts; pending = ap (λ (n : SessionNote). n.pending) h.note ∙ a.pending; answered = ap (λ (n : SessionNote). n.answered) h.note } in
+      let v : Moved k m = record { session = h.session; held = h.held; extends = h.extends; well = well_formed m.progress h.stands.notes h.stands.accounts; way = ap (λ (n : SessionNote). record n { batch = [] }) h.note } in
       on_way m Ready Went (λ w. w) is v (m, o, asking_on old new caller k m o a is v, h.ready, h.stands) goes
 
   pub gave_gone : (m : K) → IsSession new m → HasCombined k m → Goes k m Went → Leaves Asked Went
   gave_gone m is h goes =
-      let v : Moved k m o = record { session = h.session; held = h.held; extends = h.extends; well = well_formed m.progress h.stands.notes h.stands.accounts; pending = ap (λ (n : SessionNote). n.pending) h.note ∙ a.pending; answered = ap (λ (n : SessionNote). n.answered) h.note } in
+      let v : Moved k m = record { session = h.session; held = h.held; extends = h.extends; well = well_formed m.progress h.stands.notes h.stands.accounts; way = ap (λ (n : SessionNote). record n { batch = [] }) h.note } in
       on_way m Asked Went (λ w. w) is v (m, o, asking_on old new caller k m o a is v, ap (λ (n : SessionNote). n.batch) h.note) goes
 
   -- the session has its answer
-  pub collects_gone : (m : K) (reply : Reply) → IsSession new m → k.note.batch ≡ [] → HasTurned k m o b (Collects reply) → Goes k m (Collected reply) → Leaves Idle (Collected reply)
+  pub collects_gone : (m : K) (reply : Reply) → IsSession new m → k.note.batch ≡ []
+      → HasTurned k m o b (Collects reply) → Goes k m (Collected reply) → Leaves Idle (Collected reply)
   collects_gone m reply is alone h goes =
       let well = well_formed m.progress h.back.stands.notes h.back.stands.accounts in
       gone m Idle (Collected reply) is h.back.session h.back.held h.back.extends well (h.turns.1, h.turns.0 ∙ (λ i. answered_with (record k.note { batch = alone i }) o.op reply))
@@ -149,6 +159,7 @@ module _ (Goes : K → K → Deed → Type 0) (old new : S) (caller : Caller) (b
       same_batch (Placed i x) = alone
       same_batch Ended = alone
 
-      fits : (reply : Reply) → Tells store_meaning m.progress k.session (length k.note.answered) o reply → length (answered_with k.note o.op reply).answered ≤ length m.progress.history
+      fits : (reply : Reply) → Tells store_meaning m.progress k.session (length k.note.answered) o reply
+          → length (answered_with k.note o.op reply).answered ≤ length m.progress.history
       fits (Placed i x) t = let more = length-append k.note.answered (record { index = i; op = o.op; reply = x } ∷ []) in let far = t.0 in let lt = t.1.0 in let top = h.back.stands.accounts.completed in let small = a.before in omega (arith, more, far, lt, top, small)
       fits Ended t = let long = grown_long store_meaning k.progress m.progress h.back.extends in let small = a.within in omega (arith, long, small)

@@ -9,7 +9,6 @@ use Rattle.replica.specs.StoreMeaning.{store_meaning}
 use Rattle.replica.specs.Views.{RepliesView}
 use Rattle.accounts.specs.declared.sessions.Pending.{Pending}
 use Rattle.accounts.specs.declared.sessions.SessionNote.{SessionNote}
-use Rattle.accounts.specs.declared.sessions.AnsweredUpdate.{AnsweredUpdate}
 use Rattle.accounts.specs.Accounts.{Extends}
 use Rattle.accounts.specs.Moves.{answered_with}
 use Rattle.accounts.specs.Told.{Tells}
@@ -56,17 +55,17 @@ S = StoreSeat
 -- ---- one session, after two calls
 
 done_after : (old mid new : SessionView) → IsOnItsWay old mid → mid.session ≡ old.session → (deed : Deed) (o : Pending) → HasDone mid new o deed → HasDone old new o deed
-done_after old mid new way same Busy o d = (d.0 ∙ way.0, d.1 ∙ way.1)
-done_after old mid new way same Went o d = (d.0 ∙ way.0, d.1 ∙ way.1)
+done_after old mid new way same Busy o d = d ∙ way
+done_after old mid new way same Went o d = d ∙ way
 done_after old mid new way same (Collected reply) o d = (
-  subst (λ (z : ℕ × List AnsweredUpdate). Tells store_meaning new.progress z.0 (length z.1) o reply) (λ j. (same j, way.1 j)) d.0,
-  d.1 ∙ (λ j. answered_with (record { answered = way.1 j; pending = way.0 j; batch = [] }) o.op reply),
+  subst (λ (z : ℕ × SessionNote). Tells store_meaning new.progress z.0 (length z.1.answered) o reply) (λ j. (same j, way j)) d.0,
+  d.1 ∙ (λ j. answered_with (way j) o.op reply),
 )
 
 gone_after : (old mid new : S) (caller : Caller) (b c : BatchView) (kept now : RepliesView) (stage next : Stage) (deed : Deed) → HasGone DeedsGo old mid caller b kept stage Busy → HasGone DeedsGo mid new caller c now next deed → HasGone DeedsGo old new caller c now next deed
 gone_after old mid new caller b c kept now stage next deed g h = record {
   request = h.request;
-  waited = sym g.done.0 ∙ h.waited;
+  waited = sym (ap (λ (n : SessionNote). n.pending) g.done) ∙ h.waited;
   session = h.session ∙ g.session;
   extends = store_laws.extends_on (session_view old).progress (session_view mid).progress (session_view new).progress g.extends h.extends;
   well_formed = h.well_formed;

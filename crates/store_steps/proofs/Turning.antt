@@ -22,7 +22,7 @@ use Rattle.accounts.specs.Values.{TheDesk}
 use Rattle.accounts.specs.Accounts.{Extends, IsAllowed}
 use Rattle.accounts.specs.Agreement.{StageAgrees}
 use Rattle.accounts.specs.DeskNotes.{ClaimedThere, CollectedThere, DeskDeed, Looked, PostedThere, desk_held, desk_in, desk_note, stage_at}
-use Rattle.accounts.specs.Moves.{answered_with, unplaced}
+use Rattle.accounts.specs.Moves.{answered_with, posted_with, unplaced}
 use Rattle.accounts.specs.Told.{Tells}
 use Rattle.accounts.proofs.Export.{claim_noted, collect_noted, desk_picks, post_noted, collected_is, none_claimed, grown_long, get_of, some_none, at_map}
 use Rattle.store_steps.specs.declared.desks.Turn.{Turn}
@@ -59,7 +59,7 @@ module _ (caller : Caller) (k t : K) (p : ℕ) (v : Value) (op : Operation) (b :
   request = request_of t.progress op
 
   abbrev waiting : SessionNote
-  waiting = record t.note { pending = Some request }
+  waiting = posted_with t.note request
 
   there : posted caller.slot op b.desk ≡ Some y
   there = ap (posted caller.slot op) (same_desk caller k t p v b x lent) ∙ h
@@ -71,7 +71,7 @@ module _ (caller : Caller) (k t : K) (p : ℕ) (v : Value) (op : Operation) (b :
   puts_posted = puts_desk caller k t p v b sessions is PostedThere (with_desk v y) y waiting (desk_put v x y lent) step (post_noted view_of t caller.slot op b.desk y t.note b.here.own there) p refl
 
   pub has_posted : (f : K) → BackDesk k f waiting → HasPosted k f op
-  has_posted f back = record { back = is_back k f waiting back; request = request; op_is = refl; seen = grown_long store_meaning k.progress t.progress b.extends; note = back.note ∙ ap (λ (n : SessionNote). record n { pending = Some request }) b.note }
+  has_posted f back = record { back = is_back k f waiting back; request = request; op_is = refl; seen = grown_long store_meaning k.progress t.progress b.extends; note = back.note ∙ ap (λ (n : SessionNote). posted_with n request) b.note }
 
 -- who waits for no answer may post there
 pub may_post : (caller : Caller) (k t : K) (p : ℕ) (v : Value) (op : Operation) (b : HasDesk caller k t p v) (x : DeskView) → desk_of v ≡ Some x → k.note.pending ≡ None → (c : CatalogueView) → k.progress.catalogue ≡ c → IsAllowed store_meaning c op

@@ -16,7 +16,7 @@ use Rattle.accounts.specs.Accounts.{Accounts}
 use Rattle.accounts.specs.Agreement.{DeskAgrees}
 use Rattle.accounts.specs.Batches.{Ascend}
 use Rattle.accounts.specs.DeskSteps.{DeskStep, Gives}
-use Rattle.accounts.specs.Moves.{answered_with, record_of, unplaced}
+use Rattle.accounts.specs.Moves.{answered_with, posted_with, record_of, unplaced}
 use Rattle.accounts.specs.Told.{Tells}
 use Rattle.store_steps.specs.declared.desks.Turn.{Turn}
 use Rattle.store_steps.specs.declared.desks.Turn.TheVariants.{Collects, Combines, Waits}
@@ -56,7 +56,7 @@ Steps k x n y = DeskStep store_meaning k.progress k.session k.note x n y
 
 -- the session does so when it posts the operation, and notes that it waits for the answer
 abbrev pub PostSteps : SessionKnown → Operation → DeskView → DeskView → Type 0
-PostSteps k op x y = Steps k x (record k.note { pending = Some (request_of k.progress op) }) y
+PostSteps k op x y = Steps k x (posted_with k.note (request_of k.progress op)) y
 
 -- what a session did that looked for its answer: it collected the one that waits; else it claimed all posted requests, where nobody
 -- combines, and the batch has them; else nothing, where nothing may be claimed

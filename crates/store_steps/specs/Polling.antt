@@ -6,6 +6,7 @@ use Rattle.replica.specs.StoreMeaning.{store_meaning}
 use Rattle.replica.specs.Views.{RepliesView}
 use Rattle.accounts.specs.declared.sessions.Pending.{Pending}
 use Rattle.accounts.specs.Accounts.{Extends, IsWellFormed}
+use Rattle.accounts.specs.Moves.{posted_with}
 use Rattle.store_steps.specs.declared.deeds.Deed.{Deed}
 use Rattle.store_steps.specs.declared.deeds.Deed.TheVariants.{Busy, Went, Collected}
 use Rattle.store_steps.specs.declared.deeds.Stage.{Stage}
@@ -21,7 +22,7 @@ use Rattle.store_steps.specs.Visits.{TakesNext}
 -- it waits for the answer to this operation, which it posted when the history was no shorter than it had known; it may have claimed a batch since
 abbrev pub HasAskedFor : (old new : SessionView) → Operation → Type 0
 HasAskedFor old new op =
-    (o : Pending) × (o.op ≡ op) × (length old.progress.history ≤ o.seen) × (record new.note { batch = [] } ≡ record old.note { pending = Some o; batch = [] })
+    (o : Pending) × (o.op ≡ op) × (length old.progress.history ≤ o.seen) × (record new.note { batch = [] } ≡ record (posted_with old.note o) { batch = [] })
 
 -- it posted this operation, and then did so many deeds
 abbrev pub BeginsBy : SessionKnown → SessionKnown → Operation → Type 0

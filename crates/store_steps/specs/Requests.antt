@@ -7,7 +7,7 @@ use Rattle.replica.specs.StoreMeaning.{store_meaning}
 use Rattle.accounts.specs.declared.sessions.Pending.{Pending}
 use Rattle.accounts.specs.Accounts.{Extends}
 use Rattle.accounts.specs.Batches.{Ascend}
-use Rattle.accounts.specs.Moves.{answered_with, unplaced}
+use Rattle.accounts.specs.Moves.{answered_with, posted_with, unplaced}
 use Rattle.accounts.specs.Told.{Tells}
 use Rattle.store_steps.specs.declared.desks.Turn.{Turn}
 use Rattle.store_steps.specs.declared.desks.Turn.TheVariants.{Collects, Combines, Waits}
@@ -28,7 +28,7 @@ pub record HasPosted (k after : SessionKnown) (op : Operation) : Type 0 where
   pub request : Pending
   pub op_is : request.op ≡ op
   pub seen : length k.progress.history ≤ request.seen
-  pub note : after.note ≡ record k.note { pending = Some request }
+  pub note : after.note ≡ posted_with k.note request
 
 -- what the session notes of its turn, and what it may say of an answer
 abbrev pub Turns : SessionKnown → SessionKnown → Pending → BatchView → Turn → Type 0

@@ -52,9 +52,9 @@ IsOut Ready = Unit {0}
 
 -- ---- what a deed tells
 
--- the session waits for the same answer still
+-- the session waits for the same answer still: its note has changed in nothing but its batch
 abbrev pub IsOnItsWay : (old new : SessionView) → Type 0
-IsOnItsWay old new = (new.note.pending ≡ old.note.pending) × (new.note.answered ≡ old.note.answered)
+IsOnItsWay old new = record new.note { batch = [] } ≡ record old.note { batch = [] }
 
 -- the session has its answer, has noted it, and waits for nothing
 abbrev pub TellsDone : (old new : SessionView) → Pending → Reply → Type 0

@@ -21,7 +21,7 @@ use Rattle.accounts.specs.declared.sessions.Progress.{Progress}
 use Rattle.accounts.specs.declared.sessions.AnsweredUpdate.{AnsweredUpdate}
 use Rattle.accounts.specs.declared.sessions.SessionNote.{SessionNote}
 use Rattle.accounts.specs.Accounts.{Extends, IsWellFormed}
-use Rattle.accounts.specs.Told.{Tells, ReadTells, note_with}
+use Rattle.accounts.specs.Told.{Tells, ReadTells, note_ended, note_with}
 use Rattle.accounts.proofs.Export.{at_below, at_front, at_joined, at_none, at_there, grown_long, read_on, reply_on}
 use Rattle.combiner.specs.declared.slots.Reply.TheVariants.{Placed, Ended}
 use Rattle.readpath.specs.declared.reading.ReadAnswer.{ReadAnswer}
@@ -208,7 +208,7 @@ module _ (old new : SessionView) (t : AnsweredCall) (op : Operation) (asks : Ask
     noted = ap (λ (n : SessionNote). n.answered) note;
   }
 
-  pub ended : Tells store_meaning new.progress old.session (length old.note.answered) (request_of old.progress op) Ended × (new.note ≡ old.note) → IsAsked old new (record t { said = told.Ended })
+  pub ended : Tells store_meaning new.progress old.session (length old.note.answered) (request_of old.progress op) Ended × (new.note ≡ note_ended old.note op) → IsAsked old new (record t { said = told.Ended })
   ended h = record {
     session = same;
     grown = grown;

@@ -1,6 +1,7 @@
-use Rattle.std.proofs.Common.{refl, subst, sym, ◌∙◌}
+use Rattle.std.proofs.Common.{refl, ap, subst, sym, ◌∙◌}
 use Rattle.replica.specs.StoreMeaning.{store_meaning}
 use Rattle.accounts.specs.Accounts.{IsWellFormed}
+use Rattle.accounts.specs.declared.sessions.SessionNote.{SessionNote}
 use Rattle.store_steps.specs.Stages.{HasDone, IsOnItsWay}
 use Rattle.store_steps.specs.Views.{SessionView}
 use Rattle.store.proofs.Between.{goes_still, goes_then, way_then, well_at}
@@ -16,18 +17,18 @@ loop-init c =
     record {
       session = goes_still c.args.store.now c.args.self.now c.args.self.now refl c.requires.own
           (subst (λ (z : SessionView). IsWellFormed store_meaning z.progress) c.self.view_is (well_at s.seat s.caller s.batch s.replies s.stage c.self.invariant.0));
-      way = (refl, refl);
+      way = refl;
       deeds = Rests (known_of c.args.self.now);
     }
 
 pub deed-requires-clause-asked : goal.deed-requires-clause-asked
-deed-requires-clause-asked c = let o = c.requires.asked in (o.0, c.loop.invariant.way.0 ∙ o.1)
+deed-requires-clause-asked c = let o = c.requires.asked in (o.0, ap (λ (n : SessionNote). n.pending) c.loop.invariant.way ∙ o.1)
 
 pub loop-preserved : goal.loop-preserved
 loop-preserved c =
     let i = c.loop.invariant in
     let o = c.requires.asked in
-    let d = subst (λ z. HasDone c.loop.self c.deed.new.self o.0 z) c.in-Went.is (c.deed.ensures.done o.0 (i.way.0 ∙ o.1)) in
+    let d = subst (λ z. HasDone c.loop.self c.deed.new.self o.0 z) c.in-Went.is (c.deed.ensures.done o.0 (ap (λ (n : SessionNote). n.pending) i.way ∙ o.1)) in
     let e = sym c.count_batch.ensures.same in
     record {
       session = subst (SessionGoesOn c.args.store.now c.args.self.now) e (goes_then c.args.store.now c.args.self.now c.loop.self c.deed.new.self i.session c.deed.ensures.session);

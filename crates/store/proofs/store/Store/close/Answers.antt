@@ -4,7 +4,7 @@ use Rattle.store.specs.Opening.{AreLeft, AreOf, IsClosed, IsLogFor, closed_view,
 use Rattle.store.specs.Sessions.{StoreView}
 use Rattle.store_steps.specs.Shelving.{sessions_of, store_opening}
 use Rattle.store.proofs.Closing.{all_notes, are_left, is_closed, left_of, log_for, some_sessions}
-use Rattle.store.proofs.Explained.{closes_explained}
+use Rattle.store.proofs.Explained.{closes_explained, closes_linear}
 use Rattle.store.proofs.Joined.{back_holds_none, back_long}
 use Rattle.store.proofs.store.Store.close.Goals as goal
 
@@ -52,3 +52,7 @@ returns-clause-closed c =
 pub returns-clause-explained : goal.returns-clause-explained
 unfolding returns-clause-closed
 returns-clause-explained c = closes_explained _ _ c.new.result (returns-clause-closed c)
+
+pub returns-clause-linear : goal.returns-clause-linear
+unfolding returns-clause-closed
+returns-clause-linear c = closes_linear _ _ c.new.result (returns-clause-closed c)
