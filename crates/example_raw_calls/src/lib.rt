@@ -1,5 +1,5 @@
 //! The program of `example_calls` once more, by the calls that C has: what two sessions of a store were answered, by the clauses of these calls
-//! alone. What it calls of `host_calls`, a raw call of the library for C calls on what lies at its pointers.
+//! alone. Each call of `host_calls` is one of the library for C, which lends it what lies at a pointer.
 #![tactic(auto)]
 
 ghost use Rattle.std.specs.Prelude.{◌≡◌, ◌≢◌, ◌⊎◌, true, false, None, Some, IfSome};
@@ -83,6 +83,35 @@ fn update_twice<R: Wait>(
 
 /// Opens a store of one node with two slots, lets its first session run a program twice, and its second one once, and closes the store. Gives their
 /// answers and the last state, or nothing if there is no memory, or a call is refused.
+///
+/// # Examples
+///
+/// ```
+/// use example_raw_calls::answers_of_two;
+/// use host_calls::handles::{File, Opening};
+/// use maps::MapLimits;
+///
+/// let files = [File { name: "five.hex".as_bytes(), text: "b7000000050000009500000000000000".as_bytes() }]; // a program that replies 5
+/// let opening = Opening {
+///     manifest: "map array 8 16\nprogram five update 0 five.hex\n".as_bytes(),
+///     files: &files,
+///     nodes: 1,
+///     slots: 2,
+///     window: 16,
+///     limit: 100,
+///     spare: 0,
+///     long: 0,
+///     limits: MapLimits::standard(),
+/// };
+///
+/// let answers = answers_of_two(&rt, rt.alloc(), &opening, 0, &[]);
+/// let Opening { manifest: _m, files: _f, nodes: _n, slots: _s, window: _w, limit: _l, spare: _p, long: _b, limits: _k } = opening; // they have no `Drop`
+/// let [file] = files;
+/// let File { name: _name, text: _text } = file;
+/// let Some((heard, _state)) = answers else { unreachable!() };
+/// assert_eq!(rt; [heard.first.index, heard.second.index, heard.polled.index], [0, 1, 2]);
+/// assert_eq!(rt; [heard.first.reply, heard.second.reply, heard.polled.reply], [5, 5, 5]);
+/// ```
 pub fn answers_of_two<R: Wait>(
     rt: &R,
     alloc: Global,
