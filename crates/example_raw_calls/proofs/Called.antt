@@ -16,7 +16,6 @@ use Rattle.accounts.specs.declared.sessions.Pending.{Pending}
 use Rattle.accounts.specs.declared.sessions.SessionNote.{SessionNote}
 use Rattle.store_steps.specs.Stages.{IsOnItsWay, TellsDone}
 use Rattle.store_steps.specs.Views.{SessionView, op_of}
-use Rattle.store.specs.declared.answers.Answer.{Answer}
 use Rattle.host_calls.specs.declared.attached.CallResult.{CallResult}
 use Rattle.host_calls.specs.declared.attached.CallResult.TheVariants.{Busy, Again, Answered, Refused, NotOpen, IsOut, NoWord, Allowed}
 use Rattle.host_calls.specs.declared.handles.SessionHandle.{SessionHandle}

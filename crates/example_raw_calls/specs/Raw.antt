@@ -1,5 +1,5 @@
 -- What two sessions heard by the calls that C has.
-use Rattle.std.specs.Prelude.{◌≡◌, ℕ, None, Some}
+use Rattle.std.specs.Prelude.{◌≡◌, None, Some}
 use Rattle.loader.specs.CatalogueView.{CatalogueView}
 use Rattle.loader.specs.StoreState.{StoreState}
 use Rattle.oplog.specs.Operations.{Operation}

@@ -4,8 +4,7 @@
 
 ghost use Rattle.std.specs.Prelude.{◌≡◌, ◌≢◌, ◌⊎◌, true, false, None, Some, IfSome};
 ghost use Rattle.store_steps.specs.Views.{op_of};
-ghost use Rattle.example_calls.specs.Heard.{HasUpdated};
-ghost use Rattle.example_raw_calls.specs.Raw.{AreExplainedBy, Has, IsAtRest, IsLeftAtRest, WasUpdated, WasUpdatedTwice};
+ghost use Rattle.example_raw_calls.specs.Raw.{AreExplainedBy, IsAtRest, IsLeftAtRest, WasUpdated, WasUpdatedTwice};
 
 use example_calls::Heard;
 use host_calls::calls::call;

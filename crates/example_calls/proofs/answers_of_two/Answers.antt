@@ -1,6 +1,5 @@
-use Rattle.std.proofs.Common.{refl, ◌≡◌, ◌<◌, [], ◌∷◌, ◌++◌, ◌∙◌, sym, ap, subst, arith}
+use Rattle.std.proofs.Common.{refl, ◌≡◌, [], ◌∷◌, ◌++◌, ◌∙◌, sym, ap, subst}
 use Rattle.std.specs.Option.{option_to_list}
-use Rattle.store_steps.specs.Shelving.{sessions_of}
 use Rattle.store_steps.specs.Views.{SessionView, op_of}
 use Rattle.store_steps.specs.declared.values.Setup.{Setup}
 use Rattle.store.specs.Opening.{last_state}

@@ -1,4 +1,4 @@
-use Rattle.std.proofs.Common.{refl, ap, subst, sym, ◌∙◌}
+use Rattle.std.proofs.Common.{refl, ap, ◌∙◌}
 use Rattle.store_steps.proofs.Export.{store_laws}
 use Rattle.accounts.specs.declared.sessions.SessionNote.{SessionNote}
 use Rattle.store_steps.specs.Views.{known_of}
