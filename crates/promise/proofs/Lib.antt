@@ -4,3 +4,4 @@ pub mod Effects
 pub mod Explained
 -- A call that is due is taken, and calls are answered where the last steps settle.
 pub mod Due
+pub mod Export

@@ -1,4 +1,4 @@
--- Which calls a store takes, and when it has answered all: a store that takes no step is none.
+-- Which calls a store takes, and when it has answered all. A store that takes no call does not meet this.
 use Rattle.std.specs.Prelude.{◌≡◌, ℕ, ◌<◌, List, ◌++◌, take, Some, slice_get}
 use Rattle.verifier.specs.declared.refusal.Mode.TheVariants.{Update, Read}
 use Rattle.loader.specs.CatalogueView.{CatalogueView}

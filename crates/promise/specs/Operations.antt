@@ -28,7 +28,7 @@ pub data CallDoes (mode : Mode) (c : CatalogueView) (state : StoreState) (call :
   Exits : (program : Checked) (steps reply : ℕ) (left : Maps) → program_in c state call.program ≡ Some program
       → Fits mode call.argument program → Runs program.program state.maps call.argument steps reply left
       → CallDoes mode c state call reply left
-  -- No program does: the reply is -22, and the maps stay.
+  -- No program of that number fits: the reply is -22, and the maps stay.
   NoProgram : ((p : Checked) → program_in c state call.program ≡ Some p → Fits mode call.argument p → ⊥)
       → CallDoes mode c state call no_program state.maps
 

@@ -1,5 +1,6 @@
 //! What is promised of programs and of a store, in the fewest definitions: an accepted program reaches its exit, and one list of
-//! operations explains all calls and answers of a store. Who reads `specs/` here, and what it cites, has the whole promise.
+//! operations explains all calls and answers of a store. Who reads `specs/` here, and what it cites, has the whole promise for programs and
+//! schedules. For running threads `Linear` of `store` goes on with `Linearized`.
 //!
 //! What operations do is a relation (`Operations`): a call is a run of its program, as RFC 9669 has it. `Linearized` is what it is that a list
 //! explains a trace, `Answered` which calls are taken and when all are answered. Neither the verifier's rules nor the parts of a store are cited.

@@ -1,8 +1,9 @@
 // A store that one owner steps.
 
-ghost use Rattle.std.specs.Prelude.{◌≡◌, length, IfOk};
+ghost use Rattle.std.specs.Prelude.{◌≡◌, ◌≢◌, ◌↔◌, length, IfErr, IfOk};
 ghost use Rattle.loader.specs.CatalogueView.{with_places};
-ghost use Rattle.oplog.specs.Limits.{sizes_in};
+ghost use Rattle.oplog.specs.Limits.{IsConfig, sizes_in};
+ghost use Rattle.oplog.specs.declared.configuration.OpenError.TheVariants.{OtherState, OutOfLimits};
 ghost use Rattle.schedule.specs.ReadOff.{read_off};
 ghost use Rattle.promise.specs.Answered.{SettlesLast, TakesCalls};
 ghost use Rattle.promise.specs.Linearized.{IsLinearized};
@@ -46,6 +47,8 @@ pub fn run_schedule(
     catalogue: Catalogue,
     steps: &[Step],
 ) -> Result<Vec<StepAnswer>, OpenError>
+    ensures limits { IfErr result (λ e. (e ≡ OutOfLimits) ↔ (IsConfig config → ⊥)) }
+    ensures other { IfErr result (λ e. e ≢ OtherState) }
     ensures answered { IfOk result (λ a. length a.items ≡ length steps.now) }
     ensures linearized { IfOk result (λ a. IsLinearized (with_places catalogue config.spare) config.limit (read_off (sizes_in config) steps.now a.items)) }
     ensures taken { IfOk result (λ a. TakesCalls (sizes_in config) (with_places catalogue config.spare) steps.now a.items) }

@@ -23,6 +23,8 @@ returns-in-Ok c =
     let settles = c.every_schedule_settles.ensures in
     let answers = opened_answers m old steps _ w.opened c.in-Ok.ensures.answers in
     record {
+      limits = tt;
+      other = tt;
       answered = told.answered;
       linearized = steps_linearized c.typable_programs_run.ensures m old _ steps _ w.opened w.stands told;
       taken = subst (TakesCalls m.config m.catalogue steps) answers (takes_calls reads_off m whole steps);
