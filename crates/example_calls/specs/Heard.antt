@@ -9,12 +9,11 @@ use Rattle.oplog.specs.Operations.{Operation}
 use Rattle.combiner.specs.declared.slots.Reply.TheVariants.{Placed}
 use Rattle.replica.specs.StoreMeaning.{store_meaning}
 use Rattle.accounts.specs.Accounts.{IsWellFormed}
-use Rattle.schedule.specs.Explains.{Explains}
+use Rattle.promise.specs.Linearized.{Explains}
 use Rattle.schedule.specs.Trace.{Back, Call, Positions, Trace, Updated}
 use Rattle.store_steps.specs.Views.{SessionView}
 use Rattle.store_steps.specs.declared.values.Setup.{Setup}
 use Rattle.store_laws.specs.CallsMade.{events_of_session}
-use Rattle.store_laws.specs.RunEvents.{opening_of}
 use Rattle.store.specs.Sessions.{TellsUpdate}
 use Rattle.store.specs.declared.answers.Answer.{Answer}
 use Rattle.example_calls.specs.declared.TheConstants.{CONFIG}
@@ -36,6 +35,10 @@ pub record HasUpdatedTwice (old new : SessionView) (op : Operation) (first secon
 abbrev pub call_and_back : ℕ → Operation → Answer → Trace
 call_and_back session op a = Call session Update op ∷ Back session (Updated (Placed a.index a.reply)) ∷ []
 
+-- and two of them
+abbrev pub two_calls : ℕ → Operation → (first second : Answer) → Trace
+two_calls session op first second = call_and_back session op first ++ call_and_back session op second
+
 -- The history explains a trace, in which session 0 has two calls with their answers, one after the other, and session 1 has one. The first of the two
 -- came before the second, and this is the state after the history.
 pub record AreExplained (opening : Setup) (op : Operation) (heard : Heard) (state : StoreState) : Type 0 where
@@ -43,8 +46,8 @@ pub record AreExplained (opening : Setup) (op : Operation) (heard : Heard) (stat
   pub last : state ≡ state_after store_meaning opening.catalogue history (length history)
   pub trace : Trace
   pub positions : Positions
-  pub explains : Explains (opening_of opening) history positions trace
-  pub waits : events_of_session 0 trace ≡ call_and_back 0 op heard.first ++ call_and_back 0 op heard.second
+  pub explains : Explains opening.catalogue opening.config.limit history positions trace
+  pub waits : events_of_session 0 trace ≡ two_calls 0 op heard.first heard.second
   pub polls : events_of_session 1 trace ≡ call_and_back 1 op heard.polled
   pub before : heard.first.index < heard.second.index
 

@@ -1,18 +1,19 @@
 //! What two sessions of a store were answered, and in which order, by the contracts of the crate `store` alone: one list of operations explains
-//! their calls, whatever else they did. The first session waits for its answers, and the second one polls.
+//! their calls, whatever else they did. The first session waits for its answers, and the second one polls. Each call says what it adds to the
+//! calls and answers of its session (`adds`), and `close` that one list explains those of all (`linear`).
 #![tactic(auto)]
 
 ghost use Rattle.std.specs.Prelude.{◌≡◌, ◌≤◌, [], ◌∷◌, IfSome, None, Some, vec_capacity};
-ghost use Rattle.store.specs.Explained.{ClosesLinear};
+ghost use Rattle.store.specs.Explained.{ClosesExplained};
+ghost use Rattle.store.specs.Linear.{Adds, AddsAnswer};
 ghost use Rattle.store.specs.Opening.{last_state};
-ghost use Rattle.store.specs.Polled.{TellsAnswer};
 ghost use Rattle.store.specs.Sessions.{IsOf, SessionGoesOn};
 ghost use Rattle.store_steps.specs.Shelving.{sessions_of};
 ghost use Rattle.store_steps.specs.Views.{op_of};
 ghost use Rattle.accounts.specs.Accounts.{IsWellFormed};
 ghost use Rattle.accounts.specs.declared.sessions.Pending.{Pending};
 ghost use Rattle.replica.specs.StoreMeaning.{store_meaning};
-ghost use Rattle.example_calls.specs.Heard.{AreExplained, HasUpdated, HasUpdatedTwice, two_of};
+ghost use Rattle.example_calls.specs.Heard.{AreExplained, HasUpdated, HasUpdatedTwice, call_and_back, two_calls, two_of};
 
 mod heard;
 
@@ -41,6 +42,7 @@ fn update<R: Wait>(
     requires own { IsOf store.now session.old }
     ensures session { SessionGoesOn store.now session.old session.new }
     ensures told { IfSome result (λ a. HasUpdated session.old session.new (op_of program argument.now) a) }
+    ensures adds { IfSome result (λ a. Adds session.old session.new (call_and_back session.old.session (op_of program argument.now) a)) }
 {
     session.invoke(rt, store, program, argument).ok()
 }
@@ -56,6 +58,7 @@ fn update_twice<R: Wait>(
     requires own { IsOf store.now session.old }
     ensures session { SessionGoesOn store.now session.old session.new }
     ensures told { IfSome result (λ t. HasUpdatedTwice session.old session.new (op_of program argument.now) t.0 t.1) }
+    ensures adds { IfSome result (λ t. Adds session.old session.new (two_calls session.old.session (op_of program argument.now) t.0 t.1)) }
 {
     let first = update(rt, store, session, program, argument)?;
     let second = update(rt, store, session, program, argument)?;
@@ -69,7 +72,7 @@ fn finish<R: Wait>(rt: &R, store: &Store, polled: &mut Polled) -> Result<Answer,
     requires asked { (o : Pending) × (polled.old.note.pending ≡ Some o) }
     ensures session { SessionGoesOn store.now polled.old polled.new }
     ensures rests { polled.new.note.pending ≡ None }
-    ensures told { (o : Pending) → polled.old.note.pending ≡ Some o → TellsAnswer polled.old polled.new o result }
+    ensures adds { AddsAnswer polled.old polled.new (Some result) }
 {
     for _ in rt.forever() {
         if let Some(told) = polled.try_complete(store) {
@@ -91,7 +94,7 @@ fn poll<R: Wait>(
     requires idle { polled.old.note.pending ≡ None }
     ensures session { SessionGoesOn store.now polled.old polled.new }
     ensures rests { polled.new.note.pending ≡ None }
-    ensures told { IfSome result (λ a. HasUpdated polled.old polled.new (op_of program argument.now) a) }
+    ensures adds { IfSome result (λ a. Adds polled.old polled.new (call_and_back polled.old.session (op_of program argument.now) a)) }
 {
     match polled.try_post(store, program, argument) {
         Ok(Some(())) => finish(rt, store, polled).ok(),
@@ -105,7 +108,7 @@ fn close(store: Store, mut sessions: Vec<Session>, waiting: Session, polls: Poll
     requires idle { polls.note.pending ≡ None }
     requires two { sessions_of store.config ≡ 2 }
     requires room { (sessions.items ≡ []) × (2 ≤ vec_capacity sessions) }
-    ensures linear { ClosesLinear store (waiting ∷ polls ∷ []) result }
+    ensures explained { ClosesExplained store (waiting ∷ polls ∷ []) result }
 {
     sessions.push_reserved(waiting);
     sessions.push_reserved(polls.into_session());

@@ -1,4 +1,5 @@
 mod Posted
+mod Adding
 mod Looking
 mod Reasons
 mod Opened

@@ -3,7 +3,7 @@ use Rattle.std.specs.Prelude.{◌≡◌, ◌⊎◌, ℕ, ◌++◌, List, [], ◌
 use Rattle.std.specs.List.{list_all}
 use Rattle.std.specs.Arc.{arc_value}
 use Rattle.loader.specs.StoreState.{StoreState}
-use Rattle.store.specs.Explained.{ClosesLinear}
+use Rattle.store.specs.Explained.{ClosesExplained}
 use Rattle.store.specs.Opening.{ClosedView, last_state}
 use Rattle.store_steps.specs.Views.{SessionView}
 use Rattle.store.specs.Sessions.{StoreView}
@@ -29,7 +29,8 @@ sessions_back (p ∷ ps) = sessions_back ps ++ sessions_at p
 
 -- the state after the whole history of a store whose sessions are these: one list of operations explains their calls
 abbrev pub IsLastOf : StoreView → List SessionView → StoreState → Type 0
-IsLastOf store sessions state = (closed : ClosedView) × ClosesLinear store sessions closed × (state ≡ last_state closed)
+IsLastOf store sessions state =
+    (closed : ClosedView) × ClosesExplained store sessions closed × (state ≡ last_state closed)
 
 -- the words of a state's handle with this status, and nothing else
 abbrev pub only_state : ℕ → StateAnswered

@@ -5,6 +5,7 @@ pub mod Views
 pub mod Codes
 pub mod CallResults
 pub mod Calls
+pub mod Adding
 pub mod Looks
 pub mod Describing
 pub mod Measuring

@@ -8,6 +8,7 @@ pub mod closing;
 pub mod describing;
 pub mod handles;
 pub mod lanes;
+mod laws;
 pub mod loading;
 pub mod looks;
 pub mod measuring;
@@ -16,3 +17,5 @@ pub mod pool;
 pub mod states;
 pub mod statuses;
 pub mod stores;
+
+pub use laws::calls_add;

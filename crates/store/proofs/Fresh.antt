@@ -11,6 +11,7 @@ use Rattle.accounts.specs.LogSteps.{first_progress, fresh_note}
 use Rattle.accounts.proofs.Export.{at_none}
 use Rattle.store_steps.specs.declared.steps.Caller.{Caller}
 use Rattle.store_steps.specs.declared.values.Value.{Value}
+use Rattle.store.specs.Linear.{AreNew, own_events, seen}
 use Rattle.store.specs.Opening.{AreOf}
 use Rattle.store_steps.specs.Views.{IsIdle, SessionView, session_view}
 use Rattle.store.specs.Sessions.{IsOf, StoreView, fresh_known, fresh_session, fresh_sessions}
@@ -103,3 +104,10 @@ module _ (config : Sizes) (c : CatalogueView) where
   fresh_of store a zero is same i s at = absurd (at_none i s at)
   fresh_of store a (suc n) is same zero s at = let e = some-injective (fresh_session store.id config c a) s at in subst (λ (z : SessionView). IsOf store z) e (record { shelf = refl; config = sym is; catalogue = sym same })
   fresh_of store a (suc n) is same (suc i) s at = fresh_of store (suc a) n is same i s at
+
+  pub fresh_are_new : (id : ShelfId) (a n : ℕ) → AreNew (fresh_sessions id config c a n)
+  fresh_are_new id a zero i s at = absurd (at_none i s at)
+  fresh_are_new id a (suc n) zero s at =
+      let is = some-injective (fresh_session id config c a) s at in
+      subst (λ (z : SessionView). (own_events z ≡ []) × (seen z ≡ [])) is (refl, refl)
+  fresh_are_new id a (suc n) (suc i) s at = fresh_are_new id (suc a) n i s at

@@ -11,6 +11,7 @@ pub mod Looked
 pub mod Last
 pub mod Closing
 pub mod EachSession
+pub mod Linear
 pub mod Explained
 pub mod CallsTold
 pub mod MayInstall

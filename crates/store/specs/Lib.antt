@@ -12,6 +12,8 @@ pub mod Looks
 pub mod Describing
 -- The install of a program that may name some maps alone.
 pub mod Within
+-- What a call adds to the calls of its session, and the list of operations that explains those of all sessions.
+pub mod Linear
 -- The history that explains what the sessions of a closed store did.
 pub mod Explained
 -- What is told of the calls of a session.
@@ -20,3 +22,5 @@ pub mod CallsTold
 pub mod Pipelines
 -- Several sessions of one node whose calls answer at once.
 pub mod PolledPipelines
+-- What a list adds, and what a look does not.
+pub mod Adding

@@ -1,4 +1,5 @@
 // The laws.
+ghost use Rattle.store.specs.Adding.{ListsAdd, LooksAddNothing, PollsAdd, PostsAdd};
 ghost use Rattle.store.specs.CallsTold.{ClosesTold, PipelinesAreTold, PolledRest, PolledUpdatesAreTold, ReadsAreTold, SessionsBegin, SessionsRest, UpdatesAreTold};
 
 /// The history of a closed store (`Store::close`, `closed`) explains the calls of all its sessions, as they are listed for each. What the clauses of
@@ -15,4 +16,13 @@ pub fn calls_are_told()
     ensures begin { SessionsBegin }
     ensures rest { SessionsRest }
     ensures polled_rest { PolledRest }
+{}
+
+/// What the calls add to the calls and answers of their sessions that have no clause `adds`: a look and a try in vain add nothing. Of a list each
+/// session adds its own update and its answer.
+pub fn calls_add()
+    ensures looks { LooksAddNothing }
+    ensures lists { ListsAdd }
+    ensures posts { PostsAdd }
+    ensures polls { PollsAdd }
 {}

@@ -1,12 +1,13 @@
 // A session whose calls answer at once.
 
-ghost use Rattle.std.specs.Prelude.{◌≡◌, [], ◌∷◌, None, Some, Err, true, false, length, ◌≤◌, IfSome, IfNone, MatchOption};
+ghost use Rattle.std.specs.Prelude.{◌≡◌, [], ◌∷◌, None, Some, Err, true, false, length, ◌≤◌, IfSome, IfNone, MatchOption, Ok};
 ghost use Rattle.verifier.specs.declared.refusal.Mode.TheVariants.{Update, Read};
 ghost use Rattle.accounts.specs.declared.sessions.Pending.{Pending};
 ghost use Rattle.replica.specs.StoreMeaning.{is_operation};
 ghost use Rattle.replica.specs.declared.refusals.StoreRefused.{StoreRefused};
 ghost use Rattle.replica.specs.Refusals.{early_refusal};
 ghost use Rattle.store.specs.Going.{CompleteGoes, PostGoes};
+ghost use Rattle.store.specs.Linear.{AddsAnswer, AddsPost};
 ghost use Rattle.store_steps.specs.Views.{op_of};
 ghost use Rattle.store.specs.Sessions.{IsOf, MayUpdate, SessionGoesOn, known_of, install_of, install_refused};
 ghost use Rattle.store_steps.specs.Stages.{HasDone};
@@ -207,6 +208,7 @@ impl Polled {
         ensures stays { IfNone result (self.new ≡ self.old) }
         ensures posted { IfSome result (λ _. HasPostedFor self.old self.new op.now) }
         ensures goes { IfSome result (λ _. PostsBy (known_of self.old) (known_of self.new) op.now) }
+        ensures adds { AddsPost self.old self.new op.now (Ok result) }
     {
         let shared = store.shared();
         let Polled {
@@ -264,6 +266,7 @@ impl Polled {
         ensures early { IsRefused (early_refusal store.now.catalogue Update program argument.now) result (self.new ≡ self.old) }
         ensures posted { MayUpdate store.now program argument.now → TellsPost self.old self.new (op_of program argument.now) result }
         ensures goes { MayUpdate store.now program argument.now → PostGoes self.old self.new (op_of program argument.now) result }
+        ensures adds { MayUpdate store.now program argument.now → AddsPost self.old self.new (op_of program argument.now) result }
     {
         // This opens the session's invariant for the proof: a refused call uses no other part of the session.
         let _seat = &self.seat;
@@ -312,6 +315,8 @@ impl Polled {
             → TellsPost self.old self.new (install_of mode arg_len bytes.now) result }
         ensures goes { install_refused store.now mode arg_len bytes.now ≡ None
             → PostGoes self.old self.new (install_of mode arg_len bytes.now) result }
+        ensures adds { install_refused store.now mode arg_len bytes.now ≡ None
+            → AddsPost self.old self.new (install_of mode arg_len bytes.now) result }
     {
         check_install(&mut self.room, mode, arg_len as u64, bytes)?;
         let install = OpRef::install(mode, arg_len, bytes);
@@ -382,6 +387,7 @@ impl Polled {
         ensures session { SessionGoesOn store.now self.old self.new }
         ensures completed { (o : Pending) → self.old.note.pending ≡ Some o → TellsCompleted self.old self.new o result }
         ensures goes { CompleteGoes self.old self.new result }
+        ensures adds { AddsAnswer self.old self.new result }
     {
         // This opens the session's invariant for the proof: the loop's begins with it.
         let _seat = &self.seat;

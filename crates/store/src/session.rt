@@ -8,6 +8,7 @@ ghost use Rattle.replica.specs.StoreMeaning.{is_operation};
 ghost use Rattle.replica.specs.declared.refusals.StoreRefused.{StoreRefused};
 ghost use Rattle.replica.specs.Refusals.{early_refusal};
 ghost use Rattle.store.specs.Going.{UpdateGoes};
+ghost use Rattle.store.specs.Linear.{AddsUpdate};
 ghost use Rattle.store.specs.Sessions.{said};
 ghost use Rattle.store_steps.specs.Questions.{first_refused};
 ghost use Rattle.loader.specs.CatalogueView.{sizes_for};
@@ -191,6 +192,7 @@ impl Session {
         ensures session { SessionGoesOn store.now self.old self.new }
         ensures answered { TellsUpdate self.old self.new op.now result }
         ensures goes { UpdateGoes self.old self.new op.now result }
+        ensures adds { AddsUpdate self.old self.new op.now result }
     {
         let shared = store.shared();
         let here = Here {
@@ -220,6 +222,7 @@ impl Session {
         ensures early { IsRefused (early_refusal store.now.catalogue Update question.entry.program question.entry.argument.now) result (self.new ≡ self.old) }
         ensures answered { MayUpdate store.now question.entry.program question.entry.argument.now → TellsUpdate self.old self.new (asked_op question.entry) result }
         ensures goes { MayUpdate store.now question.entry.program question.entry.argument.now → UpdateGoes self.old self.new (asked_op question.entry) result }
+        ensures adds { MayUpdate store.now question.entry.program question.entry.argument.now → AddsUpdate self.old self.new (asked_op question.entry) result }
     {
         // This opens the session's invariant for the proof: a refused call uses no other part of the session.
         let _seat = &self.seat;
@@ -270,6 +273,7 @@ impl Session {
         ensures early { IsRefused (early_refusal store.now.catalogue Update program argument.now) result (self.new ≡ self.old) }
         ensures answered { MayUpdate store.now program argument.now → TellsUpdate self.old self.new (op_of program argument.now) result }
         ensures goes { MayUpdate store.now program argument.now → UpdateGoes self.old self.new (op_of program argument.now) result }
+        ensures adds { MayUpdate store.now program argument.now → AddsUpdate self.old self.new (op_of program argument.now) result }
     {
         self.call(rt, store, Question { program, argument }, false)
     }
@@ -310,6 +314,7 @@ impl Session {
         ensures early { IsRefused (early_refusal store.now.catalogue Update program argument.now) result (self.new ≡ self.old) }
         ensures answered { MayUpdate store.now program argument.now → TellsUpdate self.old self.new (op_of program argument.now) result }
         ensures goes { MayUpdate store.now program argument.now → UpdateGoes self.old self.new (op_of program argument.now) result }
+        ensures adds { MayUpdate store.now program argument.now → AddsUpdate self.old self.new (op_of program argument.now) result }
     {
         self.call(rt, store, Question { program, argument }, true)
     }
@@ -355,6 +360,8 @@ impl Session {
             → TellsUpdate self.old self.new (install_of mode arg_len bytes.now) result }
         ensures goes { install_refused store.now mode arg_len bytes.now ≡ None
             → UpdateGoes self.old self.new (install_of mode arg_len bytes.now) result }
+        ensures adds { install_refused store.now mode arg_len bytes.now ≡ None
+            → AddsUpdate self.old self.new (install_of mode arg_len bytes.now) result }
     {
         check_install(&mut self.room, mode, arg_len as u64, bytes)?;
         let op = OpRef::install(mode, arg_len, bytes);

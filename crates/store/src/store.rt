@@ -7,7 +7,8 @@ ghost use Rattle.loader.specs.CatalogueView.{MayOpenOn, OpensOn, opened_on, with
 ghost use Rattle.oplog.specs.Limits.{sizes_in, AreSizes, IsConfig};
 ghost use Rattle.store_steps.specs.Shelving.{sessions_of};
 ghost use Rattle.store.specs.Sessions.{fresh_sessions};
-ghost use Rattle.store.specs.Explained.{ClosesExplained, ClosesLinear};
+ghost use Rattle.store.specs.Explained.{ClosesExplained};
+ghost use Rattle.store.specs.Linear.{AreLinearized, AreNew};
 ghost use Rattle.store.specs.Opening.{AreOf, AreIdle, IsClosed, known_back};
 
 use crate::closed::Closed;
@@ -93,6 +94,7 @@ impl Store {
     ) -> Result<(Store, Vec<Session>), OpenError>
         ensures limits { IfErr result (λ e. (e ≡ OutOfLimits) ↔ (IsConfig config → ⊥)) }
         ensures other { IfErr result (λ e. e ≢ OtherState) }
+        ensures new { IfOk result (λ t. AreNew t.1.items) }
         ensures openable { IfOk result (λ t. IsConfig config) }
         ensures store { IfOk result (λ t. (t.0.config ≡ sizes_in config) × (t.0.catalogue ≡ with_places catalogue config.spare)) }
         ensures sessions { IfOk result (λ t. t.1.items ≡ fresh_sessions t.0.id t.0.config t.0.catalogue 0 (sessions_of (sizes_in config))) }
@@ -133,6 +135,7 @@ impl Store {
     ) -> Result<(Store, Vec<Session>), OpenError>
         ensures limits { IfErr result (λ e. (e ≡ OutOfLimits) ↔ (AreSizes sizes → ⊥)) }
         ensures other { IfErr result (λ e. e ≢ OtherState) }
+        ensures new { IfOk result (λ t. AreNew t.1.items) }
         ensures openable { IfOk result (λ t. AreSizes sizes) }
         ensures store { IfOk result (λ t. (t.0.config ≡ sizes) × (t.0.catalogue ≡ with_long_places catalogue sizes.spare sizes.long)) }
         ensures sessions { IfOk result (λ t. t.1.items ≡ fresh_sessions t.0.id sizes (with_long_places catalogue sizes.spare sizes.long) 0 (sessions_of sizes)) }
@@ -183,6 +186,7 @@ impl Store {
     ) -> Result<(Store, Vec<Session>), OpenError>
         ensures limits { IfErr result (λ e. (e ≡ OutOfLimits) ↔ (IsConfig config → ⊥)) }
         ensures other { IfErr result (λ e. (e ≡ OtherState) ↔ IsConfig config × (MayOpenOn (with_places catalogue config.spare) state.now → ⊥)) }
+        ensures new { IfOk result (λ t. AreNew t.1.items) }
         ensures openable { IfOk result (λ t. IsConfig config × MayOpenOn (with_places catalogue config.spare) state.now) }
         ensures store { IfOk result (λ t. (t.0.config ≡ sizes_in config) × (t.0.catalogue ≡ opened_on (with_places catalogue config.spare) state.now)) }
         ensures sessions { IfOk result (λ t. t.1.items ≡ fresh_sessions t.0.id t.0.config t.0.catalogue 0 (sessions_of (sizes_in config))) }
@@ -226,6 +230,7 @@ impl Store {
     ) -> Result<(Store, Vec<Session>), OpenError>
         ensures limits { IfErr result (λ e. (e ≡ OutOfLimits) ↔ (AreSizes sizes → ⊥)) }
         ensures other { IfErr result (λ e. (e ≡ OtherState) ↔ AreSizes sizes × (MayOpenOn (with_long_places catalogue sizes.spare sizes.long) state.now → ⊥)) }
+        ensures new { IfOk result (λ t. AreNew t.1.items) }
         ensures openable { IfOk result (λ t. AreSizes sizes × MayOpenOn (with_long_places catalogue sizes.spare sizes.long) state.now) }
         ensures store { IfOk result (λ t. (t.0.config ≡ sizes) × (t.0.catalogue ≡ opened_on (with_long_places catalogue sizes.spare sizes.long) state.now)) }
         ensures sessions { IfOk result (λ t. t.1.items ≡ fresh_sessions t.0.id t.0.config t.0.catalogue 0 (sessions_of sizes)) }
@@ -259,6 +264,7 @@ impl Store {
         ensures sessions { IfOk result (λ t. t.1.items ≡ fresh_sessions t.0.id setup.config setup.catalogue 0 (sessions_of setup.config)) }
         ensures count { IfOk result (λ t. length t.1.items ≡ sessions_of setup.config) }
         ensures own { IfOk result (λ t. AreOf t.0 t.1.items) }
+        ensures new { IfOk result (λ t. AreNew t.1.items) }
     {
         let count = session_count(&setup.config);
         let rooms = session_rooms(alloc, &setup.catalogue, count)?;
@@ -281,7 +287,7 @@ impl Store {
     }
 
     /// Ends the store, and gives its log, its catalogue and each node's replica, once all its sessions are back. One history explains all calls and
-    /// answers of its sessions, in the order in which they began and returned.
+    /// answers of its sessions (`explained`). Of their updates `linear` says it in few definitions.
     ///
     /// # Errors
     ///
@@ -308,11 +314,14 @@ impl Store {
         ensures back { IfErr result (λ t. (t.0 ≡ self) × (t.1.items ≡ sessions.items)) }
         ensures closed { IfOk result (λ c. IsClosed self sessions.items c) }
         ensures explained { IfOk result (λ c. ClosesExplained self sessions.items c) }
-        ensures linear { IfOk result (λ c. ClosesLinear self sessions.items c) }
+        ensures linear { IfOk result (λ _. AreLinearized self sessions.items) }
     {
         if sessions.len() != session_count(&self.setup.config) {
             return Err((self, sessions));
         }
+        machine::laws::typable_programs_run();
+        // This opens the catalogue's invariant for the proof.
+        let _places = self.setup.catalogue.places();
         let seat = self.join_seats(sessions);
         let Store { shelf, setup, .. } = self;
         let mut values = shelf.close(seat);

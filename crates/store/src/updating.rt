@@ -1,11 +1,12 @@
 // An update by four takes of a session whose calls answer at once.
 
-ghost use Rattle.std.specs.Prelude.{◌≡◌, None, Some, Err, true, IfOk, IfSome, IfNone};
+ghost use Rattle.std.specs.Prelude.{◌≡◌, None, Some, Ok, Err, true, IfOk, IfSome, IfNone};
 ghost use Rattle.verifier.specs.declared.refusal.Mode.TheVariants.{Update};
 ghost use Rattle.replica.specs.StoreMeaning.{is_operation};
 ghost use Rattle.replica.specs.declared.refusals.StoreRefused.{StoreRefused};
 ghost use Rattle.replica.specs.Refusals.{early_refusal};
 ghost use Rattle.store.specs.Going.{BeginGoes};
+ghost use Rattle.store.specs.Linear.{AddsPost};
 ghost use Rattle.store.specs.Polled.{TellsAsked};
 ghost use Rattle.store.specs.Looks.{IsRefused};
 ghost use Rattle.store.specs.Sessions.{IsOf, MayUpdate, SessionGoesOn, known_of};
@@ -30,6 +31,7 @@ impl Polled {
         ensures asked { IfSome result (λ _. HasAskedFor self.old self.new op.now) }
         ensures goes { IfSome result (λ _. BeginsBy (known_of self.old) (known_of self.new) op.now) }
         ensures held { IfSome result (λ _. BeginsInOneHold (known_of self.old) (known_of self.new) op.now) }
+        ensures adds { AddsPost self.old self.new op.now (Ok result) }
     {
         let shared = store.shared();
         let Polled {
@@ -84,6 +86,7 @@ impl Polled {
         ensures early { IsRefused (early_refusal store.now.catalogue Update program argument.now) result (self.new ≡ self.old) }
         ensures asked { MayUpdate store.now program argument.now → TellsAsked self.old self.new (op_of program argument.now) result }
         ensures goes { MayUpdate store.now program argument.now → BeginGoes self.old self.new (op_of program argument.now) result }
+        ensures adds { MayUpdate store.now program argument.now → AddsPost self.old self.new (op_of program argument.now) result }
         ensures held { IfOk result (λ o. IfSome o (λ _. BeginsInOneHold (known_of self.old) (known_of self.new) (op_of program argument.now))) }
     {
         // This opens the session's invariant for the proof: a refused call uses no other part of the session.

@@ -6,6 +6,7 @@ ghost use Rattle.loader.specs.declared.installed.TheConstants.{MOST_LONG};
 ghost use Rattle.replica.specs.Refusals.{IsRefusedAs, IsRoomFor};
 ghost use Rattle.replica.specs.declared.refusals.StoreRefused.{StoreRefused};
 ghost use Rattle.store.specs.Going.{PostGoes, UpdateGoes};
+ghost use Rattle.store.specs.Linear.{AddsPost, AddsUpdate};
 ghost use Rattle.store.specs.Looks.{IsRefused};
 ghost use Rattle.store.specs.Polled.{TellsPost};
 ghost use Rattle.store.specs.Sessions.{IsOf, SessionGoesOn, TellsUpdate};
@@ -133,6 +134,7 @@ impl Session {
         ensures session { SessionGoesOn store.now self.old self.new }
         ensures answered { within_refused store.now wanted.entry ≡ None → TellsUpdate self.old self.new (install_within wanted.entry) result }
         ensures goes { within_refused store.now wanted.entry ≡ None → UpdateGoes self.old self.new (install_within wanted.entry) result }
+        ensures adds { within_refused store.now wanted.entry ≡ None → AddsUpdate self.old self.new (install_within wanted.entry) result }
     {
         check_within(&mut self.room, wanted)?;
         let op = OpRef::install(wanted.mode, wanted.arg_len, wanted.bytes);
@@ -176,6 +178,7 @@ impl Polled {
         ensures session { SessionGoesOn store.now self.old self.new }
         ensures posted { within_refused store.now asked.entry ≡ None → TellsPost self.old self.new (install_within asked.entry) result }
         ensures goes { within_refused store.now asked.entry ≡ None → PostGoes self.old self.new (install_within asked.entry) result }
+        ensures adds { within_refused store.now asked.entry ≡ None → AddsPost self.old self.new (install_within asked.entry) result }
     {
         check_within(&mut self.room, asked)?;
         let op = OpRef::install(asked.mode, asked.arg_len, asked.bytes);

@@ -1,5 +1,5 @@
 -- The lock's invariant, for the rules of a store.
-use Rattle.std.proofs.Common.{ℕ, ◌<◌, sym, ◌∙◌, subst, ⊎_elim}
+use Rattle.std.proofs.Common.{◌<◌, sym, ◌∙◌, subst, ⊎_elim}
 use Rattle.std.proofs.lemmas.List.{length-replicate}
 use Rattle.ownlock.specs.Invariant.{LockInvariant}
 use Rattle.ownlock.specs.Between.{Between}

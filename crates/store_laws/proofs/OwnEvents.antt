@@ -1,16 +1,19 @@
 -- The events of each session in a run are those that its note has.
-use Rattle.std.proofs.Common.{◌≡◌, ◌≢◌, ◌⊎◌, ℕ, List, [], ◌∷◌, ◌++◌, drop, length, map, replicate, Option, Some, None, append-nil, append_assoc, refl, sym, ap, ◌∙◌, subst, inl, inr, ⊎_elim}
+use Rattle.std.proofs.Common.{◌≡◌, ◌≢◌, ◌⊎◌, ◌<◌, ℕ, List, [], ◌∷◌, ◌++◌, drop, length, map, replicate, Some, None, append-nil, append_assoc, ne_eqb, if◌then◌else◌, refl, sym, ap, ◌∙◌, subst, inl, inr, ⊎_elim}
 use Rattle.std.specs.Prelude.{slice_set}
 use Rattle.std.proofs.lemmas.Bool.{cases_eq}
-use Rattle.std.proofs.lemmas.List.{map-append}
+use Rattle.std.proofs.lemmas.List.{append_cancel_right, map-append}
+use Rattle.std.proofs.lemmas.List.Elements.{All-append, All-cons, All-drop, All-head, All-nil, All-tail, filter-append}
+use Rattle.std.specs.List.{All}
 use Rattle.atomic_table.proofs.Lists.{set_else, set_here}
 use Rattle.ownlock.specs.declared.known.ShelfStep.{ShelfStep}
 use Rattle.ownlock.specs.declared.known.ShelfStep.TheVariants.{Put, Raised, Read, Took}
+use Rattle.ownlock.specs.Rules.{Move}
 use Rattle.ownlock.specs.Runs.{Begins, Loads, Puts, Raises, Takes, keeping}
-use Rattle.ownlock.specs.Seats.{At}
+use Rattle.ownlock.specs.Seats.{At, own_steps}
+use Rattle.ownlock.proofs.Export.{own_else, own_here}
 use Rattle.loader.specs.CatalogueView.{CatalogueView}
 use Rattle.loader.specs.StoreState.{StoreState}
-use Rattle.oplog.specs.Operations.{Operation}
 use Rattle.combiner.specs.Desks.{DeskView}
 use Rattle.combiner.specs.declared.slots.Reply.{Reply}
 use Rattle.combiner.specs.declared.slots.Reply.TheVariants.{Ended, Placed}
@@ -26,16 +29,18 @@ use Rattle.accounts.specs.declared.sessions.SessionEvent.TheVariants.{UpdateBack
 use Rattle.accounts.specs.declared.sessions.SessionNote.{SessionNote}
 use Rattle.accounts.proofs.Export.{at_below, at_one, at_replicate}
 use Rattle.schedule.specs.declared.parts.Opening.{Opening}
-use Rattle.schedule.specs.Trace.{Back, Call, Event, Updated}
+use Rattle.schedule.specs.Trace.{Trace, caller}
 use Rattle.store_steps.specs.declared.values.Value.{Value}
-use Rattle.store_steps.specs.Shelving.{view_of}
-use Rattle.store_laws.specs.CallsMade.{noted_events, silence}
-use Rattle.store_laws.specs.OwnEvents.{NotesTell, event_of, own_trace}
-use Rattle.store_laws.specs.RunEvents.{StoreRun, StoreStep}
+use Rattle.store_steps.specs.Shelving.{store_rules, view_of}
+use Rattle.store_laws.specs.CallsMade.{events_of_session, noted_events, silence}
+use Rattle.store_laws.specs.OwnEvents.{NotesTell, TracesAreTheirs, TracesTell, added, event_of, own_trace, trace_of}
+use Rattle.store_laws.specs.RunEvents.{StoreRun, StoreStep, events_in}
 use Rattle.store_laws.specs.Threads.{events_between, events_of}
+use Rattle.store_laws.proofs.Behind.{own_both}
 use Rattle.store_laws.proofs.KeptNotes.{Leads}
 use Rattle.store_laws.proofs.Noted.{drop_front}
-use Rattle.store_laws.proofs.RunEvents.{no_event}
+use Rattle.store_laws.proofs.OwnSteps.{none_some_list}
+use Rattle.store_laws.proofs.RunEvents.{low, no_event}
 use Rattle.store_laws.proofs.SessionEvents.{events_else, events_here}
 use Rattle.store_laws.proofs.UpdateEvents.{drop_all, same_event}
 
@@ -127,3 +132,133 @@ module _ (m : Opening) (sessions places : ℕ) where
 
 pub notes_tell : NotesTell
 notes_tell m sessions places run l ns leads x n at = told m sessions places x leads n at
+
+-- ---- the trace of a run
+
+-- what a session adds to its events by such a step
+adds : (c : ℕ) (n n' : SessionNote) → Grows c n n' → events_of c n n' ≡ drop (length (own_trace c n)) (own_trace c n')
+adds c n n' more = sym (ap (drop (length (own_trace c n))) more ∙ drop_front (own_trace c n) (events_of c n n'))
+
+goes_on : (e : StoreStep) (es : StoreRun) → Grows e.session e.before e.note → events_in silence es ≡ trace_of es
+    → events_in silence (e ∷ es) ≡ trace_of (e ∷ es)
+goes_on e es more rest = append-nil (events_in silence es ++ events_of e.session e.before e.note)
+    ∙ (λ j. rest j ++ adds e.session e.before e.note more j)
+
+-- a put as a step of its run
+abbrev put_step : Move store_rules → Value → StoreStep
+put_step move y = record {
+  session = move.session;
+  step = Put move.place y;
+  progress = move.new_progress;
+  before = move.note;
+  note = move.new_note;
+}
+
+keeps : (x : ℕ) (step : ShelfStep Value) (l : Progress CatalogueView) (note : SessionNote) (run : StoreRun)
+    → events_in silence run ≡ trace_of run
+    → events_in silence (keeping x step l note ∷ run) ≡ trace_of (keeping x step l note ∷ run)
+keeps x step l note run = goes_on (keeping x step l note) run (stays x note note refl)
+
+tell : (m : Opening) (sessions places : ℕ) {run : StoreRun} {l : Progress CatalogueView} {ns : List SessionNote}
+    → Leads m sessions places run l ns → events_in silence run ≡ trace_of run
+tell m sessions places Begins = refl
+tell m sessions places (Takes run l ns x p v note r own agrees) =
+    keeps x (Took p v) l note run (tell m sessions places r)
+tell m sessions places (Loads run l ns x found note r own is) =
+    keeps x (Read found) l note run (tell m sessions places r)
+tell m sessions places (Raises run l ns x k note r own reaches) =
+    keeps x (Raised k) (raised l k) note run (tell m sessions places r)
+tell m sessions places (Puts run ns move y r among puts) = goes_on
+    (put_step move y)
+    run
+    (grows move.place move.session (view_of move.value) move.progress move.new_progress move.note move.new_note
+    move.allowed)
+    (tell m sessions places r)
+
+pub traces_tell : TracesTell
+traces_tell m sessions places run l ns leads = tell m sessions places leads
+
+-- ---- whose events they are
+
+own_are : (sessions x : ℕ) → x < sessions → (events : List SessionEvent)
+    → All (λ e. caller e < sessions) (map (event_of x) events)
+own_are sessions x few [] = All-nil (λ e. caller e < sessions)
+own_are sessions x few (UpdateCall op ∷ es) = All-cons (λ e. caller e < sessions) _ _ few (own_are sessions x few es)
+own_are sessions x few (UpdateBack reply ∷ es) = All-cons (λ e. caller e < sessions) _ _ few (own_are sessions x few es)
+
+are_theirs : (sessions : ℕ) (e : StoreStep) (es : StoreRun) → e.session < sessions
+    → All (λ e. caller e < sessions) (trace_of es) → All (λ e. caller e < sessions) (trace_of (e ∷ es))
+are_theirs sessions e es few rest = All-append (λ e. caller e < sessions) (trace_of es) (added e) rest
+    (All-drop (λ e. caller e < sessions) (length (own_trace e.session e.before)) (own_trace e.session e.note)
+    (own_are sessions e.session few e.note.events))
+
+theirs : (m : Opening) (sessions places : ℕ) {run : StoreRun} {l : Progress CatalogueView} {ns : List SessionNote}
+    → Leads m sessions places run l ns → All (λ e. caller e < sessions) (trace_of run)
+theirs m sessions places Begins = All-nil (λ e. caller e < sessions)
+theirs m sessions places (Takes run l ns x p v note r own agrees) =
+    are_theirs sessions (keeping x (Took p v) l note) run (low m sessions places r x note own)
+    (theirs m sessions places r)
+theirs m sessions places (Loads run l ns x found note r own is) =
+    are_theirs sessions (keeping x (Read found) l note) run (low m sessions places r x note own)
+    (theirs m sessions places r)
+theirs m sessions places (Raises run l ns x k note r own reaches) =
+    are_theirs sessions (keeping x (Raised k) (raised l k) note) run (low m sessions places r x note own)
+    (theirs m sessions places r)
+theirs m sessions places (Puts run ns move y r among puts) = are_theirs sessions
+    (put_step move y)
+    run
+    (low m sessions places r move.session move.note among.own)
+    (theirs m sessions places r)
+
+pub traces_are_theirs : TracesAreTheirs
+traces_are_theirs m sessions places run l ns leads = theirs m sessions places leads
+
+-- ---- a run that goes on
+
+-- the trace of a run begins that of each run that goes on from it
+pub trace_goes_on : (since run : StoreRun) → (more : Trace) × (trace_of (since ++ run) ≡ trace_of run ++ more)
+trace_goes_on [] run = ([], sym (append-nil (trace_of run)))
+trace_goes_on (e ∷ es) run =
+    let rest = trace_goes_on es run in
+    (rest.0 ++ added e, ap (λ t. t ++ added e) rest.1 ∙ append_assoc (trace_of run) rest.0 (added e))
+
+-- ---- a session that takes no more steps
+
+-- all that one session notes is its own
+all_own : (x : ℕ) (events : List SessionEvent) → All (λ e. caller e ≡ x) (map (event_of x) events)
+all_own x [] = All-nil (λ e. caller e ≡ x)
+all_own x (UpdateCall op ∷ es) = All-cons (λ e. caller e ≡ x) _ _ refl (all_own x es)
+all_own x (UpdateBack reply ∷ es) = All-cons (λ e. caller e ≡ x) _ _ refl (all_own x es)
+
+none_of : (c x : ℕ) → x ≢ c → (t : Trace) → All (λ e. caller e ≡ x) t → events_of_session c t ≡ []
+none_of c x ne [] all = refl
+none_of c x ne (e ∷ es) all =
+    let is = All-head (λ e. caller e ≡ x) e es all in
+    ap (λ b. if b then e ∷ events_of_session c es else events_of_session c es)
+    (ne_eqb (caller e) c (λ same. ne (sym is ∙ same)))
+    ∙ none_of c x ne es (All-tail (λ e. caller e ≡ x) e es all)
+
+nothing_added : (c : ℕ) (e : StoreStep) → e.session ≢ c → events_of_session c (added e) ≡ []
+nothing_added c e ne = none_of c e.session ne (added e)
+    (All-drop (λ e'. caller e' ≡ e.session) (length (own_trace e.session e.before)) (own_trace e.session e.note)
+    (all_own e.session e.note.events))
+
+since : (c : ℕ) (more run : StoreRun) → own_steps c more ≡ []
+    → (events : Trace) × (trace_of (more ++ run) ≡ trace_of run ++ events) × (events_of_session c events ≡ [])
+since c [] run none = ([], sym (append-nil (trace_of run)), refl)
+since c (e ∷ es) run none = ⊎_elim
+    (λ (same : e.session ≡ c). absurd (none_some_list e.step (own_steps c es) (sym none ∙ own_here c e es same)))
+    (λ (ne : e.session ≢ c).
+    let rest = since c es run (sym (own_else c e es ne) ∙ none) in (
+      rest.0 ++ added e,
+      ap (λ t. t ++ added e) rest.1 ∙ append_assoc (trace_of run) rest.0 (added e),
+      filter-append _ rest.0 (added e) ∙ (λ j. rest.2 j ++ nothing_added c e ne j),
+    ))
+    (cases_eq e.session c)
+
+-- What such a session has seen begins the trace, and what comes later has none of its events.
+pub since_begins : (c : ℕ) (more run : StoreRun) (steps : List (ShelfStep Value)) → own_steps c run ≡ steps
+    → own_steps c (more ++ run) ≡ steps
+    → (events : Trace) × (trace_of (more ++ run) ≡ trace_of run ++ events) × (events_of_session c events ≡ [])
+since_begins c more run steps seen own = since c more run (append_cancel_right (own_steps c more) [] steps
+    (ap (λ z. own_steps c more ++ z) (sym seen) ∙ (sym (own_both c more run) ∙ own)))

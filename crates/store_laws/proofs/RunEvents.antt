@@ -249,7 +249,7 @@ long_notes m sessions places (Puts run ns move y r among puts) = length_set ns m
 long_notes m sessions places (Loads run l ns c found n r at is) = long_notes m sessions places r
 long_notes m sessions places (Raises run l ns c k n r at reaches) = long_notes m sessions places r
 
-low : (m : Opening) (sessions places : ℕ) {run : StoreRun} {l : L} {ns : List SessionNote} → Runs store_rules (opened_for m sessions places) run l ns → (c : ℕ) (n : SessionNote) → At c n ns → c < sessions
+pub low : (m : Opening) (sessions places : ℕ) {run : StoreRun} {l : L} {ns : List SessionNote} → Runs store_rules (opened_for m sessions places) run l ns → (c : ℕ) (n : SessionNote) → At c n ns → c < sessions
 low m sessions places {run} {l} {ns} r c n at = let long = long_notes m sessions places r in let below = at_below ns c n at in omega (arith, long, below)
 
 -- what each session may say they can all say

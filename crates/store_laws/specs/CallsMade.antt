@@ -6,7 +6,6 @@ use Rattle.maps.specs.Maps.{AreBytes}
 use Rattle.loader.specs.CatalogueView.{CatalogueView}
 use Rattle.verifier.specs.declared.refusal.Mode.TheVariants.{Read, Update}
 use Rattle.combiner.specs.declared.slots.Reply.{Reply}
-use Rattle.combiner.specs.declared.slots.Reply.TheVariants.{Ended, Placed}
 use Rattle.oplog.specs.Operations.{Operation}
 use Rattle.oplog.specs.Calls.{Call as ProgramCall}
 use Rattle.oplog.specs.declared.records.Op.TheVariants.{Run as Runs_program}

@@ -2,9 +2,10 @@ use Rattle.std.proofs.Common.{refl, ◌≡◌, [], ◌∷◌, ◌++◌, ◌∙�
 use Rattle.std.specs.Option.{option_to_list}
 use Rattle.store_steps.specs.Views.{SessionView, op_of}
 use Rattle.store_steps.specs.declared.values.Setup.{Setup}
+use Rattle.store.specs.Linear.{Adds}
 use Rattle.store.specs.Opening.{last_state}
 use Rattle.store.specs.Sessions.{fresh_session}
-use Rattle.example_calls.specs.Heard.{AreExplained, HasUpdated, HasUpdatedTwice}
+use Rattle.example_calls.specs.Heard.{AreExplained, HasUpdatedTwice, call_and_back, two_calls}
 use Rattle.example_calls.specs.declared.heard.Heard.{Heard}
 use Rattle.example_calls.proofs.Told.{are_explained, last_one, last_two, ok_holds}
 use Rattle.example_calls.proofs.answers_of_two.Goals as goal
@@ -24,8 +25,12 @@ returns g c =
     let polls = c.poll-answer.new.polled in
     let heard : Heard = record { first = c.in_ok-told.field-0.0; second = c.in_ok-told.field-0.1; polled = c.in_ok-polled.polled } in
     let w = subst (λ (s : SessionView). HasUpdatedTwice s waiting op heard.first heard.second) first c.in_ok-told.ensures.told in
-    let p = subst (λ (s : SessionView). HasUpdated s polls op heard.polled) second c.in_ok-polled.ensures.told in
+    let waits = subst (λ (s : SessionView). Adds s waiting (two_calls s.session op heard.first heard.second)) first
+    c.in_ok-told.ensures.adds in
+    let answered = subst (λ (s : SessionView). Adds s polls (call_and_back s.session op heard.polled)) second
+    c.in_ok-polled.ensures.adds in
     record {
       explained = subst (λ (z : Setup). AreExplained z op heard (last_state c.close-closed.result)) (λ i. record { config = opened.0 i; catalogue = opened.1 i })
-          (are_explained store op heard (waiting ∷ polls ∷ []) c.close-closed.result c.close-closed.ensures.linear waiting polls 0 1 refl refl w p);
+          (are_explained store op heard (waiting ∷ polls ∷ []) c.close-closed.result c.close-closed.ensures.explained
+          waiting polls 0 1 refl refl (fresh 0) w waits.same waits.own answered.same answered.own);
     }

@@ -1,11 +1,12 @@
-use Rattle.std.proofs.Common.{◌≡◌, refl, sym, ap, ◌∙◌, subst, ◌∷◌, []}
+use Rattle.std.proofs.Common.{refl, sym, ap, ◌∙◌, subst, ◌∷◌, ◌++◌, []}
 use Rattle.loader.specs.StoreState.{StoreState}
 use Rattle.store_steps.specs.Views.{op_of}
 use Rattle.store_steps.specs.declared.values.Setup.{Setup}
+use Rattle.store.specs.Sessions.{fresh_session}
 use Rattle.host_calls.specs.Views.{AttachedView}
-use Rattle.example_calls.specs.Heard.{AreExplained, HasUpdated, HasUpdatedTwice}
+use Rattle.example_calls.specs.Heard.{AreExplained, HasUpdated, HasUpdatedTwice, call_and_back}
 use Rattle.example_calls.specs.declared.heard.Heard.{Heard}
-use Rattle.example_calls.proofs.Export.{are_explained}
+use Rattle.example_calls.proofs.Export.{are_explained, noted_by}
 use Rattle.example_raw_calls.proofs.Two.{attached_both, detached_first, detached_second, its_own, last_of, some_then}
 use Rattle.example_raw_calls.proofs.answers_of_two.Goals as goal
 
@@ -74,8 +75,13 @@ returns g c =
     (c.in_ok-told.ensures.told a.0 m.0 a.1 m.1) in
     let p = subst (λ (z : AttachedView). HasUpdated z.session n.0.session op heard.polled) t.second
     (c.in_ok-polled.ensures.told b.0 n.0 b.1 n.1) in
+    let x = fresh_session t.store.id t.store.config t.store.catalogue 0 in
+    let y = fresh_session t.store.id t.store.config t.store.catalogue 1 in
+    let first = noted_by x w.between op heard.first w.once in
+    let second = noted_by w.between m.0.session op heard.second w.again in
+    let waits = second ∙ (λ k. first k ++ call_and_back (w.once.session k) op heard.second) in
     let explained = are_explained t.store op heard (n.0.session ∷ m.0.session ∷ []) last.0 last.1 m.0.session n.0.session
-    1 0 refl refl w p in
+    1 0 refl refl x w (w.again.session ∙ w.once.session) waits p.session (noted_by y n.0.session op heard.polled p) in
     record {
       explained = record {
         catalogue = t.is.catalogue;

@@ -1,4 +1,4 @@
-use Rattle.std.proofs.Common.{sym, ap, subst, ◌∙◌}
+use Rattle.std.proofs.Common.{Ok, Some, sym, ap, subst, ◌∙◌}
 use Rattle.combiner.specs.Desks.{BatchView}
 use Rattle.replica.specs.StoreMeaning.{store_meaning}
 use Rattle.accounts.specs.Accounts.{IsWellFormed}
@@ -10,6 +10,7 @@ use Rattle.store_steps.specs.Views.{SessionView, known_of, session_view}
 use Rattle.store.specs.Sessions.{HasRoom, IsOf}
 use Rattle.store_steps.proofs.Export.{seen_as}
 use Rattle.store.proofs.Gone.{begin_goes}
+use Rattle.store.proofs.Linear.{adds_asked, adds_still}
 use Rattle.store.proofs.Between.{goes_on, goes_still, idle_at, on_at, room_on, well_at}
 use Rattle.store.proofs.Invoked.{may_ask}
 use Rattle.store.proofs.polled.Polled.begin.Goals as goal
@@ -58,6 +59,10 @@ returns-in_default-clause-session c =
 pub returns-in_default-clause-stays : goal.returns-in_default-clause-stays
 returns-in_default-clause-stays c = ap session_view c.in_default.ensures.stays.0 ∙ c.self.view_is
 
+pub returns-in_default-clause-adds : goal.returns-in_default-clause-adds
+returns-in_default-clause-adds c = adds_still c.args.self.now (session_view c.try_begin.new.seat)
+    (ap session_view c.in_default.ensures.stays.0 ∙ c.self.view_is)
+
 -- ---- it is posted
 
 pub returns-clause-session : goal.returns-clause-session
@@ -74,3 +79,9 @@ returns-clause-goes c = subst (λ (z : SessionView). BeginsBy (known_of z) (know
 
 pub returns-clause-held : goal.returns-clause-held
 returns-clause-held c = subst (λ (z : SessionView). BeginsInOneHold (known_of z) (known_of (session_view c.try_begin.new.seat)) c.args.op.now) c.self.view_is c.in-Some.ensures.held
+
+pub returns-clause-adds : goal.returns-clause-adds
+unfolding returns-clause-session returns-clause-asked
+returns-clause-adds c =
+    adds_asked c.args.store.now c.args.self.now (session_view c.try_begin.new.seat) c.args.op.now
+    (returns-clause-session c) (Ok (Some (tt {0}))) (returns-clause-asked c)

@@ -1,4 +1,4 @@
-use Rattle.std.proofs.Common.{refl, sym, ap, subst, ◌∙◌}
+use Rattle.std.proofs.Common.{Ok, Some, refl, sym, ap, subst, ◌∙◌}
 use Rattle.replica.specs.StoreMeaning.{store_meaning}
 use Rattle.accounts.specs.Accounts.{IsWellFormed}
 use Rattle.store_steps.specs.Stages.{IsPolled}
@@ -8,6 +8,7 @@ use Rattle.store.specs.Sessions.{HasRoom, IsOf}
 use Rattle.store_steps.proofs.Export.{goes_seen, on_known}
 use Rattle.store_laws.specs.CallsMade.{GoneOn}
 use Rattle.store.proofs.Gone.{gone_did}
+use Rattle.store.proofs.Linear.{adds_post, adds_still}
 use Rattle.store.proofs.Between.{goes_on, goes_still, idle_at, on_at, post_grown, post_session, post_told, post_well, posted_at, room_on, well_at}
 use Rattle.store_steps.specs.Updating.{PostsBy}
 use Rattle.store.proofs.polled.Polled.post.Goals as goal
@@ -50,6 +51,10 @@ returns-in_default-clause-session c =
 pub returns-in_default-clause-stays : goal.returns-in_default-clause-stays
 returns-in_default-clause-stays c = ap session_view c.in_default.ensures.stays ∙ c.self.view_is
 
+pub returns-in_default-clause-adds : goal.returns-in_default-clause-adds
+returns-in_default-clause-adds c = adds_still c.args.self.now (session_view c.try_post.new.seat)
+    (ap session_view c.in_default.ensures.stays ∙ c.self.view_is)
+
 -- ---- it is posted
 
 pub returns-clause-session : goal.returns-clause-session
@@ -79,3 +84,9 @@ returns-clause-goes c =
     let i = idle_at s.seat s.caller s.batch s.replies s.stage c.self.invariant.0 none in
     let p = c.in-Some.ensures.posted i.known i.is in
     goes_seen (λ x y. PostsBy x y c.args.op.now) s.seat c.try_post.new.seat c.args.self.now i.known p.0 i.is i.free.held c.self.view_is p.1 p.2.back.held p.3
+
+pub returns-clause-adds : goal.returns-clause-adds
+unfolding returns-clause-session returns-clause-posted
+returns-clause-adds c =
+    adds_post c.args.store.now c.args.self.now (session_view c.try_post.new.seat) c.args.op.now
+    (returns-clause-session c) (Ok (Some (tt {0}))) (returns-clause-posted c)

@@ -7,6 +7,7 @@ use Rattle.store_steps.proofs.Export.{goes_seen, seen_as}
 use Rattle.store_steps.specs.Views.{SessionView, session_view}
 use Rattle.store_steps.specs.Updating.{UpdatesBy}
 use Rattle.store.proofs.Gone.{update_goes}
+use Rattle.store.proofs.Linear.{adds_update}
 use Rattle.store.proofs.Invoked.{goes_on, has_asked, has_grown, invoked, is_idle, may_ask, tells_update}
 use Rattle.store.proofs.session.Session.perform.Goals as goal
 
@@ -55,9 +56,12 @@ returns-then-at_once g c =
     let now = seen_as seat a.after a.is in
     let same = c.ask_at_once-given.ensures.same ∙ ap (λ (z : SessionView). z.shelf) c.self.view_is in
     let by = goes_seen (λ k f. UpdatesBy k f op c.ask_at_once-given.result) c.self.inside.seat seat c.args.self.now k a.after c.self.invariant.0.is c.self.invariant.0.free.held c.self.view_is a.is v.held (record { asked = a.asked; posts = a.posts; completes = a.completes }) in
+    let on = goes_on c.args.store.now c.args.self.now new c.self.inside.seat.shelf seat.shelf k a.after op c.ask_at_once-given.result v was now c.requires.own same (update_goes _ _ op _ by) in
+    let told = subst (λ r. TellsUpdate c.args.self.now new op r) (sym c.answer_of.ensures.said) (tells_update c.args.store.now c.args.self.now new c.self.inside.seat.shelf seat.shelf k a.after op c.ask_at_once-given.result v was now c.self.invariant.0.pending c.self.invariant.0.batch) in
     record {
-      session = goes_on c.args.store.now c.args.self.now new c.self.inside.seat.shelf seat.shelf k a.after op c.ask_at_once-given.result v was now c.requires.own same (update_goes _ _ op _ by);
-      answered = subst (λ r. TellsUpdate c.args.self.now new op r) (sym c.answer_of.ensures.said) (tells_update c.args.store.now c.args.self.now new c.self.inside.seat.shelf seat.shelf k a.after op c.ask_at_once-given.result v was now c.self.invariant.0.pending c.self.invariant.0.batch);
+      session = on;
+      answered = told;
+      adds = adds_update c.args.store.now c.args.self.now new op on c.answer_of.result told;
       goes = (
         c.ask_at_once-given.result,
         c.answer_of.ensures.said,
@@ -99,9 +103,12 @@ returns g c =
     let now = seen_as seat f.0 f.1 in
     let same = c.complete-reply.ensures.same ∙ (c.post.ensures.same ∙ ap (λ (z : SessionView). z.shelf) c.self.view_is) in
     let by = goes_seen (λ k f. UpdatesBy k f op c.complete-reply.result) c.self.inside.seat seat c.args.self.now k f.0 c.self.invariant.0.is c.self.invariant.0.free.held c.self.view_is f.1 v.held (record { asked = p.0; posts = p.3; completes = f.3 }) in
+    let on = goes_on c.args.store.now c.args.self.now new c.self.inside.seat.shelf seat.shelf k f.0 op c.complete-reply.result v was now c.requires.own same (update_goes _ _ op _ by) in
+    let told = subst (λ r. TellsUpdate c.args.self.now new op r) (sym c.answer_of-2.ensures.said) (tells_update c.args.store.now c.args.self.now new c.self.inside.seat.shelf seat.shelf k f.0 op c.complete-reply.result v was now c.self.invariant.0.pending c.self.invariant.0.batch) in
     record {
-      session = goes_on c.args.store.now c.args.self.now new c.self.inside.seat.shelf seat.shelf k f.0 op c.complete-reply.result v was now c.requires.own same (update_goes _ _ op _ by);
-      answered = subst (λ r. TellsUpdate c.args.self.now new op r) (sym c.answer_of-2.ensures.said) (tells_update c.args.store.now c.args.self.now new c.self.inside.seat.shelf seat.shelf k f.0 op c.complete-reply.result v was now c.self.invariant.0.pending c.self.invariant.0.batch);
+      session = on;
+      answered = told;
+      adds = adds_update c.args.store.now c.args.self.now new op on c.answer_of-2.result told;
       goes = (
         c.complete-reply.result,
         c.answer_of-2.ensures.said,

@@ -1,10 +1,11 @@
 use Rattle.std.proofs.Common.{rules, ◌≡◌, ◌+◌, ◌<◌, length, take, sym, ap, ◌∙◌, subst}
 use Rattle.ownlock.specs.Seats.{HoldsNone}
+use Rattle.loader.specs.CatalogueView.{IsCatalogue}
 use Rattle.store.specs.Opening.{AreLeft, AreOf, IsClosed, IsLogFor, closed_view, log_in}
 use Rattle.store.specs.Sessions.{StoreView}
 use Rattle.store_steps.specs.Shelving.{sessions_of, store_opening}
 use Rattle.store.proofs.Closing.{all_notes, are_left, is_closed, left_of, log_for, some_sessions}
-use Rattle.store.proofs.Explained.{closes_explained, closes_linear}
+use Rattle.store.proofs.Explained.{closes_explained}
 use Rattle.store.proofs.Joined.{back_holds_none, back_long}
 use Rattle.store.proofs.store.Store.close.Goals as goal
 
@@ -51,8 +52,10 @@ returns-clause-closed c =
 
 pub returns-clause-explained : goal.returns-clause-explained
 unfolding returns-clause-closed
-returns-clause-explained c = closes_explained _ _ c.new.result (returns-clause-closed c)
+returns-clause-explained c =
+    let whole = subst (λ (z : StoreView). IsCatalogue z.catalogue) c.self.view_is c.places-places.ensures.whole in
+    closes_explained c.typable_programs_run.ensures _ _ c.new.result whole (returns-clause-closed c)
 
 pub returns-clause-linear : goal.returns-clause-linear
-unfolding returns-clause-closed
-returns-clause-linear c = closes_linear _ _ c.new.result (returns-clause-closed c)
+unfolding returns-clause-explained
+returns-clause-linear c = let e = returns-clause-explained c in (e.is.progress.history, e.linear)

@@ -1,0 +1,206 @@
+-- What a call adds, by what it tells; and the history of a closed store linearizes what its sessions did.
+use Rattle.std.proofs.Common.{◌≡◌, ◌++◌, List, [], ◌∷◌, append-nil, append_assoc, map, refl, sym, ap, ◌∙◌, subst, Option, Some, None, Result, Ok, Err}
+use Rattle.std.specs.Prelude.{MatchOption}
+use Rattle.std.proofs.lemmas.List.{map-append}
+use Rattle.std.proofs.lemmas.List.Elements.{All-weaker}
+use Rattle.ownlock.specs.Seats.{At, own_steps}
+use Rattle.verifier.specs.declared.refusal.Mode.TheVariants.{Update}
+use Rattle.machine.specs.Soundness.{TypableProgramsRun}
+use Rattle.loader.specs.CatalogueView.{IsCatalogue}
+use Rattle.oplog.specs.Operations.{Operation}
+use Rattle.combiner.specs.declared.slots.Reply.{Reply}
+use Rattle.combiner.specs.declared.slots.Reply.TheVariants.{Ended, Placed}
+use Rattle.replica.specs.declared.refusals.StoreRefused.{StoreRefused}
+use Rattle.accounts.specs.Moves.{answered_with, posted_with}
+use Rattle.accounts.specs.Told.{updated_with}
+use Rattle.accounts.specs.declared.sessions.Pending.{Pending}
+use Rattle.accounts.specs.declared.sessions.SessionEvent.TheVariants.{UpdateBack, UpdateCall}
+use Rattle.accounts.specs.declared.sessions.SessionNote.{SessionNote}
+use Rattle.schedule.specs.Explains.{Explains as SchedExplains}
+use Rattle.schedule.specs.Trace.{Back, Call, Trace, Updated, caller}
+use Rattle.store_steps.specs.Asking.{asked_op}
+use Rattle.store_steps.specs.Shelving.{places_of, sessions_of}
+use Rattle.store_steps.specs.Stages.{IsOnItsWay}
+use Rattle.store_steps.specs.Views.{SessionView, known_of}
+use Rattle.store_laws.specs.CallsMade.{GoneOn, events_of_session}
+use Rattle.store_laws.specs.OwnEvents.{event_of, own_trace, trace_of}
+use Rattle.store_laws.specs.RunEvents.{opening_of}
+use Rattle.store_laws.proofs.Export.{notes_tell, since_begins, trace_goes_on, traces_are_theirs, traces_tell}
+use Rattle.store_laws.proofs.Export.{updates_are_explained}
+use Rattle.promise.proofs.Export.{explains}
+use Rattle.store.specs.Adding.{ListsAdd, LooksAddNothing, PollsAdd, PostsAdd}
+use Rattle.store.specs.Linear.{Adds, AddsAnswer, AddsPost, AddsUpdate, Linearizes, own_events, seen}
+use Rattle.store.specs.Opening.{ClosedView, IsClosed, setup_of}
+use Rattle.store.specs.PolledPipelines.{IsTold}
+use Rattle.store.specs.Polled.{TellsAsked, TellsCompleted, TellsPost}
+use Rattle.store.specs.Sessions.{SessionGoesOn, StoreView, TellsUpdate}
+use Rattle.store.specs.declared.answers.Answer.{Answer}
+
+-- ---- what is seen, and what is noted
+
+seen_then : (old new : SessionView) → GoneOn (known_of old) (known_of new)
+    → (more : Trace) × (seen new ≡ seen old ++ more)
+seen_then old new gone =
+    let more = trace_goes_on gone.0.0 old.run in
+    (more.0, ap trace_of gone.0.1 ∙ more.1)
+
+-- the notes of a session grow by these events
+abbrev pub Notes : (old new : SessionView) → Trace → Type 0
+Notes old new events = own_trace old.session new.note ≡ own_trace old.session old.note ++ events
+
+pub adds_noted : (old new : SessionView) (events : Trace) → new.session ≡ old.session
+    → GoneOn (known_of old) (known_of new) → Notes old new events → Adds old new events
+adds_noted old new events same gone noted = record {
+  same = same;
+  own = ap (λ x. own_trace x new.note) same ∙ noted;
+  grown = seen_then old new gone;
+}
+
+adds : (store : StoreView) (old new : SessionView) (events : Trace) → SessionGoesOn store old new
+    → Notes old new events → Adds old new events
+adds store old new events goes noted = adds_noted old new events goes.same.1 goes.gone noted
+
+-- and nothing, if the session is as it was
+pub adds_still : (old new : SessionView) → new ≡ old → Adds old new []
+adds_still old new same = subst (λ z. Adds old z []) (sym same) (record {
+  same = refl;
+  own = sym (append-nil (own_events old));
+  grown = ([], sym (append-nil (seen old)));
+})
+
+-- after two calls it has added what each has
+pub adds_then : (old mid new : SessionView) (first second : Trace) → Adds old mid first → Adds mid new second
+    → Adds old new (first ++ second)
+adds_then old mid new first second a b = record {
+  same = b.same ∙ a.same;
+  own = b.own ∙ (ap (λ t. t ++ second) a.own ∙ append_assoc (own_events old) first second);
+  grown =
+      let all = ap (λ t. t ++ b.grown.0) a.grown.1 ∙ append_assoc (seen old) a.grown.0 b.grown.0 in
+      (a.grown.0 ++ b.grown.0, b.grown.1 ∙ all);
+}
+
+pub quiet : (old new : SessionView) → new.note ≡ old.note → Notes old new []
+quiet old new same = ap (own_trace old.session) same ∙ sym (append-nil (own_trace old.session old.note))
+
+-- a call that leaves the note adds nothing
+pub adds_nothing : (store : StoreView) (old new : SessionView) → SessionGoesOn store old new → new.note ≡ old.note
+    → Adds old new []
+adds_nothing store old new goes same = adds store old new [] goes (quiet old new same)
+
+pub still : (old new : SessionView) → new ≡ old → Notes old new []
+still old new same = quiet old new (ap (λ (s : SessionView). s.note) same)
+
+-- ---- what a call adds
+
+-- who has posted this request
+pub posts_notes : (old new : SessionView) (o : Pending) (op : Operation) → o.op ≡ op
+    → new.note.events ≡ (posted_with old.note o).events → Notes old new (Call old.session Update op ∷ [])
+posts_notes old new o op is noted = ap (map (event_of old.session)) noted
+    ∙ (map-append (event_of old.session) old.note.events (UpdateCall o.op ∷ [])
+    ∙ ap (λ z. own_trace old.session old.note ++ Call old.session Update z ∷ []) is)
+
+-- who waits still
+pub waits_notes : (old new : SessionView) → IsOnItsWay old new → Notes old new []
+waits_notes old new way = ap (λ (n : SessionNote). map (event_of old.session) n.events) way
+    ∙ sym (append-nil (own_trace old.session old.note))
+
+-- who has the answer
+pub answered_notes : (old new : SessionView) (o : Pending) (reply : Reply)
+    → new.note ≡ answered_with (record old.note { batch = [] }) o.op reply
+    → Notes old new (Back old.session (Updated reply) ∷ [])
+answered_notes old new o (Placed i x) note = ap (own_trace old.session) note
+    ∙ map-append (event_of old.session) old.note.events (UpdateBack (Placed i x) ∷ [])
+answered_notes old new o Ended note = ap (own_trace old.session) note
+    ∙ map-append (event_of old.session) old.note.events (UpdateBack Ended ∷ [])
+
+module _ (store : StoreView) (old new : SessionView) (op : Operation) (goes : SessionGoesOn store old new) where
+  updates : (reply : Reply) → new.note ≡ updated_with old.note op reply
+      → Adds old new (Call old.session Update op ∷ Back old.session (Updated reply) ∷ [])
+  updates (Placed i x) note = adds store old new _ goes (ap (own_trace old.session) note
+      ∙ map-append (event_of old.session) old.note.events (UpdateCall op ∷ UpdateBack (Placed i x) ∷ []))
+  updates Ended note = adds store old new _ goes (ap (own_trace old.session) note
+      ∙ map-append (event_of old.session) old.note.events (UpdateCall op ∷ UpdateBack Ended ∷ []))
+
+  pub adds_update : (result : Result Answer StoreRefused) → TellsUpdate old new op result → AddsUpdate old new op result
+  adds_update (Ok a) told = (Placed a.index a.reply, refl, updates (Placed a.index a.reply) told.1)
+  adds_update (Err e) told = (Ended, ap Err told.0, updates Ended told.2)
+
+  posts : (o : Pending) → o.op ≡ op → new.note.events ≡ (posted_with old.note o).events
+      → Adds old new (Call old.session Update op ∷ [])
+  posts o is noted = adds store old new _ goes (posts_notes old new o op is noted)
+
+  pub adds_post : {A : Type 0} (result : Result (Option A) StoreRefused) → TellsPost old new op result
+      → AddsPost old new op result
+  adds_post (Ok None) told = adds_still old new told
+  adds_post (Ok (Some a)) told = posts told.0 told.1 (ap (λ (n : SessionNote). n.events) told.3)
+  adds_post (Err e) told = absurd told
+
+  pub adds_asked : {A : Type 0} (result : Result (Option A) StoreRefused) → TellsAsked old new op result
+      → AddsPost old new op result
+  adds_asked (Ok None) told = adds_still old new told
+  adds_asked (Ok (Some a)) told = posts told.0 told.1 (ap (λ (n : SessionNote). n.events) told.3)
+  adds_asked (Err e) told = absurd told
+
+-- who goes on with its update until it has the answer
+pub adds_back : (store : StoreView) (old mid new : SessionView) (o : Pending) (reply : Reply)
+    → SessionGoesOn store old new → IsOnItsWay old mid → new.note ≡ answered_with (record mid.note { batch = [] }) o.op reply
+    → Adds old new (Back old.session (Updated reply) ∷ [])
+adds_back store old mid new o reply goes way note = adds store old new _ goes
+    (answered_notes old new o reply (note ∙ (λ j. answered_with (way j) o.op reply)))
+
+pub adds_answer : (store : StoreView) (old new : SessionView) (o : Pending) → SessionGoesOn store old new
+    → (result : Option (Result Answer StoreRefused)) → TellsCompleted old new o result → AddsAnswer old new result
+adds_answer store old new o goes None told = adds store old new [] goes (waits_notes old new told)
+adds_answer store old new o goes (Some r) told =
+    (told.0, told.1, adds store old new _ goes (answered_notes old new o told.0 told.2.1))
+
+-- ---- looks and lists
+
+pub looks_add_nothing : LooksAddNothing
+looks_add_nothing store old new goes same = adds_nothing store old new goes same
+
+pub lists_add : ListsAdd
+lists_add store old new calls answers goes tells j s t q was now call =
+    let told = tells j s t q was now call in
+    (told.0, told.1, adds_update store s t (asked_op q) (goes.1 j s t was now) told.0 told.2)
+
+pub posts_add : PostsAdd
+posts_add store old new calls goes asks j s t q was now call =
+    let told = (asks j s t q was now call).0 in
+    posts store s t (asked_op q) (goes.1 j s t was now) told.0 told.1 (ap (λ (n : SessionNote). n.events) told.3)
+
+pub polls_add : PollsAdd
+polls_add store old new answers result goes told j s t o was now waits = by result (told j s t o was now waits)
+  where
+    Has : (Result Answer StoreRefused → Type 0) → Type 0
+    Has P = (a : Result Answer StoreRefused) × At j a answers × P a
+
+    by : (r : Option (Unit {0})) → MatchOption r (IsTold s t o None) (λ _. Has (λ a. IsTold s t o (Some a)))
+        → MatchOption r (AddsAnswer s t None) (λ _. Has (λ a. AddsAnswer s t (Some a)))
+    by None is = adds_answer store s t o (goes.1 j s t was now) None is.0
+    by (Some x) is = (is.0, is.1, adds_answer store s t o (goes.1 j s t was now) (Some is.0) is.2.0)
+
+-- ---- one list of operations
+
+pub linearizes : TypableProgramsRun → (store : StoreView) (sessions : List SessionView) (closed : ClosedView)
+    → IsCatalogue store.catalogue → (c : IsClosed store sessions closed) → Linearizes store sessions c.progress.history
+linearizes always store sessions closed whole c =
+    let m = opening_of (setup_of store) in
+    let count = sessions_of store.config in
+    let places = places_of store.config in
+    let is = traces_tell m count places c.run c.progress c.notes c.leads in
+    let explained = updates_are_explained m count places c.run c.progress c.notes c.leads in record {
+      trace = trace_of c.run;
+      own = λ a s at. ap (events_of_session s.session) (sym is)
+          ∙ notes_tell m count places c.run c.progress c.notes c.leads s.session s.note (c.noted a s at);
+      only = All-weaker _ _ (λ e few. c.all (caller e) few) (trace_of c.run)
+          (traces_are_theirs m count places c.run c.progress c.notes c.leads);
+      begins = λ a s at.
+          let on = c.goes_on a s at in
+          let own = ap (own_steps s.session) (sym on.1) ∙ c.own a s at in
+          let more = since_begins s.session on.0 s.run s.steps (c.ends a s at).seen own in
+          (more.0, ap trace_of on.1 ∙ more.1, more.2);
+      positions = explained.0;
+      explains = explains always m c.progress.history explained.0 (trace_of c.run) whole
+          (subst (λ t. SchedExplains m c.progress.history explained.0 t) is explained.1);
+    }
