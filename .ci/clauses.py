@@ -111,6 +111,7 @@ class Module:
     def __init__(self, crate, name, file):
         self.crate, self.name, self.path = crate, name, f"Rattle.{crate}.specs.{name.replace('/', '.')}"
         self.lines, self.cites, self.constructors = defaultdict(int), defaultdict(set), {}
+        self.parts = {}
         self.scope = Scope()
         lines = [it for it in read(file).splitlines() if it.strip() and not re.match(r"\s*--|infix", it)]
         for line in lines:
@@ -157,11 +158,14 @@ class Module:
         own, _, body = text.partition(" where")
         found = cited(head, self.scope) | cited(own.partition(name)[2], self.scope, self.parameters(head))
         bound = self.parameters(head) | self.parameters(own)
-        parts = re.split(r"\n +(?:pub )?(\S+) : ", body)
+        parts, fields = re.split(r"\n +(?:pub )?(\S+) : ", body), []
         for label, type_of in zip(parts[1::2], parts[2::2]):
-            found |= cited(type_of, self.scope, bound)
+            fields.append((label, cited(type_of, self.scope, bound)))
             bound |= {label}
-        return found
+        # (a record about nothing whose fields state nothing is what its fields are)
+        if not head and re.match(r"(pub )?record \S+ : ", own) and not re.search(r"[≡≢≤<⊥↔]", body):
+            self.parts[name] = fields
+        return found.union(*(some for _, some in fields))
 
     def cites_of_value(self, name, text, head):
         """What a function cites: its type, and each equation, whose patterns hide their variables."""
@@ -324,12 +328,30 @@ class Source:
         return ghosts, functions, scope
 
 
+def names_in(text):
+    """The fields that a text takes or gives, and its words that begin with a capital, as variants do."""
+    return {it for some in re.findall(r"\.(\w+)|\b(\w+)(?= = )|\b([A-Z]\w*)", text) for it in some if it}
+
+
+def fields_of(body):
+    """The fields of a struct and the variants of an enum, each with its name and text."""
+    depth, begins, found = 0, 0, []
+    for at, it in enumerate(body + ","):
+        depth += (it in "({[<") - (it in ")}]>")
+        if it == "," and not depth:
+            found.append(body[begins:at])
+            begins = at + 1
+    named = (re.match(r"\s*(?:#\[[^\]]*\]\s*)*(?:pub(?:\([^)]*\))? )?(\w+)", it) for it in found)
+    return [(it[1], text) for it, text in zip(named, found) if it]
+
+
 class Repository:
     """`cites` leads from each node to those that it cites; `inner` from a type to what only the way cites in which its values lie in memory:
     the view, the codes and the invariant of its model, or its ghost fields. `calls` are the public calls and types. A law is a function that
     takes nothing and does nothing, so that its clauses are all that it is; `hidden` are the laws that users of the crate can't name; `ghosts`
-    has of each ghost member of src/ how many lines it has, `texts` its text. `named` has of each call its clauses, each with what it names
-    itself; of these calls `laws` are laws, and `types` are types. `scopes` has what names stand for in a call's clauses and in a ghost member of
+    has of each ghost member of src/ how many lines it has, `texts` its text. `parts` has of a record, a struct or an enum what each of its fields or
+    variants leads to, and of a type what its impl of a trait says: these count in `needed` alone. `private` are the ghost members of the models of
+    structs without a public field. `named` has of each call its clauses, each with what it names itself; of these calls `laws` are laws, and `types` are types. `scopes` has what names stand for in a call's clauses and in a ghost member of
     an impl. `type_lines` has how many lines a type or a trait of the code has."""
 
     def __init__(self, top):
@@ -346,11 +368,21 @@ class Repository:
                 for name in files_below(f"{folder}/src", ".rt"):
                     self.sources[crate, name] = Source(crate, name, f"{folder}/src/{name}.rt")
         self.texts, self.named, self.laws, self.types = {}, defaultdict(list), set(), set()
-        self.scopes, self.type_lines = {}, {}
+        self.scopes, self.signatures, self.type_lines = {}, {}, {}
+        self.parts, self.words, self.private = defaultdict(list), defaultdict(set), set()
         self.public = {crate: self.public_of(crate, "lib") for crate in self.libraries}
         for module in self.modules.values():
             for name, pairs in module.cites.items():
                 self.cites[Definition(module.crate, module.name, name)] |= self.nodes(pairs)
+        # (a record that no definition cites is a list of statements)
+        of_values = set().union(*self.cites.values())
+        for module in self.modules.values():
+            for name, _, text, _ in module.texts:
+                it = Definition(module.crate, module.name, name)
+                if name in module.parts and it in of_values:
+                    self.parts[it] = [((label,), self.nodes(pairs)) for label, pairs in module.parts[name]]
+                else:
+                    self.words[it] |= names_in(text)
         self.modelled = {}
         for source in self.sources.values():
             for name, function in source.functions.items():
@@ -440,16 +472,28 @@ class Repository:
         """What a clause or a ghost member cites; it may name types as Rust does."""
         return self.nodes(cited(text, scope, bound)) | self.types_in(text, source, own)
 
+    def types_named(self, call, text):
+        """The types of those values of a call that a text names. `IfOk result (λ _. ..)` names none of the result."""
+        signature, source, own = self.signatures[call]
+        text = re.sub(r"\bresult \(λ _\.", "", text)
+        opens = signature.index("(")
+        ends = closing(signature, opens)
+        values = [*fields_of(signature[opens + 1 : ends]), ("result", signature[ends + 1 :])]
+        values = [("self" if re.match(r"\s*&?\s*(mut )?self\b", it) else name, it) for name, it in values]
+        return {it for name, type_of in values if re.search(rf"\b{name}\b", text) for it in self.types_in(type_of, source, own)}
+
     # what each cites
 
     def add_call(self, source, name, function, is_public, own=None):
         node = Call(source.crate, source.module, name)
         self.scopes[node] = function.scope
+        self.signatures[node] = (function.signature, source, own)
         self.cites[node] |= self.types_in(function.signature, source, own)
         parameters = set(re.findall(r"\b(\w+)\s*:(?!:)", function.signature))
         for clause in function.clauses:
             named = self.cited_in(clause.text, function.scope, source, parameters, own)
             self.cites[node] |= named
+            self.words[node] |= names_in(clause.text)
             self.named[node].append((clause, named))
         self.laws |= {node} if function.is_law else set()
         self.calls |= {node} if is_public else set()
@@ -466,13 +510,16 @@ class Repository:
         self.cites[own] |= self.types_in(block.head, source) - {own}
         ghosts, functions, scope = source.members(block.body)
         is_model = bool(is_of) and trait.endswith("Model")
+        of_trait = self.types_in(trait, source) if is_of and not is_model else set()
+        self.parts[own] += [((it,), self.types_in(block.head, source) - {own}) for it in of_trait]
         for name, text in ghosts:
             if name not in PROOFS:
                 into = self.inner if is_model and name != "Value" else self.cites
                 node = self.add_ghost(source, own, trait if is_of else "", name, text, self.cited_in(text, scope, source) - {own}, into)
                 self.scopes[node] = scope
+                self.parts[own] += [((it, name), {node}) for it in of_trait]
         if is_model:
-            self.modelled[own] = " ".join(text for _, text in ghosts)
+            self.modelled[own] = [(Definition(own.crate, f"src/{source.module}", f"{own.name}.{name}"), text) for name, text in ghosts]
         for name, function in functions.items():
             self.add_call(source, f"{own.name}::{name}", function, self.is_public(own) and (function.is_public or bool(is_of)), own)
 
@@ -487,6 +534,7 @@ class Repository:
         node = Definition(own.crate, f"src/{source.module}", f"{of}.{name}")
         self.ghosts[node] = max(1, sum(bool(it.strip()) for it in text.splitlines()))
         self.texts[node] = text
+        self.words[node] |= names_in(text)
         self.cites[node] |= cited
         into[own].add(node)
         return node
@@ -504,21 +552,43 @@ class Repository:
         if block.kind == "trait":
             ghosts, functions, scope = source.members(block.body)
             for name, text in ghosts:
-                self.add_ghost(source, own, "", name, text, self.cited_in(text, scope, source) - {own}, self.cites)
+                node = self.add_ghost(source, own, "", name, text, self.cited_in(text, scope, source) - {own}, self.cites)
+                self.parts[own].append(((name,), {node}))
             for name, function in functions.items():
                 self.add_call(source, f"{block.name}::{name}", function, self.is_public(own), own)
         elif own in self.modelled:
+            if block.kind == "struct" and not re.search(r"\bpub (?!\()", block.body):
+                self.private |= {node for node, _ in self.modelled[own]}
             for name, type_of in re.findall(r"(\w+)\s*:\s*([^\n]*)", block.body):
-                if re.search(rf"\.{name}\b", self.modelled[own]):
-                    self.inner[own] |= self.types_in(type_of, source) - {own}
+                for node, text in self.modelled[own]:
+                    if re.search(rf"\.{name}\b", text):
+                        self.cites[node] |= self.types_in(type_of, source) - {own}
         else:
             self.cites[own] |= self.types_in(block.body, source) - {own}
+            self.parts[own] += [((label,), self.types_in(text, source) - {own}) for label, text in fields_of(block.body)]
             for name, ghost in re.findall(r"\bghost (\w+): \{([^}]*)\}", block.body):
                 self.add_ghost(source, own, "", name, ghost, self.cited_in(ghost, source.ghosts, source) - {own}, self.inner)
 
+    def needed(self, begin, ways, without=()):
+        """As `reached`, but a record, a struct or an enum leads to those of its fields and variants alone that something reached names, and a type to
+        what its impls say of the traits that are reached."""
+        ways = [{it: set(way.get(it, ())) for it in {*way, *self.parts}} for way in ways]
+        for node, fields in self.parts.items():
+            for way in ways:
+                way[node] = way[node].difference(*(some for _, some in fields))
+        words, found = set(), dict.fromkeys(begin)
+        while True:
+            found = self.reached(found, ways, without)
+            words.update(*(self.words[it] for it in found))
+            named = [(node, some) for node in found for labels, some in self.parts.get(node, ()) if all(it in words or it in found for it in labels)]
+            more = {it: node for node, some in named for it in some if it not in found and it not in without}
+            if not more:
+                return found
+            found |= more
+
     def reached(self, begin, ways, without=()):
         """All that these lead to, each with what led there; what is left out leads nowhere."""
-        found, waiting = dict.fromkeys(begin), list(begin)
+        found, waiting = dict(begin) if isinstance(begin, dict) else dict.fromkeys(begin), list(begin)
         for node in waiting:
             for it in sorted({it for way in ways for it in way.get(node, ())}, key=repr):
                 if it not in found and it not in without:
