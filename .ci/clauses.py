@@ -351,8 +351,9 @@ class Repository:
     takes nothing and does nothing, so that its clauses are all that it is; `hidden` are the laws that users of the crate can't name; `ghosts`
     has of each ghost member of src/ how many lines it has, `texts` its text. `parts` has of a record, a struct or an enum what each of its fields or
     variants leads to, and of a type what its impl of a trait says: these count in `needed` alone. `private` are the ghost members of the models of
-    structs without a public field. `named` has of each call its clauses, each with what it names itself; of these calls `laws` are laws, and `types` are types. `scopes` has what names stand for in a call's clauses and in a ghost member of
-    an impl. `type_lines` has how many lines a type or a trait of the code has."""
+    structs without a public field. `named` has of each call its clauses, each with what it names itself; of these calls `laws` are laws,
+    and `types` are types. `scopes` has what names stand for in a call's clauses and in a ghost member of an impl. `type_lines` has how many
+    lines a type or a trait of the code has."""
 
     def __init__(self, top):
         self.crates, self.libraries, self.modules, self.sources = [], [], {}, {}
