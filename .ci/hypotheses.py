@@ -15,15 +15,13 @@ from collections import defaultdict
 
 from clauses import WORD, Definition, Module, binders, fail
 
-# Records that a reader makes of values that he has: he compares two sizes, or says between which states of a session a call was made.
+# Records that a reader makes of values that he has: he compares two sizes, or says of whole calls what they answered.
 MADE = [
     ("dumps", "WiderLaws", "HasMore"),
     ("explain", "FirstFault", "HasRead"),
     ("loader", "Wider", "NoNarrower"),
-    ("store_laws", "CallsMade", "WentOn"),
     ("store_laws", "InOrder", "WholeCombine"),
     ("store_laws", "InOrder", "WholeLook"),
-    ("store_laws", "ReadsSaid", "SaysRead"),
 ]
 
 OPENS, CLOSES = ("(", "{", "["), (")", "}", "]")

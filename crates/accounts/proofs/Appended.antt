@@ -3,14 +3,14 @@ use Rattle.std.proofs.Common.{◌≡◌, ◌≢◌, ℕ, ◌+◌, ◌<◌, ◌�
 use Rattle.std.proofs.lemmas.Bool.{cases_lt}
 use Rattle.std.proofs.lemmas.Option.{same_Some}
 use native.Mathlib.Decide.{ℕ_discrete}
-use Rattle.atomic_table.proofs.Lists.{set_again}
+use Rattle.atomic_table.proofs.Lists.{set_again, set_here}
 use Rattle.oplog.specs.History.{Meaning}
 use Rattle.oplog.specs.declared.configuration.Sizes.{Sizes}
 use Rattle.oplog.specs.declared.records.Record.{Record}
 use Rattle.ownlock.specs.Seats.{At}
 use Rattle.accounts.proofs.Keeps.{Batches, IsNew, batch_changes}
 use Rattle.accounts.proofs.Lists.{at_behind, at_front, at_joined}
-use Rattle.accounts.proofs.Moved.{claim_accounts, collect_accounts, post_accounts, reply_accounts, some_none}
+use Rattle.accounts.proofs.Moved.{begins_like, claim_accounts, collect_accounts, noted_accounts, post_accounts, reply_accounts, some_none}
 use Rattle.accounts.proofs.Parts.{Alike, alike_on, alike_request, batch_back, placed_back, taken_back, taken_on}
 use Rattle.oplog.specs.Sessions.{IsSessionOf, session}
 use Rattle.accounts.specs.Accounts.{Accounts, HasNoRecord, IsInBatch, IsNoted, IsPlacedIn, IsRequest, IsAllowed, IsRecorded}
@@ -26,7 +26,7 @@ use Rattle.accounts.specs.declared.sessions.Claim.{Claim}
 use Rattle.accounts.specs.declared.sessions.Pending.{Pending}
 use Rattle.accounts.specs.declared.sessions.Progress.{Progress}
 use Rattle.accounts.specs.declared.sessions.SessionNote.{SessionNote}
-use Rattle.ownlock.proofs.Export.{at_one}
+use Rattle.ownlock.proofs.Export.{at_below, at_one}
 
 module _ {C M : Type 0} (E : Meaning C M) where
   module _ (l l' : Progress C) (ns : List SessionNote) (c : ℕ) (n : SessionNote) (w : Accounts E l ns) (here : At c n ns) (config : l'.config ≡ l.config) (catalogue : l'.catalogue ≡ l.catalogue) where
@@ -121,7 +121,9 @@ module _ {C M : Type 0} (E : Meaning C M) where
 
   log_accounts : (l l' : Progress C) (ns : List SessionNote) (c : ℕ) (n n' : SessionNote) → Accounts E l ns → At c n ns → LogMove E l n l' n' → Accounts E l' (set ns c n')
   log_accounts l l' ns c n n' w here m = ⊎_elim
-      (λ keep. subst (λ z. Accounts E l' (set ns c z)) (sym keep.1) (subst (λ z. Accounts E l' z) (sym (set_again ns c n here)) (finish_accounts l l' ns c n w here m.config m.catalogue keep.0 (let low = w.completed in let still = m.completed in let long = ap length keep.0 in omega (arith, low, still, long)))))
+      (λ keep. let like = begins_like E l n n' keep.1 in
+      finish_accounts l l' (set ns c n') c n' (noted_accounts E l ns c n w here n' like.0 like.1) (set_here ns c n' (at_below ns c n here)) m.config m.catalogue keep.0
+      (let low = w.completed in let still = m.completed in let long = ap length keep.0 in omega (arith, low, still, long)))
       (λ t. let limit = t.limit in let top = ap (λ (z : Sizes). z.limit) m.config in let low = w.completed in let still = m.completed in let long = ap length t.history ∙ length-append l.history (map record_of (take t.count n.batch)) in
       subst (λ z. Accounts E l' (set ns c z)) (sym t.note) (append_accounts l l' ns c n w here m.config m.catalogue t.count t.unplaced t.history (omega (arith, low, still, long)) (omega (arith, limit, top))))
       m.appends
@@ -138,7 +140,7 @@ module _ {C M : Type 0} (E : Meaning C M) where
       (subst (λ (z : Pending). Answers E l c (length n.answered) z.op reply) one st.2, st.3)
 
   desk_accounts : (l : Progress C) (ns : List SessionNote) (c : ℕ) (n n' : SessionNote) (x : DeskView) → Accounts E l ns → At c n ns → DeskAgrees E l ns x → IsSessionOf l.config x.node c → DeskMove E x c l n n' → Accounts E l (set ns c n')
-  desk_accounts l ns c n n' x w here desk mine (Posts o idle may seen e) = subst (λ z. Accounts E l (set ns c z)) (sym e) (post_accounts E l ns c n w here o idle may seen)
+  desk_accounts l ns c n n' x w here desk mine (Posts o idle may seen e) = subst (λ z. Accounts E l (set ns c z)) (sym e) (post_accounts E l ns c n w here o idle.0 may seen)
   desk_accounts l ns c n n' x w here desk mine (Claims empty e) = subst (λ z. Accounts E l (set ns c z)) (sym e) (claim_accounts E l ns c n w here x desk mine empty)
   desk_accounts l ns c n n' x w here desk mine (Replies e) = subst (λ z. Accounts E l (set ns c z)) (sym e) (reply_accounts E l ns c n w here)
   desk_accounts l ns c n n' x w here desk mine (Collects s slot o reply is at stage asked e) =
@@ -147,5 +149,6 @@ module _ {C M : Type 0} (E : Meaning C M) where
 
   pub moves_accounts : (p c : ℕ) (x : StoreValue M) (l l' : Progress C) (n n' : SessionNote) (ns : List SessionNote) → Accounts E l ns → At c n ns → AgreesWith E p l ns x → Moves E p c x l n l' n' → Accounts E l' (set ns c n')
   moves_accounts p c (TheLog x) l l' n n' ns w here a m = log_accounts l l' ns c n n' w here m.1
-  moves_accounts p c (TheReplica x) l l' n n' ns w here a m = subst (λ z. Accounts E z (set ns c n')) (sym m.0) (subst (λ z. Accounts E l (set ns c z)) (sym m.1) (subst (λ z. Accounts E l z) (sym (set_again ns c n here)) w))
+  moves_accounts p c (TheReplica x) l l' n n' ns w here a m = subst (λ z. Accounts E z (set ns c n')) (sym m.0) (⊎_elim (λ e. subst (λ z. Accounts E l (set ns c z)) (sym e) (subst (λ z. Accounts E l z) (sym (set_again ns c n here)) w))
+      (λ h. noted_accounts E l ns c n w here n' (record { answered = ap (λ (z : SessionNote). z.answered) (sym h.5); pending = ap (λ (z : SessionNote). z.pending) (sym h.5) }) (ap (λ (z : SessionNote). z.batch) h.5)) m.1)
   moves_accounts p c (TheDesk x) l l' n n' ns w here a m = subst (λ z. Accounts E z (set ns c n')) (sym m.0) (⊎_elim (λ e. subst (λ z. Accounts E l (set ns c z)) (sym e) (subst (λ z. Accounts E l z) (sym (set_again ns c n here)) w)) (λ d. desk_accounts l ns c n n' x w here a.2 d.0 d.1) m.1)

@@ -16,5 +16,6 @@ pub mod Putting
 pub mod StoreLaws
 pub mod Picked
 pub mod DeskNotes
+pub mod ReadNotes
 pub mod Batches
 pub mod Export

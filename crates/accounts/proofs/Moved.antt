@@ -10,11 +10,11 @@ use Rattle.oplog.specs.declared.records.Record.{Record}
 use Rattle.ownlock.specs.Seats.{At}
 use Rattle.accounts.proofs.Keeps.{Batches, IsNew, batch_changes, request_changes}
 use Rattle.accounts.proofs.Lists.{at_behind, at_front, at_joined, at_none}
-use Rattle.accounts.proofs.Parts.{Alike, alike_on, alike_request, batch_back, posted_back, posted_once, author_is}
+use Rattle.accounts.proofs.Parts.{Alike, alike_on, alike_request, batch_back, same_batches, posted_back, posted_once, author_is}
 use Rattle.oplog.specs.Sessions.{IsSessionOf, session}
 use Rattle.accounts.specs.Accounts.{Accounts, HasNoRecord, IsInBatch, IsNoted, IsRequest, IsAllowed, IsRecorded}
 use Rattle.accounts.specs.Agreement.{Answers, DeskAgrees, IsUnclaimed, StageAgrees}
-use Rattle.accounts.specs.Moves.{answered_with, posted_with, unplaced}
+use Rattle.accounts.specs.Moves.{Begins, MayBegin, answered_with, posted_with, unplaced}
 use Rattle.combiner.specs.Desks.{DeskView, batch_of, first_author}
 use Rattle.combiner.specs.declared.slots.Stage.{Stage}
 use Rattle.combiner.specs.declared.slots.Stage.TheVariants.{Posted}
@@ -38,6 +38,19 @@ pub some_none : {A : Type 0} (a : A) (o : Option A) → o ≡ Some a → o ≡ N
 some_none a o e f = subst (λ z. IsThere z) (sym e ∙ f) tt
 
 module _ {C M : Type 0} (E : Meaning C M) where
+  -- a read is accounted for in nothing
+  pub begins_like : (l : Progress C) (n n' : SessionNote) → MayBegin E l n n' → Alike n n' × (n'.batch ≡ n.batch)
+  begins_like l n n' may = ⊎_elim like (λ b. like_begun b) may
+    where
+      like : n' ≡ n → Alike n n' × (n'.batch ≡ n.batch)
+      like e = (record { answered = ap (λ (z : SessionNote). z.answered) (sym e); pending = ap (λ (z : SessionNote). z.pending) (sym e) }, ap (λ (z : SessionNote). z.batch) e)
+
+      like_begun : Begins E l n n' → Alike n n' × (n'.batch ≡ n.batch)
+      like_begun b = (
+        record { answered = ap (λ (z : SessionNote). z.answered) (sym b.note); pending = ap (λ (z : SessionNote). z.pending) (sym b.note) },
+        ap (λ (z : SessionNote). z.batch) b.note,
+      )
+
   -- a session's request has one place
   pub one_place : (l : Progress C) (ns : List SessionNote) → Accounts E l ns → (i j : ℕ) (r s : Record) → At i r l.history → At j s l.history → r.author ≡ s.author → r.seq ≡ s.seq → i ≡ j
   one_place l ns w i j r s h g e q =
@@ -48,17 +61,26 @@ module _ {C M : Type 0} (E : Meaning C M) where
     pub none_new : IsNew E l ns []
     none_new = record { request = λ j r at. absurd (at_none j r at); apart = λ i j r s at at2 e. absurd (at_none i r at) }
 
-    -- who has no batch left
-    batches_without : (n' : SessionNote) → n'.batch ≡ [] → Alike n n' → Batches E l (set ns c n')
-    batches_without n' none like = record {
+    -- a note whose batch has no claim that the old one has not
+    batches_back : (n' : SessionNote) → ((d k : ℕ) (t : Claim) → IsInBatch (set ns c n') d k t → IsInBatch ns d k t) → Alike n n' → Batches E l (set ns c n')
+    batches_back n' back like = record {
       requested = λ d k t h. let r = w.requested d k t (back d k t h) in let o = alike_on ns c n n' here like t.request.author r.0 r.1 (ℕ_discrete t.request.author c) in (o.0, o.1, alike_request r.0 o.0 t.request o.2 r.2);
       placed = λ d k t h. w.placed d k t (back d k t h);
       near = λ d k t h. w.near d k t (back d k t h);
       once = λ d e k j t u h g q. w.once d e k j t u (back d k t h) (back e j u g) q;
     }
+
+    -- who has no batch left
+    batches_without : (n' : SessionNote) → n'.batch ≡ [] → Alike n n' → Batches E l (set ns c n')
+    batches_without n' none like = batches_back n' back like
       where
         back : (d k : ℕ) (t : Claim) → IsInBatch (set ns c n') d k t → IsInBatch ns d k t
         back d k t h = ⊎_elim (λ e. absurd (at_none k t (subst (λ b. At k t b) none e.1))) (λ e. e.1) (batch_back ns c n n' here d k t h)
+
+    -- a note that changes in nothing that is accounted for
+    pub noted_accounts : (n' : SessionNote) → Alike n n' → n'.batch ≡ n.batch → Accounts E l (set ns c n')
+    noted_accounts n' like same = batch_changes E l l ns c n n' w here [] refl (sym (append-nil l.history)) none_new like w.completed w.limit
+        (batches_back n' (same_batches ns c n n' here same) like)
 
     pub reply_accounts : Accounts E l (set ns c (record n { batch = [] }))
     reply_accounts = batch_changes E l l ns c n (record n { batch = [] }) w here [] refl (sym (append-nil l.history)) none_new (record { answered = refl; pending = refl }) w.completed w.limit

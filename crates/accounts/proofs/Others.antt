@@ -11,11 +11,12 @@ use Rattle.ownlock.specs.Rules.{Laws, IsPart}
 use Rattle.ownlock.specs.Seats.{At}
 use Rattle.accounts.proofs.Appended.{moves_accounts, was}
 use Rattle.accounts.proofs.Lists.{at_front, at_joined, one_node}
-use Rattle.accounts.proofs.Parts.{Alike, alike_on, alike_self, batch_back, batch_else, batch_here, state_front, note_else, placed_on, reply_front, taken_back}
+use Rattle.accounts.proofs.Parts.{Alike, alike_on, alike_self, batch_back, batch_else, batch_here, state_front, note_else, placed_on, reply_front, same_batches, taken_back}
 use Rattle.oplog.specs.Sessions.{IsSessionOf, session}
 use Rattle.accounts.specs.Accounts.{Accounts, Extends, HasNoRecord, IsInBatch}
 use Rattle.accounts.specs.Agreement.{AgreesWith, Answers, DeskAgrees, IsClaimedBy, IsUnclaimed, ReplicaAgrees, SlotAgrees, StageAgrees, desk_place, replica_place}
-use Rattle.accounts.specs.Moves.{HoldsBoth, HoldsDesk, HoldsLog, HoldsNothing, HoldsReplica, LogMove, BatchAppended, MayHold, Moves, desk_rules, placed_from, raised, record_of}
+use Rattle.accounts.proofs.Moved.{begins_like, noted_accounts}
+use Rattle.accounts.specs.Moves.{HoldsBoth, HoldsDesk, HoldsLog, HoldsNothing, HoldsReplica, LogMove, BatchAppended, MayBegin, MayHold, Moves, desk_rules, placed_from, raised, record_of}
 use Rattle.combiner.specs.Desks.{DeskView}
 use Rattle.combiner.specs.declared.slots.Slot.{Slot}
 use Rattle.combiner.specs.declared.slots.Stage.{Stage}
@@ -138,6 +139,27 @@ module _ {C M : Type 0} (E : Meaning C M) where
   pub same_progress : (l : Progress C) (ns : List SessionNote) → Accounts E l ns → Grown l l []
   same_progress l ns w = record { config = refl; catalogue = refl; history = sym (append-nil l.history); rises = omega arith; done = w.completed; limit = w.limit }
 
+  -- a note that changes in nothing that is accounted for disturbs nobody
+  noted_desk : (l : Progress C) (ns : List SessionNote) (c : ℕ) (n n' : SessionNote) → At c n ns → Alike n n' → n'.batch ≡ n.batch → (combiner a : ℕ) → Undisturbed l l ns (set ns c n') combiner a
+  noted_desk l ns c n n' here like same combiner a = record {
+    note = λ m at. alike_on ns c n n' here like a m at (ℕ_discrete a c);
+    free = λ free d k t h e. free d k t (same_batches ns c n n' here same d k t h) e;
+    claimed = λ h. (h.0, h.1, on h.0 h.1 h.2 (ℕ_discrete combiner c), h.3);
+    unheard = λ seq free none. none;
+  }
+    where
+      on : (j : ℕ) (t : Claim) → IsInBatch ns combiner j t → Dec (combiner ≡ c) → IsInBatch (set ns c n') combiner j t
+      on j t (m, at, h) (yes is) =
+          let one : m ≡ n = at_one ns c m n (subst (λ z. At z m ns) is at) here in
+          subst (λ z. IsInBatch (set ns c n') z j t) (sym is) (batch_here ns c n n' here j t (subst (λ b. At j t b) (sym same) (subst (λ (z : SessionNote). At j t z.batch) one h)))
+      on j t h (no ne) = batch_else ns c n n' here combiner j t ne h
+
+  pub noted_agrees : (l : Progress C) (ns : List SessionNote) (c : ℕ) (n n' : SessionNote) → Accounts E l ns → At c n ns → Alike n n' → n'.batch ≡ n.batch → (q : ℕ) (y : StoreValue M) → AgreesWith E q l ns y → AgreesWith E q l (set ns c n') y
+  noted_agrees l ns c n n' w here like same q (TheLog y) a = a
+  noted_agrees l ns c n n' w here like same q (TheReplica y) a = a
+  noted_agrees l ns c n n' w here like same q (TheDesk y) (lt, at, a) =
+      (lt, at, desk_stays l l [] ns (set ns c n') y w.completed (same_progress l ns w) a (λ s low. noted_desk l ns c n n' here like same a.combiner (session l.config y.node s)))
+
   log_others : (l l' : Progress C) (ns : List SessionNote) (c : ℕ) (n n' : SessionNote) → Accounts E l ns → Accounts E l' (set ns c n') → At c n ns → LogMove E l n l' n' → (q : ℕ) (y : StoreValue M) → q ≢ 0 → AgreesWith E q l ns y → AgreesWith E q l' (set ns c n') y
   log_others l l' ns c n n' w w' here m q (TheLog y) ne a = absurd (ne a.0)
   log_others l l' ns c n n' w w' here m q (TheReplica y) ne (node, lt, at, a) =
@@ -149,10 +171,13 @@ module _ {C M : Type 0} (E : Meaning C M) where
   log_others l l' ns c n n' w w' here m q (TheDesk y) ne (lt, at, a) =
       (subst (λ (z : Sizes). y.node < z.nodes) (sym m.config) lt, at ∙ ap (λ z. desk_place z y.node) (sym m.config), ⊎_elim kept added m.appends)
     where
-      kept : (l'.history ≡ l.history) × (n' ≡ n) → DeskAgrees E l' (set ns c n') y
-      kept keep = subst (λ z. DeskAgrees E l' z y) (sym (set_again ns c n here) ∙ ap (λ z. set ns c z) (sym keep.1))
-          (desk_stays l l' [] ns ns y w.completed (record { config = m.config; catalogue = m.catalogue; history = keep.0 ∙ sym (append-nil l.history); rises = (let same = m.completed in omega (arith, same)); done = w'.completed; limit = w'.limit }) a
-          (λ s lt. record { note = λ o at. (o, at, alike_self o); free = λ h. h; claimed = λ h. h; unheard = λ seq free none. subst (λ z. HasNoRecord z (session l.config y.node s) seq) (sym keep.0) none }))
+      kept : (l'.history ≡ l.history) × MayBegin E l n n' → DeskAgrees E l' (set ns c n') y
+      kept keep =
+          let like = begins_like E l n n' keep.1 in
+          let noted = noted_agrees l ns c n n' w here like.0 like.1 q (TheDesk y) (lt, at, a) in
+          desk_stays l l' [] (set ns c n') (set ns c n') y w.completed
+          (record { config = m.config; catalogue = m.catalogue; history = keep.0 ∙ sym (append-nil l.history); rises = (let same = m.completed in omega (arith, same)); done = w'.completed; limit = w'.limit }) noted.2
+          (λ s lt. record { note = λ o at. (o, at, alike_self o); free = λ h. h; claimed = λ h. h; unheard = λ seq free none. subst (λ z. HasNoRecord z (session l.config y.node s) seq) (sym keep.0) none })
 
       added : BatchAppended E l n l' n' → DeskAgrees E l' (set ns c n') y
       added t = subst (λ z. DeskAgrees E l' (set ns c z) y) (sym t.note)
@@ -168,7 +193,8 @@ module _ {C M : Type 0} (E : Meaning C M) where
   pub moves_others : (p c : ℕ) (x : StoreValue M) (l l' : Progress C) (n n' : SessionNote) (ns : List SessionNote) → Accounts E l ns → At c n ns → AgreesWith E p l ns x → Moves E p c x l n l' n'
       → (q : ℕ) (y : StoreValue M) → q ≢ p → AgreesWith E q l ns y → AgreesWith E q l' (set ns c n') y
   moves_others p c (TheLog x) l l' n n' ns w here a m q y ne b = log_others l l' ns c n n' w (moves_accounts E p c (TheLog x) l l' n n' ns w here a m) here m.1 q y (λ e. ne (e ∙ sym m.0)) b
-  moves_others p c (TheReplica x) l l' n n' ns w here a m q y ne b = subst (λ z. AgreesWith E q z (set ns c n') y) (sym m.0) (subst (λ z. AgreesWith E q l (set ns c z) y) (sym m.1) (subst (λ z. AgreesWith E q l z y) (sym (set_again ns c n here)) b))
+  moves_others p c (TheReplica x) l l' n n' ns w here a m q y ne b = subst (λ z. AgreesWith E q z (set ns c n') y) (sym m.0) (⊎_elim (λ e. subst (λ z. AgreesWith E q l (set ns c z) y) (sym e) (subst (λ z. AgreesWith E q l z y) (sym (set_again ns c n here)) b))
+      (λ h. noted_agrees l ns c n n' w here (record { answered = ap (λ (z : SessionNote). z.answered) (sym h.5); pending = ap (λ (z : SessionNote). z.pending) (sym h.5) }) (ap (λ (z : SessionNote). z.batch) h.5) q y b) m.1)
   moves_others p c (TheDesk x) l l' n n' ns w here a m q y ne b =
       subst (λ z. AgreesWith E q z (set ns c n') y) (sym m.0) (⊎_elim
       (λ e. subst (λ z. AgreesWith E q l (set ns c z) y) (sym e) (subst (λ z. AgreesWith E q l z y) (sym (set_again ns c n here)) b))
@@ -282,6 +308,8 @@ module _ {C M : Type 0} (E : Meaning C M) where
     moves_completed = λ m. moves_completed m.place m.session m.value m.progress m.new_progress m.note m.new_note m.allowed;
     moves_account = λ m ns a. moves_accounts E m.place m.session m.value m.progress m.new_progress m.note m.new_note ns a.accounts a.own a.agrees m.allowed;
     moves_others = λ m ns a. moves_others m.place m.session m.value m.progress m.new_progress m.note m.new_note ns a.accounts a.own a.agrees m.allowed;
+    asks_account = λ c l n n' ns asks here w. let a = begins_like E l n n' asks in noted_accounts E l ns c n w here n' a.0 a.1;
+    asks_agrees = λ p x c l n n' ns asks here w a. let like = begins_like E l n n' asks in noted_agrees l ns c n n' w here like.0 like.1 p x a;
     raised_completed = λ l n. refl;
     raised_extends = raised_grows;
     raised_same = λ l n. refl;

@@ -12,15 +12,15 @@ use Rattle.ownlock.specs.Seats.{At}
 use Rattle.accounts.proofs.Lists.{at_none, take_front}
 use Rattle.oplog.specs.Sessions.{session}
 use Rattle.accounts.specs.Accounts.{IsInBatch, IsNoted, IsRequest}
-use Rattle.accounts.specs.Moves.{answered_with, called_with, placed_from, record_of, unplaced}
-use Rattle.accounts.specs.Told.{updated_with}
+use Rattle.accounts.specs.Moves.{answered_with, begun_with, called_with, heard_with, placed_from, record_of, unplaced}
+use Rattle.accounts.specs.Told.{read_with, updated_with}
 use Rattle.combiner.specs.declared.slots.Reply.{Reply}
 use Rattle.combiner.specs.declared.slots.Reply.TheVariants.{Ended, Placed}
 use Rattle.combiner.specs.declared.slots.Slot.{Slot}
 use Rattle.combiner.specs.declared.slots.Stage.{Stage}
 use Rattle.combiner.specs.declared.slots.Stage.TheVariants.{Answered, Claimed, Empty, Posted}
 use Rattle.accounts.specs.declared.sessions.Claim.{Claim}
-use Rattle.accounts.specs.declared.sessions.SessionEvent.TheVariants.{UpdateBack, UpdateCall}
+use Rattle.accounts.specs.declared.sessions.SessionEvent.TheVariants.{ReadBack, ReadCall, UpdateBack, UpdateCall}
 use Rattle.accounts.specs.declared.sessions.SessionNote.{SessionNote}
 use Rattle.combiner.specs.Slots.{requested, requests_from}
 use Rattle.combiner.specs.Desks.{DeskView, first_author}
@@ -58,9 +58,14 @@ whole_note n op (Placed i x) = λ j. record {
   answered = n.answered ++ record { index = i; op = op; reply = x } ∷ [];
   pending = None;
   batch = [];
+  begun = n.begun;
   events = append_assoc n.events (UpdateCall op ∷ []) (UpdateBack (Placed i x) ∷ []) j;
 }
-whole_note n op Ended = λ j. record { answered = n.answered; pending = None; batch = []; events = append_assoc n.events (UpdateCall op ∷ []) (UpdateBack Ended ∷ []) j }
+whole_note n op Ended = λ j. record { answered = n.answered; pending = None; batch = []; begun = n.begun; events = append_assoc n.events (UpdateCall op ∷ []) (UpdateBack Ended ∷ []) j }
+
+-- a read and its answer
+pub whole_read : (n : SessionNote) (op : Operation) (seen point reply : ℕ) → heard_with (begun_with n op seen) point reply ≡ read_with n op point reply
+whole_read n op seen point reply = λ j. record (read_with n op point reply) { events = append_assoc n.events (ReadCall op ∷ []) (ReadBack point reply ∷ []) j }
 
 -- the notes once session c has another
 module _ (ns : List SessionNote) (c : ℕ) (n n' : SessionNote) (here : At c n ns) where

@@ -103,10 +103,10 @@ module _ {C M : Type 0} (E : Meaning C M) where
     own : (s : ℕ) → c ≡ session known.config x.node s → c ≡ session l.config x.node s
     own s e = e ∙ ap (λ z. session z x.node s) grown.config
 
-    post_puts : (s : ℕ) (slot : Slot) (op : Operation) → c ≡ session known.config x.node s → At s slot x.slots → slot.stage ≡ Empty → IsAllowed E known.catalogue op → (n' : SessionNote) → n' ≡ posted_with n (record { op = op; seen = length known.history })
+    post_puts : (s : ℕ) (slot : Slot) (op : Operation) → c ≡ session known.config x.node s → At s slot x.slots → slot.stage ≡ Empty → n.begun ≡ None → IsAllowed E known.catalogue op → (n' : SessionNote) → n' ≡ posted_with n (record { op = op; seen = length known.history })
         → DeskMove E x c l n n' × DeskAgrees E l (set ns c n') (record { node = x.node; slots = set x.slots s (record { stage = Posted op; count = slot.count }) })
-    post_puts s slot op is at empty may n' e = (
-      Posts asked idle (subst (λ z. IsAllowed E z op) grown.catalogue may) seen e,
+    post_puts s slot op is at empty unread may n' e = (
+      Posts asked (idle, unread) (subst (λ z. IsAllowed E z op) grown.catalogue may) seen e,
       own_slot l ns c n n' w here x desk batch s (record { stage = Posted op; count = slot.count }) (own s is) (
         n',
         note_here ns c n n' here,
@@ -292,8 +292,8 @@ module _ {C M : Type 0} (E : Meaning C M) where
             (o.0, o.1, t.2 ∙ ap length o.2.answered, stage s t.0 o.0 t.1 o.2 f.0.stage t.3)
 
   pub desk_puts : DeskPuts E
-  desk_puts known l ns c n n' x y low grown w here mine desk (PostStep s op is may e f) =
-      let p = posted_is s op x y f in let t = post_puts known l ns c n low grown w here x mine desk s p.0 op is p.1 p.2 may n' e in (t.0, subst (λ z. DeskAgrees E l (set ns c n') z) (sym p.3) t.1)
+  desk_puts known l ns c n n' x y low grown w here mine desk (PostStep s op is unread may e f) =
+      let p = posted_is s op x y f in let t = post_puts known l ns c n low grown w here x mine desk s p.0 op is p.1 p.2 unread may n' e in (t.0, subst (λ z. DeskAgrees E l (set ns c n') z) (sym p.3) t.1)
   desk_puts known l ns c n n' x y low grown w here mine desk (ClaimStep idle empty e f) =
       let t = claim_puts known l ns c n low grown w here x mine desk (none_claimed x.slots idle) empty n' e in (t.0, subst (λ z. DeskAgrees E l (set ns c n') z) (sym f) t.1)
   desk_puts known l ns c n n' x y low grown w here mine desk (ReplyStep b k t first records gives e f) =
@@ -302,7 +302,7 @@ module _ {C M : Type 0} (E : Meaning C M) where
       let p = collected_is s reply x y f in let t = collect_puts known l ns c n low grown w here x mine desk s p.0 o reply is p.1 p.2 asked n' e in (t.0, subst (λ z. DeskAgrees E l (set ns c n') z) (sym p.3) t.1)
 
   same_node : (known : Progress C) (c : ℕ) (n n' : SessionNote) (x y : DeskView) → DeskStep E known c n x n' y → x.node ≡ y.node
-  same_node known c n n' x y (PostStep s op is may e f) = ap (λ (z : DeskView). z.node) (sym (posted_is s op x y f).3)
+  same_node known c n n' x y (PostStep s op is unread may e f) = ap (λ (z : DeskView). z.node) (sym (posted_is s op x y f).3)
   same_node known c n n' x y (ClaimStep idle empty e f) = ap (λ (z : DeskView). z.node) (sym f)
   same_node known c n n' x y (ReplyStep b k t first records gives e f) = ap (λ (z : DeskView). z.node) (sym f)
   same_node known c n n' x y (CollectStep s o reply is asked e f) = ap (λ (z : DeskView). z.node) (sym (collected_is s reply x y f).3)

@@ -36,6 +36,8 @@ module _ {C M V : Type 0} (view : V → StoreValue M) (IsSized : Sizes → C →
     moves_others = λ m ns a q y ne b.
         let g = grown m.progress m.new_progress (s.moves_extend (move_seen m)) in
         (s.moves_others (move_seen m) ns (among_seen m ns a) q (view y) ne b.0, sized_on m.progress m.new_progress y g.config g.catalogue b.1);
+    asks_account = s.asks_account;
+    asks_agrees = λ p x c l n n' ns asks here w a. (s.asks_agrees p (view x) c l n n' ns asks here w a.0, a.1);
     raised_completed = s.raised_completed;
     raised_extends = s.raised_extends;
     raised_same = s.raised_same;

@@ -13,8 +13,8 @@ use Rattle.accounts.proofs.Others.{desk_laws}
 
 module _ {C M : Type 0} (E : Meaning C M) where
   desk_stays_put : (p c : ℕ) (v : StoreValue M) (l : Progress C) (n : SessionNote) (ns : _) → AgreesWith E p l ns v → Moves E p c v l n l n
-  desk_stays_put p c (TheLog x) l n ns a = (a.0, record { config = refl; catalogue = refl; completed = refl; appends = inl (refl, refl) })
-  desk_stays_put p c (TheReplica x) l n ns a = (refl, refl)
+  desk_stays_put p c (TheLog x) l n ns a = (a.0, record { config = refl; catalogue = refl; completed = refl; appends = inl (refl, inl refl) })
+  desk_stays_put p c (TheReplica x) l n ns a = (refl, inl refl)
   desk_stays_put p c (TheDesk x) l n ns a = (refl, inl refl)
 
   pub desk_store : IsStoreRules E (desk_rules E)

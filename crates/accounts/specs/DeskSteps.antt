@@ -25,7 +25,7 @@ module _ {C M : Type 0} (E : Meaning C M) where
   Gives known t Ended = (t.index ≡ None) × (known.completed ≡ known.config.limit)
 
   pub data DeskStep (known : Progress C) (c : ℕ) (n : SessionNote) (x : DeskView) (n' : SessionNote) (y : DeskView) : Type 0 where
-    PostStep : (s : ℕ) (op : Operation) → c ≡ session known.config x.node s → IsAllowed E known.catalogue op
+    PostStep : (s : ℕ) (op : Operation) → c ≡ session known.config x.node s → n.begun ≡ None → IsAllowed E known.catalogue op
         → n' ≡ posted_with n (record { op = op; seen = length known.history }) → posted s op x ≡ Some y → DeskStep known c n x n' y
     ClaimStep : has_combiner x ≡ false → n.batch ≡ [] → n' ≡ record n { batch = unplaced (batch_of x).records } → y ≡ claimed x → DeskStep known c n x n' y
     -- each request of the session's batch has its answer

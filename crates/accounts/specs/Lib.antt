@@ -14,4 +14,5 @@ pub mod Tellings
 pub mod Putting
 pub mod Picks
 pub mod DeskNotes
+pub mod ReadNotes
 pub mod Batches

@@ -14,7 +14,7 @@ use Rattle.accounts.specs.StoreRules.{IsLogAfter, MayAppend}
 use Rattle.combiner.specs.Desks.{opened_desk}
 
 abbrev pub fresh_note : SessionNote
-fresh_note = record { answered = []; pending = None; batch = []; events = [] }
+fresh_note = record { answered = []; pending = None; batch = []; begun = None; events = [] }
 
 -- no operation yet
 abbrev pub first_progress : {C : Type 0} → Sizes → C → Progress C

@@ -14,6 +14,7 @@ module _ {C M V : Type 0} (view : V → StoreValue M) (IsSized : Sizes → C →
     AgreesWith = λ p l ns v. R.AgreesWith p l ns (view v) × IsSized l.config l.catalogue v;
     Allows = R.Allows;
     Moves = λ p c v. R.Moves p c (view v);
+    Asks = R.Asks;
     completed = R.completed;
     raised = R.raised;
     Reaches = R.Reaches;

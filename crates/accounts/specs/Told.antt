@@ -7,7 +7,7 @@ use Rattle.oplog.specs.History.{Meaning, History, reply_at, read_reply_at}
 use Rattle.accounts.specs.declared.sessions.Progress.{Progress}
 use Rattle.accounts.specs.declared.sessions.Pending.{Pending}
 use Rattle.accounts.specs.declared.sessions.AnsweredUpdate.{AnsweredUpdate}
-use Rattle.accounts.specs.declared.sessions.SessionEvent.TheVariants.{UpdateCall, UpdateBack}
+use Rattle.accounts.specs.declared.sessions.SessionEvent.TheVariants.{UpdateCall, UpdateBack, ReadCall, ReadBack}
 use Rattle.accounts.specs.declared.sessions.SessionNote.{SessionNote}
 use Rattle.combiner.specs.Desks.{DeskView}
 use Rattle.combiner.specs.declared.slots.Slot.{Slot}
@@ -45,6 +45,13 @@ note_ended n op = record n { pending = None; batch = []; events = n.events ++ Up
 abbrev pub updated_with : SessionNote → Operation → Reply → SessionNote
 updated_with n op (Placed i reply) = note_with n i op reply
 updated_with n op Ended = note_ended n op
+
+-- the note, once the session has asked a read and has heard its answer
+abbrev pub read_with : SessionNote → Operation → (point reply : ℕ) → SessionNote
+read_with n op point reply = record n {
+  begun = None;
+  events = n.events ++ ReadCall op ∷ ReadBack point reply ∷ [];
+}
 
 module _ {C M : Type 0} (E : Meaning C M) where
   -- the answer to the request o of session c, its next by this number, is right, and its place is not before the history's length at the call

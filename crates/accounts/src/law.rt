@@ -10,6 +10,7 @@ ghost use Rattle.accounts.specs.Putting.{the_rules, StoreOpens, AgreesLog, Agree
 ghost use Rattle.accounts.specs.DeskNotes.{Looked, desk_noting, PostNoted, ClaimNoted, CollectNoted, DeskPicked, DeskIs, BatchNoted};
 ghost use Rattle.accounts.specs.Batches.{ClaimsAscend, BatchIs};
 ghost use Rattle.accounts.specs.Picks.{SamePicked, LogPicked, ReplicaPicked, PutsAccount, SameIs, LogIs, ReplicaIs};
+ghost use Rattle.accounts.specs.ReadNotes.{AskedMayPut, HeardMayPut, MayAskThere};
 
 use crate::meanings::{Effects, Viewed};
 
@@ -110,6 +111,14 @@ pub fn desk_notes<S: Viewed>()
     ensures batch { BatchNoted S.meaning S.view S.is_sized }
     ensures desk { DeskPicked S.meaning S.view S.is_sized }
     ensures desk_is { DeskIs S.meaning S.view S.is_sized }
+{}
+
+/// A session that waits for nothing may ask a read of the catalogue where it loads the completed tail, whatever it finds, and where it puts back
+/// the log; and who holds the replica that it has read may put that back, and note the answer.
+pub fn read_notes<S: Viewed>()
+    ensures asks { MayAskThere S.meaning S.view S.is_sized }
+    ensures log { AskedMayPut S.meaning S.view S.is_sized }
+    ensures heard { HeardMayPut S.meaning S.view S.is_sized }
 {}
 
 /// The requests that a combiner claimed and notes are those of the claimed slots of its desk, in their order.

@@ -7,8 +7,10 @@ mod meanings;
 mod sessions;
 
 pub use law::{
-    desk_batches, desk_laws, desk_notes, desk_puts, log_puts, opens, seen_laws, store_picks,
-    store_puts, store_rules, store_takes, store_tells, tells,
+    desk_batches, desk_laws, desk_notes, desk_puts, log_puts, opens, read_notes, seen_laws,
+    store_picks, store_puts, store_rules, store_takes, store_tells, tells,
 };
 pub use meanings::{Effects, Viewed};
-pub use sessions::{AnsweredUpdate, Claim, Pending, Progress, SessionEvent, SessionNote};
+pub use sessions::{
+    AnsweredUpdate, BegunRead, Claim, Pending, Progress, SessionEvent, SessionNote,
+};

@@ -21,12 +21,22 @@ pub struct Pending {
     pub seen: u64,
 }
 
-/// A session called an update, or was answered.
+/// A read that a session has asked. No more than so many operations were completed then.
+pub struct BegunRead {
+    pub op: Op,
+    pub seen: u64,
+}
+
+/// A session called an update or a read, or was answered.
 pub enum SessionEvent {
     /// It called this update.
     UpdateCall(Op),
     /// The update has its index and its reply, or the history has ended.
     UpdateBack(Reply),
+    /// It called this read.
+    ReadCall(Op),
+    /// The read has its point of the history, and its reply.
+    ReadBack { point: u64, reply: u64 },
 }
 
 /// An update that a session was answered, its index in the history, and the reply that it was answered with.
@@ -42,11 +52,12 @@ pub struct Claim {
     pub index: Option<u64>,
 }
 
-/// What a session has been answered, the request that it waits for, the batch that it combines, and each of its calls and answers so far, in their
-/// order. Who combines nothing has an empty batch.
+/// What a session has been answered, the request that it waits for, the batch that it combines, the read that it has asked and not yet heard, and
+/// each of its calls and answers so far, in their order. Who combines nothing has an empty batch.
 pub struct SessionNote {
     pub answered: LinkedList<AnsweredUpdate>,
     pub pending: Option<Pending>,
     pub batch: LinkedList<Claim>,
+    pub begun: Option<BegunRead>,
     pub events: LinkedList<SessionEvent>,
 }

@@ -16,18 +16,18 @@ use Rattle.accounts.proofs.Export.{whole_note}
 use Rattle.accounts.specs.declared.sessions.Pending.{Pending}
 use Rattle.accounts.specs.declared.sessions.SessionEvent.TheVariants.{UpdateBack, UpdateCall}
 use Rattle.verifier.specs.declared.refusal.Mode.TheVariants.{Update}
-use Rattle.schedule.specs.Trace.{Back, Call, Updated}
+use Rattle.readpath.specs.declared.reading.ReadAnswer.{ReadAnswer}
+use Rattle.schedule.specs.Trace.{Back, Call, Trace, Updated}
 use Rattle.store_steps.specs.Views.{SessionView}
-use Rattle.store_laws.specs.CallsMade.{events_of_session}
-use Rattle.store_laws.specs.OwnEvents.{event_of, own_trace}
+use Rattle.store_laws.specs.RunEvents.{event_of, events_of_session, own_trace}
 use Rattle.store.specs.Explained.{ClosesExplained}
-use Rattle.store.specs.Linear.{Adds, AddsAnswer, AddsPost, AddsUpdate, own_events}
-use Rattle.store.specs.Looks.{IsRefused}
+use Rattle.store.specs.Linear.{Adds, AddsAnswer, AddsPost, AddsRead, AddsUpdate, own_events}
+use Rattle.store.specs.Looks.{HasReply, IsRefused, TellsSight}
 use Rattle.store.specs.Opening.{ClosedView, last_state, setup_of}
 use Rattle.store.specs.Sessions.{StoreView, TellsUpdate, said}
 use Rattle.store.specs.declared.answers.Answer.{Answer}
 use Rattle.store.proofs.Export.{adds_then}
-use Rattle.example_calls.specs.Heard.{AreExplained, HasUpdated, HasUpdatedTwice, call_and_back, two_calls}
+use Rattle.example_calls.specs.Heard.{AreExplained, HasRead, HasUpdated, HasUpdatedTwice, call_and_back, two_calls}
 use Rattle.example_calls.specs.declared.heard.Heard.{Heard}
 
 -- ---- opening
@@ -116,6 +116,22 @@ polled_adds {A} old mid new op refusal o a is early post r back result value =
     waits_adds old new op r
     (back.0, back.1, adds_then old mid new (Call old.session Update op ∷ []) _ posts event) result value
 
+-- ---- a read
+
+by_read : (old new : SessionView) (op : Operation) (r : Result ReadAnswer StoreRefused) → AddsRead old new op r
+    → TellsSight (HasReply op) (λ (a : ReadAnswer). a.point) old new r → IfSome (result_ok r) (λ a. HasRead old new op a)
+by_read old new op (Ok a) adds told = record { adds = adds; sees = told.1.0 }
+by_read old new op (Err e) adds told = absurd told
+
+pub read_told : (old new : SessionView) (op : Operation) (refusal : Option StoreRefused) (r : Result ReadAnswer StoreRefused)
+    → IsRefused refusal r (new ≡ old) → (refusal ≡ None → AddsRead old new op r)
+    → (refusal ≡ None → TellsSight (HasReply op) (λ (a : ReadAnswer). a.point) old new r) → (result : Option ReadAnswer) → result ≡ result_ok r
+    → IfSome result (λ a. HasRead old new op a)
+read_told old new op None r early adds told result value =
+    subst (λ z. IfSome z (λ a. HasRead old new op a)) (sym value) (by_read old new op r (adds refl) (told refl))
+read_told old new op (Some e) r early adds told result value =
+    subst (λ z. IfSome z (λ a. HasRead old new op a)) (sym (value ∙ ap result_ok (early e refl).0)) tt
+
 -- ---- the closed store
 
 -- the first of two updates of a session came before the second
@@ -127,13 +143,18 @@ comes_before old mid new op a b x y =
     let far = y.tells.0.0 in
     omega (arith, low, top, far)
 
--- of a closed store, whose sessions 0 and 1 made these updates since it was opened
-module _ (store : StoreView) (op : Operation) (heard : Heard) (sessions : List SessionView) (closed : ClosedView) (is : ClosesExplained store sessions closed) (waiting polls : SessionView) (i j : ℕ) (at : At i waiting sessions) (at2 : At j polls sessions) where
-  pub are_explained : (fresh : SessionView) → HasUpdatedTwice fresh waiting op heard.first heard.second
-      → waiting.session ≡ 0 → own_events waiting ≡ two_calls 0 op heard.first heard.second
+-- and its read has seen the second
+pub sees_it : (mid new : SessionView) (op : Operation) (b : Answer) (point : ℕ) → HasUpdated mid new op b → new.progress.completed ≤ point
+    → b.index < point
+sees_it mid new op b point y far = let low = y.tells.0.1.0 in omega (arith, low, far)
+
+-- of a closed store, whose sessions 0 and 1 made these calls since it was opened
+module _ (store : StoreView) (op : Operation) (more : Trace) (heard : Heard) (sessions : List SessionView) (closed : ClosedView) (is : ClosesExplained store sessions closed) (waiting polls : SessionView) (i j : ℕ) (at : At i waiting sessions) (at2 : At j polls sessions) where
+  pub are_explained : (fresh updated : SessionView) → HasUpdatedTwice fresh updated op heard.first heard.second
+      → waiting.session ≡ 0 → own_events waiting ≡ two_calls 0 op heard.first heard.second ++ more
       → polls.session ≡ 1 → own_events polls ≡ call_and_back 1 op heard.polled
-      → AreExplained (setup_of store) op heard (last_state closed)
-  are_explained fresh w zero waits one answered = record {
+      → AreExplained (setup_of store) op more heard (last_state closed)
+  are_explained fresh updated w zero waits one answered = record {
     history = is.is.progress.history;
     last = is.is.last;
     trace = is.linear.trace;
@@ -141,5 +162,5 @@ module _ (store : StoreView) (op : Operation) (heard : Heard) (sessions : List S
     explains = is.linear.explains;
     waits = (λ k. events_of_session (sym zero k) is.linear.trace) ∙ (is.linear.own i waiting at ∙ waits);
     polls = (λ k. events_of_session (sym one k) is.linear.trace) ∙ (is.linear.own j polls at2 ∙ answered);
-    before = comes_before fresh w.between waiting op heard.first heard.second w.once w.again;
+    before = comes_before fresh w.between updated op heard.first heard.second w.once w.again;
   }

@@ -3,7 +3,7 @@
 //! calls and answers of its session (`adds`), and `close` that one list explains those of all (`linear`).
 #![tactic(auto)]
 
-ghost use Rattle.std.specs.Prelude.{◌≡◌, ◌≤◌, [], ◌∷◌, IfSome, None, Some, vec_capacity};
+ghost use Rattle.std.specs.Prelude.{◌≡◌, ◌<◌, ◌≤◌, [], ◌∷◌, IfSome, None, Some, vec_capacity};
 ghost use Rattle.store.specs.Explained.{ClosesExplained};
 ghost use Rattle.store.specs.Linear.{Adds, AddsAnswer};
 ghost use Rattle.store.specs.Opening.{last_state};
@@ -13,14 +13,14 @@ ghost use Rattle.store_steps.specs.Views.{op_of};
 ghost use Rattle.accounts.specs.Accounts.{IsWellFormed};
 ghost use Rattle.accounts.specs.declared.sessions.Pending.{Pending};
 ghost use Rattle.replica.specs.StoreMeaning.{store_meaning};
-ghost use Rattle.example_calls.specs.Heard.{AreExplained, HasUpdated, HasUpdatedTwice, call_and_back, two_calls, two_of};
+ghost use Rattle.example_calls.specs.Heard.{AllAreExplained, HasRead, HasUpdated, HasUpdatedTwice, call_and_back, two_calls, two_of};
 
 mod heard;
 
-pub use heard::Heard;
+pub use heard::{Heard, Programs};
 use std::alloc::Global;
 use std::sync::Wait;
-use store::{Answer, Catalogue, Closed, Config, Polled, Session, Store, StoreRefused};
+use store::{Answer, Catalogue, Closed, Config, Polled, ReadAnswer, Session, Store, StoreRefused};
 
 /// A store of one node, with a session for each of its two slots.
 pub const CONFIG: Config = Config {
@@ -63,6 +63,21 @@ fn update_twice<R: Wait>(
     let first = update(rt, store, session, program, argument)?;
     let second = update(rt, store, session, program, argument)?;
     Some((first, second))
+}
+
+// A read that is answered.
+fn read<R: Wait>(
+    rt: &R,
+    store: &Store,
+    session: &mut Session,
+    program: u16,
+    argument: &[u8],
+) -> Option<ReadAnswer>
+    requires own { IsOf store.now session.old }
+    ensures session { SessionGoesOn store.now session.old session.new }
+    ensures told { IfSome result (λ a. HasRead session.old session.new (op_of program argument.now) a) }
+{
+    session.read(rt, store, program, argument).ok()
 }
 
 // Polls an update until it is answered.
@@ -118,31 +133,35 @@ fn close(store: Store, mut sessions: Vec<Session>, waiting: Session, polls: Poll
     }
 }
 
-/// Opens a store, lets its first session run a program twice, and its second one once, and closes the store. Gives their answers, or nothing if there
-/// is no memory, or a call is refused.
+/// Opens a store, lets its first session run an update twice and then a read, and its second one the update once, and closes the store. Gives their
+/// answers, or nothing if there is no memory, or a call is refused. One list of operations explains all four, and the read has seen both updates of
+/// its session.
 ///
 /// # Examples
 ///
 /// ```
-/// use example_calls::answers_of_two;
+/// use example_calls::{Programs, answers_of_two};
 /// use store::load_manifest;
 ///
-/// let manifest = "map array 8 16\nprogram five update 0 five.hex\n";
+/// let manifest = "map array 8 16\nprogram five update 0 five.hex\nprogram look read 0 five.hex\n";
 /// let files = [("five.hex", "b7000000050000009500000000000000")]; // a program that replies 5
 /// let catalogue = load_manifest(rt.alloc(), manifest, &files)?;
 ///
-/// let Some((heard, closed)) = answers_of_two(&rt, rt.alloc(), catalogue, 0, &[]) else { unreachable!() };
+/// let programs = Programs { update: 0, read: 1 };
+/// let Some((heard, seen, closed)) = answers_of_two(&rt, rt.alloc(), catalogue, programs, &[]) else { unreachable!() };
 /// assert_eq!(rt; [heard.first.index, heard.second.index, heard.polled.index], [0, 1, 2]);
+/// assert_eq!(rt; (seen.point, seen.reply), (2, 5));
 /// assert_eq!(rt; closed.log().tail(), 3);
 /// ```
 pub fn answers_of_two<R: Wait>(
     rt: &R,
     alloc: Global,
     catalogue: Catalogue,
-    program: u16,
+    programs: Programs,
     argument: &[u8],
-) -> Option<(Heard, Closed)>
-    ensures explained { IfSome result (λ t. AreExplained (two_of catalogue) (op_of program argument.now) t.0 (last_state t.1)) }
+) -> Option<(Heard, ReadAnswer, Closed)>
+    ensures explained { IfSome result (λ t. AllAreExplained (two_of catalogue) programs argument.now t.0 t.1 (last_state t.2)) }
+    ensures sees { IfSome result (λ t. t.0.second.index < t.1.point) }
 {
     let (store, mut sessions) = Store::open(alloc, CONFIG, catalogue).ok()?;
     let Some(other) = sessions.pop() else {
@@ -152,14 +171,15 @@ pub fn answers_of_two<R: Wait>(
         unreachable!()
     };
     let mut polled = Polled::new(other);
-    let told = update_twice(rt, &store, &mut session, program, argument);
-    let answer = poll(rt, &store, &mut polled, program, argument);
+    let told = update_twice(rt, &store, &mut session, programs.update, argument);
+    let look = read(rt, &store, &mut session, programs.read, argument);
+    let answer = poll(rt, &store, &mut polled, programs.update, argument);
     let closed = close(store, sessions, session, polled);
-    let ((first, second), polled) = (told?, answer?);
+    let ((first, second), seen, polled) = (told?, look?, answer?);
     let heard = Heard {
         first,
         second,
         polled,
     };
-    Some((heard, closed))
+    Some((heard, seen, closed))
 }

@@ -1,7 +1,7 @@
 -- The two places of a pool, as sessions are taken from there and given back.
-use Rattle.std.proofs.Common.{◌≡◌, ◌<◌, ◌/◌, ℕ, zero, suc, List, [], ◌∷◌, length, set, get_or, refl, sym, ap, ◌∙◌, subst, arith, Option, None, Some}
+use Rattle.std.proofs.Common.{◌≡◌, ◌<◌, ◌/◌, zero, suc, List, [], ◌∷◌, length, set, get_or, refl, sym, ap, ◌∙◌, subst, arith, Option, None, Some}
 use Rattle.std.proofs.lemmas.Option.{same_Some}
-use Rattle.host_calls.specs.Stores.{HasPlaceFor, IsGiven, IsOfNode, IsTaken, NoneIsFreeBefore, seated}
+use Rattle.host_calls.specs.Stores.{HasPlaceFor, IsGiven, IsOfNode, IsTaken, seated}
 use Rattle.host_calls.specs.declared.attached.Attached.{Attached}
 use Rattle.host_calls.specs.declared.pool.Pool.{Pool}
 

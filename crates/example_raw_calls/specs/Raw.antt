@@ -1,9 +1,8 @@
 -- What two sessions heard by the calls that C has.
-use Rattle.std.specs.Prelude.{◌≡◌, None, Some}
+use Rattle.std.specs.Prelude.{◌≡◌, [], None, Some}
 use Rattle.loader.specs.CatalogueView.{CatalogueView}
 use Rattle.loader.specs.StoreState.{StoreState}
 use Rattle.oplog.specs.Operations.{Operation}
-use Rattle.store_steps.specs.declared.values.Setup.{Setup}
 use Rattle.store.specs.declared.answers.Answer.{Answer}
 use Rattle.host_calls.specs.declared.handles.Opening.{Opening}
 use Rattle.host_calls.specs.declared.handles.SessionHandle.{SessionHandle}
@@ -38,4 +37,4 @@ WasUpdatedTwice before after op first second = (a b : AttachedView) → Has befo
 pub record AreExplainedBy (o : Opening) (op : Operation) (heard : Heard) (state : StoreState) : Type 0 where
   pub catalogue : CatalogueView
   pub says : Says o catalogue
-  pub explained : AreExplained (record { config = sizes_asked o; catalogue = sized (sizes_asked o) catalogue }) op heard state
+  pub explained : AreExplained (record { config = sizes_asked o; catalogue = sized (sizes_asked o) catalogue }) op [] heard state

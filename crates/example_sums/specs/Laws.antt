@@ -40,6 +40,10 @@ raised_agrees : (p : ℕ) (x : Value) (l : Progress) (n : ℕ) (ns : List ℕ) �
 raised_agrees p (TheList x) l n ns a = a
 raised_agrees p (Sum x) l n ns a = let small = a.1 in (a.0, omega (arith, small, le-max_left l.completed n), a.2)
 
+asked_agrees : (p : ℕ) (x : Value) (l : Progress) (ns ns' : List ℕ) → AgreesWith p l ns x → AgreesWith p l ns' x
+asked_agrees p (TheList x) l ns ns' a = a
+asked_agrees p (Sum x) l ns ns' a = a
+
 pub sum_laws : Laws sum_rules
 sum_laws = record {
   extends_self = λ l. (([], sym (append-nil l.items)), omega arith);
@@ -57,6 +61,10 @@ sum_laws = record {
       let long = ap length m.allowed.1 ∙ length-append m.progress.items m.allowed.0 in let was = a.accounts.0 in let low = a.accounts.1 in let as_before = m.allowed.2 in
       (omega (arith, count, long, was), omega (arith, long, low, as_before));
   moves_others = λ m ns a q y ne b. others_agree m.place q m.progress m.new_progress m.note m.new_note ns (set ns m.session m.new_note) y ne a.accounts.1 m.allowed b;
+  asks_account = λ c l n n' ns same here w.
+      let count = ap (λ z. total (set ns c z)) (let e : n' ≡ n + 0 = omega (arith, same) in e) ∙ sum_set ns c n 0 here in let was = w.0 in
+      (omega (arith, count, was), w.1);
+  asks_agrees = λ p x c l n n' ns same here w a. asked_agrees p x l ns (set ns c n') a;
   raised_completed = λ l n. refl;
   raised_extends = λ l n. (([], sym (append-nil l.items)), le-max_left l.completed n);
   raised_same = λ l n. refl;

@@ -43,6 +43,7 @@ sum_rules = record {
   AgreesWith = AgreesWith;
   Allows = λ _ _ _. Unit {0};
   Moves = λ p _ _ l n l' n'. Moves p l n l' n';
+  Asks = λ _ _ n n'. n' ≡ n;
   completed = λ l. l.completed;
   raised = raised;
   Reaches = λ l n. n ≤ length l.items;

@@ -9,13 +9,13 @@ use Rattle.accounts.specs.declared.sessions.Pending.{Pending}
 use Rattle.accounts.specs.declared.sessions.SessionNote.{SessionNote}
 use Rattle.schedule.specs.Trace.{Call}
 use Rattle.store_steps.specs.Views.{SessionView}
-use Rattle.store_laws.specs.OwnEvents.{own_trace}
+use Rattle.store_laws.specs.RunEvents.{own_trace}
 use Rattle.store.specs.Linear.{Adds}
-use Rattle.store.proofs.Export.{Notes, adds_noted, adds_still, answered_notes, posts_notes, quiet, still, waits_notes}
+use Rattle.store.proofs.Export.{Notes, adds_noted, adds_still, answered_notes, posts_notes, quiet, reads_notes, still, waits_notes}
 use Rattle.host_calls.specs.declared.attached.CallResult.{CallResult}
 use Rattle.host_calls.specs.declared.attached.CallResult.TheVariants.{Busy, Again, Answered, Refused, NotOpen, IsOut, NoWord, Allowed}
-use Rattle.host_calls.specs.Adding.{CallsAdd, answer_event, call_events, posted_events, reply_told, update_events}
-use Rattle.host_calls.specs.CallResults.{HasGrown, TellsNew, TellsOut, TellsPostedAlone, TellsPosting, TellsRefused}
+use Rattle.host_calls.specs.Adding.{CallsAdd, answer_event, call_events, posted_events, read_events, reply_told, update_events}
+use Rattle.host_calls.specs.CallResults.{HasGrown, TellsNew, TellsOut, TellsPostedAlone, TellsPosting, TellsRefused, TellsSeen}
 use Rattle.host_calls.specs.CallResults.{posted_as}
 use Rattle.host_calls.specs.Calls.{Asks, Checks, Nothing, Posts, Reads, TellsAttached, TellsCall, Updates, asks}
 
@@ -89,12 +89,33 @@ module _ (op : Operation) (old new : SessionView) (told : CallResult) where
 
 -- ---- a call
 
-by_read : (old new : SessionView) (pending : Option Pending) (seen : Type 0) (told : CallResult)
-    → new.session ≡ old.session
-    → MatchOption pending (HasGrown old new × (new.note ≡ old.note) × seen) (λ o. (told ≡ IsOut) × (new ≡ old))
-    → Adds old new []
-by_read old new None seen told same is = adds_noted old new [] same is.0.gone (quiet old new is.1)
-by_read old new (Some o) seen told same is = adds_still old new is.1
+read_seen : (op : Operation) (old new : SessionView) (told : CallResult) → TellsSeen op old new told
+    → Notes old new (read_events old.session op None told)
+read_seen op old new Busy t = quiet old new t
+read_seen op old new Again t = absurd t
+read_seen op old new (Answered point reply) t = reads_notes old new op (record { point = point; reply = reply }) t.0
+read_seen op old new (Refused why) t = absurd t
+read_seen op old new NotOpen t = absurd t
+read_seen op old new IsOut t = absurd t
+read_seen op old new NoWord t = absurd t
+read_seen op old new Allowed t = absurd t
+
+-- what is refused is no answer
+read_refused : (op : Operation) (old new : SessionView) (told : CallResult) (why : StoreRefused) → TellsRefused old new told why
+    → Notes old new (read_events old.session op None told)
+read_refused op old new told why t = subst (λ z. Notes old new (read_events old.session op None z)) (sym t.0) (still old new t.1)
+
+module _ (op : Operation) (old new : SessionView) (told : CallResult) (same : new.session ≡ old.session) where
+  by_verdict : (refused : Option StoreRefused) → MatchOption refused (TellsSeen op old new told) (λ why. TellsRefused old new told why)
+      → Notes old new (read_events old.session op None told)
+  by_verdict None t = read_seen op old new told t
+  by_verdict (Some why) t = read_refused op old new told why t
+
+  by_read : (refused : Option StoreRefused) (pending : Option Pending)
+      → MatchOption pending (HasGrown old new × MatchOption refused (TellsSeen op old new told) (λ why. TellsRefused old new told why))
+      (λ o. (told ≡ IsOut) × (new ≡ old)) → Adds old new (read_events old.session op pending told)
+  by_read refused None is = adds_noted old new _ same is.0.gone (by_verdict refused is.1)
+  by_read refused (Some o) is = adds_still old new is.1
 
 call_adds : (asked : Asks) (old new : SessionView) (told : CallResult) → new.session ≡ old.session
     → TellsCall asked old new told → Adds old new (call_events old.session asked old.note.pending told)
@@ -102,7 +123,7 @@ call_adds (Updates op refused) old new told same t = adds_noted old new _ same t
     (by_pending op old new told refused _ old.note.pending t.1 (posting op old new told))
 call_adds (Posts op refused) old new told same t = adds_noted old new _ same t.0.gone
     (by_pending op old new told refused _ old.note.pending t.1 (posted_alone op old new told))
-call_adds (Reads op refused) old new told same t = by_read old new old.note.pending _ told same t
+call_adds (Reads op refused) old new told same t = by_read op old new told same refused old.note.pending t
 call_adds (Checks refused) old new told same t = adds_still old new t.1
 call_adds Nothing old new told same t = adds_still old new t.1
 

@@ -79,12 +79,12 @@ module _ (old new : SessionView) (point : ℕ) (by : LooksBy (known_of old) (kno
   step = Put place (AReplica by.left)
 
   abbrev earlier : List Seen
-  earlier = by.tries ++ Read by.loaded ∷ Took place (AReplica by.own) ∷ follow_deeds (nat_lt by.own.replica.tail by.loaded) by.log by.left
+  earlier = by.tries ++ Took place (AReplica by.own) ∷ Read by.loaded ∷ follow_deeds (nat_lt by.own.replica.tail by.loaded) by.log by.left
 
   parts : map of_part by.did.since ≡ earlier ++ step ∷ []
   parts =
       by.did.are
-      ∙ sym (append_assoc by.tries (Read by.loaded ∷ Took place (AReplica by.own) ∷ follow_deeds (nat_lt by.own.replica.tail by.loaded) by.log by.left) (step ∷ []))
+      ∙ sym (append_assoc by.tries (Took place (AReplica by.own) ∷ Read by.loaded ∷ follow_deeds (nat_lt by.own.replica.tail by.loaded) by.log by.left) (step ∷ []))
 
   puts : PutsTail point step
   unfolding PutsTail HasTail

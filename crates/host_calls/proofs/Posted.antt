@@ -12,7 +12,7 @@ use Rattle.accounts.specs.Told.{Tells}
 use Rattle.store_steps.specs.Polling.{HasAskedFor}
 use Rattle.store_steps.specs.Views.{SessionView, known_of}
 use Rattle.store_steps.proofs.Export.{store_laws}
-use Rattle.store_laws.specs.CallsMade.{GoneOn}
+use Rattle.store_laws.specs.Gone.{GoneOn}
 use Rattle.store.specs.Polled.{HasPostedFor}
 use Rattle.store.proofs.Export.{gone_then}
 use Rattle.host_calls.specs.declared.attached.CallResult.{CallResult}

@@ -1,13 +1,13 @@
--- Which updates and answers a call of a host adds to those of its session.
+-- Which calls and answers a call of a host adds to those of its session.
 use Rattle.std.specs.Prelude.{◌≡◌, ℕ, List, [], ◌∷◌, Option, Some, None}
-use Rattle.verifier.specs.declared.refusal.Mode.TheVariants.{Update}
+use Rattle.verifier.specs.declared.refusal.Mode.TheVariants.{Read, Update}
 use Rattle.oplog.specs.Operations.{Operation}
 use Rattle.combiner.specs.declared.slots.Reply.{Reply}
 use Rattle.combiner.specs.declared.slots.Reply.TheVariants.{Ended, Placed}
 use Rattle.replica.specs.declared.refusals.StoreRefused.{StoreRefused}
 use Rattle.replica.specs.declared.refusals.StoreRefused.TheVariants.{Ended as TheEnd}
 use Rattle.accounts.specs.declared.sessions.Pending.{Pending}
-use Rattle.schedule.specs.Trace.{Back, Call, Trace, Updated}
+use Rattle.schedule.specs.Trace.{Back, Call, ReadBack, Trace, Updated}
 use Rattle.store.specs.Linear.{Adds}
 use Rattle.host_calls.specs.declared.attached.CallResult.{CallResult}
 use Rattle.host_calls.specs.declared.attached.CallResult.TheVariants.{Again, Answered as Answers, Refused}
@@ -39,10 +39,16 @@ update_events session op refused (Some o) told = answer_event session (reply_tol
 update_events session op (Some why) None told = []
 update_events session op None None told = posted_events session op told
 
+-- of a read, if it is answered
+abbrev pub read_events : (session : ℕ) → Operation → Option Pending → CallResult → Trace
+read_events session op None (Answers point reply) =
+    Call session Read op ∷ Back session (ReadBack (record { point = point; reply = reply })) ∷ []
+read_events session op out told = []
+
 abbrev pub call_events : (session : ℕ) → Asks → Option Pending → CallResult → Trace
 call_events session (Updates op refused) out told = update_events session op refused out told
 call_events session (Posts op refused) out told = update_events session op refused out told
-call_events session (Reads op refused) out told = []
+call_events session (Reads op refused) out told = read_events session op out told
 call_events session (Checks refused) out told = []
 call_events session Nothing out told = []
 

@@ -11,8 +11,9 @@ use Rattle.replica.specs.declared.refusals.StoreRefused.TheVariants.{Ended as Th
 use Rattle.accounts.specs.declared.sessions.Pending.{Pending}
 use Rattle.accounts.specs.Accounts.{Extends, IsWellFormed}
 use Rattle.accounts.specs.Moves.{posted_with}
+use Rattle.accounts.specs.Told.{read_with}
 use Rattle.store_steps.specs.Views.{SessionView, known_of}
-use Rattle.store_laws.specs.CallsMade.{GoneOn}
+use Rattle.store_laws.specs.Gone.{GoneOn}
 use Rattle.store.specs.Looks.{HasReply}
 use Rattle.store_steps.specs.Sights.{SightTells}
 use Rattle.store.specs.Sessions.{IsFresh}
@@ -76,13 +77,15 @@ abbrev pub TellsPost : Operation → Option StoreRefused → (old new : SessionV
 TellsPost op refused old new told =
     HasGrown old new × MatchOption old.note.pending (MatchOption refused (TellsPostedAlone op old new told) (λ why. TellsRefused old new told why)) (λ o. TellsOut old new o told)
 
--- a read that isn't refused: a place was held, or it has seen all that was completed when it began, and has the reply there
+-- a read that isn't refused: a place was held, or it has seen all that was completed when it began, and has the reply there; the session notes the read
+-- and that answer
 abbrev pub TellsSeen : Operation → (old new : SessionView) → CallResult → Type 0
-TellsSeen op old new Busy = Unit {0}
-TellsSeen op old new (Answered point reply) = IsSeen (HasReply op) (λ (a : ReadAnswer). a.point) old new (record { point = point; reply = reply })
+TellsSeen op old new Busy = new.note ≡ old.note
+TellsSeen op old new (Answered point reply) =
+    (new.note ≡ read_with old.note op point reply) × IsSeen (HasReply op) (λ (a : ReadAnswer). a.point) old new (record { point = point; reply = reply })
 TellsSeen op old new told = ⊥
 
 -- a read alike: it is refused while an update is out, and what the session waits for stays what it was
 abbrev pub TellsReading : Operation → Option StoreRefused → (old new : SessionView) → CallResult → Type 0
 TellsReading op refused old new told =
-    MatchOption old.note.pending (HasGrown old new × (new.note ≡ old.note) × MatchOption refused (TellsSeen op old new told) (λ why. TellsRefused old new told why)) (λ o. (told ≡ IsOut) × (new ≡ old))
+    MatchOption old.note.pending (HasGrown old new × MatchOption refused (TellsSeen op old new told) (λ why. TellsRefused old new told why)) (λ o. (told ≡ IsOut) × (new ≡ old))

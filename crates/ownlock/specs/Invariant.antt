@@ -132,9 +132,9 @@ module _ {P N V : Type 0} (R : Rules P N V) where
       × (me' ≡ (handed k m ms p y (grown progress) (noted k.note) run, (slot_of p, Some y) ∷ [])))
 
   -- the word of the completed tail is read: the seat knows a progress with that completed tail, and that it has read this
-  abbrev pub done_read : Step (Option V) → Me (Option V) (View P N V) → ℕ → Me (Option V) (View P N V) → Type 0
-  done_read st m r m' = (k : Known P N V) → m.0 ≡ k ∷ [] → (progress : P) × ((notes : List N) × Possible R k progress notes) × (r ≡ R.completed progress)
-      × ((run : Run P N V) × Adds k (Read r) progress k.note run × (m' ≡ (having_read k progress r run ∷ [], m.1)))
+  abbrev pub done_read : (ℕ → N → N) → Step (Option V) → Me (Option V) (View P N V) → ℕ → Me (Option V) (View P N V) → Type 0
+  done_read noted st m r m' = (k : Known P N V) → m.0 ≡ k ∷ [] → (progress : P) × ((notes : List N) × Possible R k progress notes) × (r ≡ R.completed progress)
+      × ((run : Run P N V) × Adds k (Read r) progress (noted r k.note) run × (m' ≡ (having_read k progress (noted r k.note) r run ∷ [], m.1)))
 
   -- the word of the completed tail is raised: the seat knows a progress with the completed tail so raised
   abbrev pub done_raised : Step (Option V) → Me (Option V) (View P N V) → ℕ → Me (Option V) (View P N V) → Type 0

@@ -74,11 +74,15 @@ module _ {P N V : Type 0} (R : Rules P N V) where
       × ((after : Known P N V) × Acquired p m after y × TookNext run p y after
       × (now.sessions ≡ after ∷ (ms ++ left_with k p y (grown progress) (noted k.note) run ∷ []))))
 
-  -- what a read of the completed tail n tells the session
-  abbrev pub Reads : SeatView P N V → ℕ → SeatView P N V → Type 0
-  Reads before n now = (k : Known P N V) → IsSession before k
-      → (progress : P) × MayFind k progress × (n ≡ R.completed progress) × IsSession now (having_read k progress n (run_of now.sessions))
-      × Adds k (Read n) progress k.note (run_of now.sessions)
+  -- whatever completed tail the session k finds, it may go to this note
+  abbrev pub MayAsk : (ℕ → N → N) → Known P N V → Type 0
+  MayAsk noted k = (progress : P) (notes : List N) → Possible k progress notes → R.Asks k.session progress k.note (noted (R.completed progress) k.note)
+
+  -- what a read of the completed tail n tells the session, which notes this by it
+  abbrev pub Reads : (ℕ → N → N) → SeatView P N V → ℕ → SeatView P N V → Type 0
+  Reads noted before n now = (k : Known P N V) → IsSession before k
+      → (progress : P) × MayFind k progress × (n ≡ R.completed progress) × IsSession now (having_read k progress (noted n k.note) n (run_of now.sessions))
+      × Adds k (Read n) progress (noted n k.note) (run_of now.sessions)
 
   -- what a raise of the completed tail to at least n tells the session
   abbrev pub Raises : SeatView P N V → ℕ → SeatView P N V → Type 0

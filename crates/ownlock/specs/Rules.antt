@@ -26,6 +26,8 @@ pub record Rules (P N V : Type 0) : Type 1 where
   pub Allows : P → ℕ → List ℕ → Type 0
   -- the session that took the value at the place may go from the progress and its own note to another progress and note
   pub Moves : ℕ → ℕ → V → P → N → P → N → Type 0
+  -- a session that loads the completed tail may go from its own note to another
+  pub Asks : ℕ → P → N → N → Type 0
   -- the completed tail, the progress whose completed tail is raised to at least n, and whether the history has at least n entries
   pub completed : P → ℕ
   pub raised : P → ℕ → P
@@ -70,6 +72,9 @@ pub record Laws {P N V : Type 0} (R : Rules P N V) : Type 0 where
   -- a move keeps the account, and the agreement of each value of another place, on its shelf or as a session took it
   pub moves_account : (m : Move R) (notes : List N) → IsAmong m notes → R.Accounts m.new_progress (new_notes m notes)
   pub moves_others : (m : Move R) (notes : List N) → IsAmong m notes → (q : ℕ) (y : V) → q ≢ m.place → R.AgreesWith q m.progress notes y → R.AgreesWith q m.new_progress (new_notes m notes) y
+  -- a note that changes at a load keeps the account, and the agreement of each value
+  pub asks_account : (c : ℕ) (l : P) (n n' : N) (ns : List N) → R.Asks c l n n' → At c n ns → R.Accounts l ns → R.Accounts l (slice_set ns c n')
+  pub asks_agrees : (p : ℕ) (x : V) (c : ℕ) (l : P) (n n' : N) (ns : List N) → R.Asks c l n n' → At c n ns → R.Accounts l ns → R.AgreesWith p l ns x → R.AgreesWith p l (slice_set ns c n') x
   -- a raise makes the completed tail the greater of the two, and adds nothing to the history
   pub raised_completed : (l : P) (n : ℕ) → R.completed (R.raised l n) ≡ max (R.completed l) n
   pub raised_extends : (l : P) (n : ℕ) → R.Extends l (R.raised l n)

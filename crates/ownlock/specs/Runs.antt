@@ -1,5 +1,5 @@
 -- Where the steps of all sessions lead from what a shelf was opened with.
-use Rattle.std.specs.Prelude.{◌≡◌, ℕ, List, [], ◌∷◌}
+use Rattle.std.specs.Prelude.{◌≡◌, ℕ, List, [], ◌∷◌, slice_set}
 use Rattle.ownlock.specs.declared.known.SharedStep.{SharedStep}
 use Rattle.ownlock.specs.declared.known.ShelfStep.{ShelfStep}
 use Rattle.ownlock.specs.declared.known.ShelfStep.TheVariants.{Took, Put, Read, Raised}
@@ -22,9 +22,9 @@ module _ {P N V : Type 0} (R : Rules P N V) (opened : Opened P N) where
         → R.AgreesWith move.place move.new_progress (new_notes move ns) y
         → Runs (record { session = move.session; step = Put move.place y; progress = move.new_progress; before = move.note; note = move.new_note } ∷ run)
         move.new_progress (new_notes move ns)
-    -- a session reads the completed tail
-    Loads : (run : Run P N V) (l : P) (ns : List N) (c found : ℕ) (n : N) → Runs run l ns → At c n ns → found ≡ R.completed l
-        → Runs (keeping c (Read found) l n ∷ run) l ns
+    -- a session reads the completed tail, and may note that it asks something there
+    Loads : (run : Run P N V) (l : P) (ns : List N) (c found : ℕ) (n n' : N) → Runs run l ns → At c n ns → found ≡ R.completed l → R.Asks c l n n'
+        → Runs (record { session = c; step = Read found; progress = l; before = n; note = n' } ∷ run) l (slice_set ns c n')
     -- a session raises the completed tail to a number that the progress reaches
     Raises : (run : Run P N V) (l : P) (ns : List N) (c k : ℕ) (n : N) → Runs run l ns → At c n ns → R.Reaches l k
         → Runs (keeping c (Raised k) (R.raised l k) n ∷ run) (R.raised l k) ns

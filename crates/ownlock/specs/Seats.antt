@@ -154,9 +154,9 @@ module _ {P N V : Type 0} where
   abbrev pub having_raised : Known P N V → P → ℕ → Run P N V → Known P N V
   having_raised k progress n run = record { session = k.session; progress = progress; note = k.note; held = k.held; steps = Raised n ∷ k.steps; run = run }
 
-  -- the session, once it has read the completed tail n, and knows this progress
-  abbrev pub having_read : Known P N V → P → ℕ → Run P N V → Known P N V
-  having_read k progress n run = record { session = k.session; progress = progress; note = k.note; held = k.held; steps = Read n ∷ k.steps; run = run }
+  -- the session, once it has read the completed tail n, with this note, and knows this progress
+  abbrev pub having_read : Known P N V → P → N → ℕ → Run P N V → Known P N V
+  having_read k progress note n run = record { session = k.session; progress = progress; note = note; held = k.held; steps = Read n ∷ k.steps; run = run }
 
   -- all sessions, from the i-th on, each with its note
   abbrev pub all_sessions : P → ℕ → List N → View P N V

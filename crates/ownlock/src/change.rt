@@ -9,6 +9,17 @@ pub trait Change<P, N> {
     ghost note: { N → N };
 }
 
+/// What a load of the completed tail does to the note of the session that loads, by what it finds.
+pub trait Ask<N> {
+    ghost use Rattle.std.specs.Prelude.{ℕ};
+
+    ghost note: { ℕ → N → N };
+}
+
+impl<N> Ask<N> for Brand {
+    ghost note = { λ found n. n };
+}
+
 impl<P, N> Change<P, N> for Brand {
     ghost progress = { λ l. l };
 

@@ -16,7 +16,7 @@ mod spreading;
 mod steps;
 mod words;
 
-pub use change::Change;
+pub use change::{Ask, Change};
 pub use error::{NotOpened, OpenError};
 pub use known::{Known, SharedStep, ShelfStep};
 pub use law::between_steps;

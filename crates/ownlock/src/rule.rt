@@ -3,7 +3,7 @@ ghost use Rattle.std.specs.Prelude.{[], ◌++◌};
 ghost use Rattle.ownlock.specs.Seats.{all_sessions, opened_with};
 ghost use Rattle.ownlock.specs.Invariant.{LockInvariant, tried, fronted, freed, settled, handed_on, done_read, done_raised, first_of, others_of};
 
-use crate::change::Change;
+use crate::change::{Ask, Change};
 use crate::known::Known;
 use crate::shelved::Shelved;
 use atomic_table::{Join, Play, Seat, Shared, Split, TableRule};
@@ -69,10 +69,12 @@ impl<V: Shelved, M: Change<V::Progress, V::SessionNote>> Play<Option<V>, View<V>
 }
 
 // The completed tail is read.
-pub struct ReadDone;
+pub struct ReadDone<M> {
+    marker: PhantomData<M>,
+}
 
-impl<V: Shelved> Play<Option<V>, View<V>> for ReadDone {
-    ghost then = { done_read V.rules };
+impl<V: Shelved, M: Ask<V::SessionNote>> Play<Option<V>, View<V>> for ReadDone<M> {
+    ghost then = { done_read V.rules M.note };
 }
 
 // The completed tail is raised.

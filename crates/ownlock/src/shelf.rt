@@ -2,12 +2,12 @@
 ghost use Rattle.std.specs.Prelude.{◌≡◌, ◌<◌, ◌++◌, length, replicate, IfOk, IfErr, IfSome, MatchOption};
 ghost use Rattle.ownlock.specs.declared.known.Known.{Known};
 ghost use Rattle.ownlock.specs.Seats.{IsSession, IsSplit, HasSession, all_sessions, HoldsNone, opened_with};
-ghost use Rattle.ownlock.specs.Knowledge.{MayTake, MayPut, Takes, Puts, Settles, HandsOn, Reads, Raises, AllAgree, Closes};
+ghost use Rattle.ownlock.specs.Knowledge.{MayAsk, MayTake, MayPut, Takes, Puts, Settles, HandsOn, Reads, Raises, AllAgree, Closes};
 ghost use Rattle.ownlock.specs.Invariant.{others_of};
 ghost use Rattle.ownlock.specs.Settling.{MaySettle, MayPassOn};
 ghost use Rattle.ownlock.specs.Held.{held_place};
 
-use crate::change::Change;
+use crate::change::{Ask, Change};
 use crate::error::{NotOpened, OpenError};
 use crate::rule::{JoinViews, LockRule, RaiseDone, ReadDone, SplitFirst, SplitOthers, View};
 use crate::seat::Seat;
@@ -243,14 +243,14 @@ impl<V: Shelved> Shelf<V> {
 
     /// The completed tail, which the session has read then. It waits for nobody, and the session may hold any places: what it took
     /// from there still agrees.
-    pub fn done(&self, seat: &mut Seat<V>) -> u64
+    pub fn done<M: Ask<V::SessionNote>>(&self, seat: &mut Seat<V>) -> u64
         requires own { seat.old.shelf ≡ self.now.id }
-        requires one { (k : Known V.Progress V.SessionNote V) × IsSession seat.old k }
+        requires may { (k : Known V.Progress V.SessionNote V) × IsSession seat.old k × MayAsk V.rules M.note k }
         ensures same { seat.new.shelf ≡ seat.old.shelf }
-        ensures read { Reads V.rules seat.old result seat.new }
+        ensures read { Reads V.rules M.note seat.old result seat.new }
     {
         let word = word_of(self.places);
-        self.table.shared.load::<ReadDone>(&mut seat.pass, word)
+        self.table.shared.load::<ReadDone<M>>(&mut seat.pass, word)
     }
 
     /// The completed tail becomes the greater of itself and `n`, which is at most the length of the history that the session

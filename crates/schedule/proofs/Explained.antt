@@ -78,7 +78,7 @@ effect_more m h es k op l = ap (λ state. store_meaning.update m.catalogue op st
 pub reply_more : (m : Opening) (h es : History) (k : ℕ) (op : Operation) → k ≤ length h → reply_at store_meaning m.catalogue (h ++ es) k op ≡ reply_at store_meaning m.catalogue h k op
 reply_more m h es k op l = ap (λ state. option_map (λ e. e.reply) (store_meaning.update m.catalogue op state)) (after_more m h es k l)
 
-pub read_more : (m : Opening) (h es : History) (k : ℕ) (op : Operation) → k ≤ length h → read_reply_at store_meaning m.catalogue (h ++ es) k op ≡ read_reply_at store_meaning m.catalogue h k op
+read_more : (m : Opening) (h es : History) (k : ℕ) (op : Operation) → k ≤ length h → read_reply_at store_meaning m.catalogue (h ++ es) k op ≡ read_reply_at store_meaning m.catalogue h k op
 read_more m h es k op l = ap (λ state. option_map (λ e. e.reply) (store_meaning.read m.catalogue op state)) (after_more m h es k l)
 
 pub explains_entry : {m : Opening} {h : History} {positions : Positions} {t : Trace} (e : Record) (c : ℕ) → Explains m h positions t → is_operation Update m.catalogue e.op ≡ true

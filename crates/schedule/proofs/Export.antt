@@ -4,7 +4,7 @@ pub use Rattle.schedule.proofs.Append.{keeps_append}
 pub use Rattle.schedule.proofs.Appends.{take_length, take_snoc}
 pub use Rattle.schedule.proofs.Calls.{Kept, keeps_collect, keeps_post, keeps_read_answer, keeps_read_begin, right_open, session_is, stamp_of}
 pub use Rattle.schedule.proofs.Desks.{keeps_claim, keeps_reply}
-pub use Rattle.schedule.proofs.Explained.{Fine, Right, explains_entry, explains_event, in_trace, read_more}
+pub use Rattle.schedule.proofs.Explained.{Fine, Right, explains_entry, explains_event, in_trace}
 pub use Rattle.schedule.proofs.Lists.{get_set, get_snoc, get_take, get_taken, set_same}
 pub use Rattle.schedule.proofs.Logs.{keeps_finish, keeps_rebase, keeps_reclaim}
 pub use Rattle.schedule.proofs.OnCalls.{steps_explained}

@@ -2,6 +2,7 @@
 use Rattle.std.proofs.Common.{◌≡◌, ◌≢◌, ℕ, zero, suc, ◌+◌, ◌<◌, List, [], ◌∷◌, ◌++◌, refl, sym, ap, ◌∙◌, arith, append_assoc}
 use Rattle.std.specs.List.{AllByRecursion}
 use Rattle.std.proofs.lemmas.List.{append-nil}
+use Rattle.maps.proofs.Export.{joined}
 use Rattle.schedule.specs.declared.steps.Step.{Step}
 use Rattle.schedule.specs.declared.steps.Step.TheVariants.{Claim, Append, Replay, Finish, Reply, Collect, ReadAnswer, Reclaim, Rebase}
 use Rattle.schedule.specs.Steps.{node_of}
@@ -53,10 +54,6 @@ handing_own n s (suc count) = (refl, (refl, handing_own n (suc s) count))
 pub settling_own : (n slots : ℕ) → AreOwn n (settling n slots)
 settling_own n slots = (refl, (refl, (refl, (refl, (refl, (refl, (refl, (refl, (refl, (refl, (refl, (refl, (refl, (refl, (refl, handing_own n 0 slots)))))))))))))))
 
-others_append : (k : ℕ) (xs ys : List Step) → AreOfOthers k xs → AreOfOthers k ys → AreOfOthers k (xs ++ ys)
-others_append k [] ys are more = more
-others_append k (step ∷ xs) ys (ne, are) more = (ne, others_append k xs ys are more)
-
 others_own : (k n : ℕ) → k ≢ n → (steps : List Step) → AreOwn n steps → AreOfOthers k steps
 others_own k n ne [] are = tt
 others_own k n ne (step ∷ steps) (is, are) = ((λ e. ne (sym e ∙ is)), others_own k n ne steps are)
@@ -65,5 +62,5 @@ others_own k n ne (step ∷ steps) (is, are) = ((λ e. ne (sym e ∙ is)), other
 pub all_of_others : (k n count slots : ℕ) → k < n → AreOfOthers k (settling_all n count slots)
 all_of_others k n zero slots lt = tt
 all_of_others k n (suc count) slots lt =
-    others_append k (settling n slots) (settling_all (suc n) count slots) (others_own k n (λ e. absurd (omega arith)) (settling n slots) (settling_own n slots))
+    joined (λ step. node_of step ≢ k) (settling n slots) (settling_all (suc n) count slots) (others_own k n (λ e. absurd (omega arith)) (settling n slots) (settling_own n slots))
     (all_of_others k (suc n) count slots (omega arith))

@@ -67,7 +67,7 @@ module _ (store : StoreView) (shared : Shared) (is : IsShared store shared) (ms 
         i.known,
         i.is,
         i.free,
-        may_ask i.known store.config config is.config i.pending i.batch i.within i.well_formed,
+        may_ask i.known store.config config is.config (i.pending, i.unread) i.batch i.within i.well_formed,
         record {
           places_are = is.places ∙ ap (λ n. 1 + n + n) (sym is.nodes.0);
           few = subst (λ n. n ≤ MAX_NODES) (sym is.nodes.0) is.nodes.1;

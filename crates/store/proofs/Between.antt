@@ -26,7 +26,7 @@ use Rattle.store.specs.Polled.{HasPostedFor}
 use Rattle.store_steps.specs.Views.{IsIdle, SessionView, known_of, session_view}
 use Rattle.store.specs.Sessions.{HasRoom, IsOf, SessionGoesOn, StoreView}
 use Rattle.store_steps.specs.Standing.{SessionKnown, StoreSeat}
-use Rattle.store_laws.specs.CallsMade.{GoneOn}
+use Rattle.store_laws.specs.Gone.{GoneOn}
 use Rattle.store_steps.proofs.Export.{asks, both, goes_seen, seen_as, free_by, store_laws, well_formed}
 use Rattle.store.proofs.Gone.{gone_self, gone_then}
 use Rattle.store.proofs.Invoked.{has_asked}
@@ -60,6 +60,17 @@ goes_then store old mid new a b = record {
   well_formed = b.well_formed;
   gone = gone_then (known_of old) (known_of mid) (known_of new) a.gone b.gone;
 }
+
+-- the shelf and the catalogue of a session's store are these
+pub on_store : (s : S) (k : K) → IsSession s k → (shared : Shared) (store : StoreView) → IsOf store (session_view s) → shared.shelf.now.places ≡ 1 + store.config.nodes + store.config.nodes
+    → (shared.nodes ≡ store.config.nodes) × (store.config.nodes ≤ MAX_NODES) → shared.catalogue.now ≡ store.catalogue → IsOn shared k
+on_store s k is shared store own places nodes same =
+    let seen = seen_as s k is in record {
+      places_are = places ∙ ap (λ n. 1 + n + n) (sym nodes.0);
+      few = subst (λ n. n ≤ MAX_NODES) (sym nodes.0) nodes.1;
+      nodes_are = ap (λ (z : SessionView). z.progress.config.nodes) (sym seen) ∙ (ap (λ (z : Sizes). z.nodes) own.config ∙ sym nodes.0);
+      catalogue_is = ap (λ (z : SessionView). z.progress.catalogue) (sym seen) ∙ (own.catalogue ∙ sym same);
+    }
 
 -- ---- the stages
 
@@ -96,21 +107,9 @@ module _ (s : S) (caller : Caller) where
     pub well_at : (stage : Stage) → IsPolled s caller b kept stage → IsWellFormed store_meaning (session_view s).progress
     well_at stage v = let k = known_at stage v in subst (λ (z : SessionView). IsWellFormed store_meaning z.progress) (sym (seen_as s k.0 k.1)) k.2
 
-    -- the shelf and the catalogue of the session's store are these
     pub on_at : (shared : Shared) (store : StoreView) (stage : Stage) → IsPolled s caller b kept stage → IsOf store (session_view s) → shared.shelf.now.places ≡ 1 + store.config.nodes + store.config.nodes
         → (shared.nodes ≡ store.config.nodes) × (store.config.nodes ≤ MAX_NODES) → shared.catalogue.now ≡ store.catalogue → Knows s (IsOn shared)
-    on_at shared store stage v own places nodes same =
-        let k = known_at stage v in
-        let seen = seen_as s k.0 k.1 in (
-          k.0,
-          k.1,
-          record {
-            places_are = places ∙ ap (λ n. 1 + n + n) (sym nodes.0);
-            few = subst (λ n. n ≤ MAX_NODES) (sym nodes.0) nodes.1;
-            nodes_are = ap (λ (z : SessionView). z.progress.config.nodes) (sym seen) ∙ (ap (λ (z : Sizes). z.nodes) own.config ∙ sym nodes.0);
-            catalogue_is = ap (λ (z : SessionView). z.progress.catalogue) (sym seen) ∙ (own.catalogue ∙ sym same);
-          },
-        )
+    on_at shared store stage v own places nodes same = let k = known_at stage v in (k.0, k.1, on_store s k.0 k.1 shared store own places nodes same)
 
 pub room_on : (old new : S) (room : InstalledView) → Extends (session_view old).progress (session_view new).progress → HasRoom room old → HasRoom room new
 room_on old new room grown h = (h.0 ∙ ap (λ (x : CatalogueView). x.shapes) grown.catalogue, h.1 ∙ ap (λ (x : CatalogueView). x.long) grown.catalogue, h.2)
@@ -131,6 +130,7 @@ module _ (old new : S) (caller : Caller) (i : IsIdle old caller) (m : K) (op : O
           is = is;
           free = free_by caller k m p.back.session p.back.held p.back.extends i.free;
           pending = has.pending;
+          unread = ap (λ (n : SessionNote). n.begun) p.note ∙ i.unread;
           few = has.few;
           well_formed = well_formed m.progress p.back.stands.notes p.back.stands.accounts;
           within = subst (λ (n : SessionNote). length n.answered ≤ length m.progress.history) (sym p.note) (omega (arith, long, low));
@@ -153,33 +153,42 @@ module _ (old new : S) (caller : Caller) (i : IsIdle old caller) (m : K) (op : O
 
 -- ---- a read
 
--- the session is idle still, with its note
+-- the second note waits for nothing more than the first, and has the batch and the answered updates of that
+abbrev pub Rests : (n n' : SessionNote) → Type 0
+Rests n n' = (n'.pending ≡ n.pending) × (n'.begun ≡ None) × (n'.batch ≡ n.batch) × (n'.answered ≡ n.answered)
+
+-- the session is idle still
 pub record StaysIdle (old new : S) (caller : Caller) : Type 0 where
   pub idle : IsIdle new caller
   pub session : (session_view new).session ≡ (session_view old).session
-  pub note : (session_view new).note ≡ (session_view old).note
   pub extends : Extends (session_view old).progress (session_view new).progress
   pub well_formed : IsWellFormed store_meaning (session_view new).progress
   pub gone : GoneOn (known_of (session_view old)) (known_of (session_view new))
 
 module _ (old new : S) (caller : Caller) (i : IsIdle old caller) (m : K) (is : IsSession new m) where
-  pub stays_idle : m.session ≡ i.known.session → m.held ≡ [] → m.note ≡ i.known.note → Extends i.known.progress m.progress → IsWellFormed store_meaning m.progress → GoneOn i.known m → StaysIdle old new caller
-  stays_idle session held note extends well gone = record {
+  -- with this note
+  pub stays_with : (noted : SessionNote → SessionNote) → ((n : SessionNote) → n.begun ≡ None → Rests n (noted n))
+      → m.session ≡ i.known.session → m.held ≡ [] → m.note ≡ noted i.known.note → Extends i.known.progress m.progress → IsWellFormed store_meaning m.progress → GoneOn i.known m → StaysIdle old new caller
+  stays_with noted rests session held note extends well gone = let r = rests i.known.note i.unread in record {
     idle = record {
       known = m;
       is = is;
       free = free_by caller i.known m session held extends i.free;
-      pending = ap (λ (n : SessionNote). n.pending) note ∙ i.pending;
-      batch = ap (λ (n : SessionNote). n.batch) note ∙ i.batch;
+      pending = ap (λ (n : SessionNote). n.pending) note ∙ (r.0 ∙ i.pending);
+      unread = ap (λ (n : SessionNote). n.begun) note ∙ r.1;
+      batch = ap (λ (n : SessionNote). n.batch) note ∙ (r.2 ∙ i.batch);
       well_formed = well;
-      within = let long = grown_long store_meaning i.known.progress m.progress extends in let low = i.within in subst (λ (n : SessionNote). length n.answered ≤ length m.progress.history) (sym note) (omega (arith, long, low));
+      within = let long = grown_long store_meaning i.known.progress m.progress extends in let low = i.within in
+          subst (λ us. length us ≤ length m.progress.history) (sym (ap (λ (n : SessionNote). n.answered) note ∙ r.3)) (omega (arith, long, low));
     };
     session = both old new i.known m i.is is (λ x y. y.session ≡ x.session) session;
-    note = both old new i.known m i.is is (λ x y. y.note ≡ x.note) note;
     extends = both old new i.known m i.is is (λ x y. Extends x.progress y.progress) extends;
     well_formed = both old new i.known m i.is is (λ x y. IsWellFormed store_meaning y.progress) well;
     gone = goes_seen GoneOn old new (session_view old) i.known m i.is i.free.held refl is held gone;
   }
+
+  pub stays_idle : m.session ≡ i.known.session → m.held ≡ [] → m.note ≡ i.known.note → Extends i.known.progress m.progress → IsWellFormed store_meaning m.progress → GoneOn i.known m → StaysIdle old new caller
+  stays_idle session held note extends well gone = stays_with (λ n. n) (λ n unread. (refl, unread, refl, refl)) session held note extends well gone
 
 -- ---- several deeds
 

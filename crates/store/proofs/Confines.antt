@@ -1,6 +1,6 @@
 -- What room for a program holds that was just emptied and filled, and what is refused of it.
 use Rattle.std.proofs.Common.{◌≡◌, ℕ, ◌≤◌, Bool, true, cond, List, Option, Some, refl, ap, ◌∙◌, arith}
-use Rattle.std.specs.Prelude.{◌&&◌, length, slice_get, Result, Ok, Err, IsOk}
+use Rattle.std.specs.Prelude.{length, slice_get, Result, Ok, Err, IsOk}
 use Rattle.std.proofs.lemmas.Bool.{false≢true}
 use Rattle.std.proofs.lemmas.Bool.Decides.{nat_tests}
 use Rattle.maps.specs.declared.shapes.Shape.{Shape}

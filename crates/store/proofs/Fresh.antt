@@ -61,6 +61,7 @@ module _ (config : Sizes) (c : CatalogueView) where
     is = is;
     free = record { own = own; within = within; near = inside a caller.node caller.slot config.slots config.nodes own lt; held = refl };
     pending = refl;
+    unread = refl;
     batch = refl;
     well_formed = record { allowed = λ i r at. absurd (at_none i r at); completed = omega arith; limit = omega arith };
     within = omega arith;

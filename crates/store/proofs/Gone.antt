@@ -1,5 +1,5 @@
 -- The run that a session knows goes on, by each thing that it does.
-use Rattle.std.proofs.Common.{List, ◌≡◌}
+use Rattle.std.proofs.Common.{List}
 use Rattle.ownlock.specs.declared.known.ShelfStep.{ShelfStep}
 use Rattle.ownlock.proofs.Export.{continues_on, continues_self}
 use Rattle.oplog.specs.Operations.{Operation}
@@ -12,7 +12,7 @@ use Rattle.store_steps.specs.Polling.{BeginsBy, DeedsGo}
 use Rattle.store_steps.specs.Shelving.{store_opening}
 use Rattle.store_steps.specs.Standing.{SessionKnown}
 use Rattle.store_steps.specs.Updating.{Answers, Begins, ClaimsIt, Combines, DeedBy, DeedGoes, Deeds, Gives, Looks, Rests, Rounds, Then, Tries, UpdatesBy, Waits}
-use Rattle.store_laws.specs.CallsMade.{GoneOn}
+use Rattle.store_laws.specs.Gone.{GoneOn}
 
 pub gone_self : (k : SessionKnown) → GoneOn k k
 gone_self k = (continues_self k.run, λ opening own. own)

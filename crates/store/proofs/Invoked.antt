@@ -1,5 +1,5 @@
 -- A session's update, from its post to its answer.
-use Rattle.std.proofs.Common.{◌≡◌, ℕ, suc, ◌<◌, ◌≤◌, ◌^◌, [], ◌∷◌, ◌++◌, length, length-append, sym, refl, ap, ◌∙◌, subst, arith, Some, None}
+use Rattle.std.proofs.Common.{◌≡◌, ℕ, suc, ◌<◌, ◌≤◌, ◌^◌, [], ◌∷◌, length, length-append, sym, refl, ap, ◌∙◌, subst, arith, None}
 use Rattle.ownlock.specs.Seats.{IsSession, SeatView, ShelfId}
 use Rattle.loader.specs.CatalogueView.{CatalogueView}
 use Rattle.combiner.specs.declared.slots.Reply.{Reply}
@@ -11,7 +11,7 @@ use Rattle.replica.specs.StoreMeaning.{store_meaning}
 use Rattle.accounts.specs.declared.sessions.Progress.{Progress}
 use Rattle.accounts.specs.declared.sessions.SessionNote.{SessionNote}
 use Rattle.accounts.specs.Accounts.{Extends, IsWellFormed}
-use Rattle.accounts.specs.Moves.{answered_with, called_with, posted_with}
+use Rattle.accounts.specs.Moves.{IsAtRest, answered_with, called_with, posted_with}
 use Rattle.accounts.specs.Told.{Tells}
 use Rattle.accounts.proofs.Export.{grown_long, whole_note}
 use Rattle.store_steps.specs.declared.steps.Caller.{Caller}
@@ -22,7 +22,7 @@ use Rattle.store_steps.specs.Requests.{HasCompleted, HasPosted}
 use Rattle.store.specs.Sessions.{said, IsOf, SessionGoesOn, StoreView, TellsUpdate}
 use Rattle.store_steps.specs.Views.{IsIdle, SessionView, known_of, request_of}
 use Rattle.store_steps.specs.Standing.{IsFree, SessionKnown, Stands}
-use Rattle.store_laws.specs.CallsMade.{GoneOn}
+use Rattle.store_laws.specs.Gone.{GoneOn}
 use Rattle.store_steps.proofs.Export.{free_by, store_laws, well_formed, view_known}
 
 abbrev K : Type 0
@@ -42,11 +42,11 @@ has_asked k a op config p same limits alone within well = record {
 }
 
 -- who waits for nothing may ask
-pub may_ask : (k : K) (config : Sizes) → k.progress.config ≡ config → AreSizes config → k.note.pending ≡ None
+pub may_ask : (k : K) (config : Sizes) → k.progress.config ≡ config → AreSizes config → IsAtRest k.note
     → k.note.batch ≡ [] → length k.note.answered ≤ length k.progress.history → IsWellFormed store_meaning k.progress
     → IsAlone k
 may_ask k config same limits free alone within well = record {
-  pending = free;
+  rests = free;
   alone = alone;
   few = let top = well.limit in let most = limits.limit.1 in let is = ap (λ (z : Sizes). z.limit) same in omega (arith, within, top, most, is);
 }
@@ -93,6 +93,7 @@ module _ (k f : K) (op : Operation) (reply : Reply) (v : Invoked k f op reply) w
     is = is;
     free = free_by caller k f v.session v.held v.extends (subst (λ z. IsFree caller z) same i.free);
     pending = ap (λ (n : SessionNote). n.pending) v.note ∙ none_pending reply;
+    unread = ap (λ (n : SessionNote). n.begun) v.note ∙ (same_begun reply ∙ (ap (λ (z : K). z.note.begun) (sym same) ∙ i.unread));
     batch = ap (λ (n : SessionNote). n.batch) v.note
         ∙ (same_batch reply ∙ (ap (λ (z : K). z.note.batch) (sym same) ∙ i.batch));
     well_formed = well_formed f.progress v.stands.notes v.stands.accounts;
@@ -102,6 +103,10 @@ module _ (k f : K) (op : Operation) (reply : Reply) (v : Invoked k f op reply) w
       none_pending : (reply : Reply) → (answered_with (called_with k.note op) op reply).pending ≡ None
       none_pending (Placed i x) = refl
       none_pending Ended = refl
+
+      same_begun : (reply : Reply) → (answered_with (called_with k.note op) op reply).begun ≡ k.note.begun
+      same_begun (Placed i x) = refl
+      same_begun Ended = refl
 
       same_batch : (reply : Reply) → (answered_with (called_with k.note op) op reply).batch ≡ k.note.batch
       same_batch (Placed i x) = refl

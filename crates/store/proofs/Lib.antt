@@ -12,8 +12,6 @@ pub mod Last
 pub mod Closing
 pub mod EachSession
 pub mod Linear
-pub mod Explained
-pub mod CallsTold
 pub mod MayInstall
 pub mod Confines
 pub mod Ascending

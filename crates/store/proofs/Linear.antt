@@ -4,7 +4,7 @@ use Rattle.std.specs.Prelude.{MatchOption}
 use Rattle.std.proofs.lemmas.List.{map-append}
 use Rattle.std.proofs.lemmas.List.Elements.{All-weaker}
 use Rattle.ownlock.specs.Seats.{At, own_steps}
-use Rattle.verifier.specs.declared.refusal.Mode.TheVariants.{Update}
+use Rattle.verifier.specs.declared.refusal.Mode.TheVariants.{Read, Update}
 use Rattle.machine.specs.Soundness.{TypableProgramsRun}
 use Rattle.loader.specs.CatalogueView.{IsCatalogue}
 use Rattle.oplog.specs.Operations.{Operation}
@@ -12,24 +12,23 @@ use Rattle.combiner.specs.declared.slots.Reply.{Reply}
 use Rattle.combiner.specs.declared.slots.Reply.TheVariants.{Ended, Placed}
 use Rattle.replica.specs.declared.refusals.StoreRefused.{StoreRefused}
 use Rattle.accounts.specs.Moves.{answered_with, posted_with}
-use Rattle.accounts.specs.Told.{updated_with}
+use Rattle.accounts.specs.Told.{read_with, updated_with}
+use Rattle.readpath.specs.declared.reading.ReadAnswer.{ReadAnswer}
 use Rattle.accounts.specs.declared.sessions.Pending.{Pending}
-use Rattle.accounts.specs.declared.sessions.SessionEvent.TheVariants.{UpdateBack, UpdateCall}
+use Rattle.accounts.specs.declared.sessions.SessionEvent.TheVariants.{ReadBack as ReadBackNoted, ReadCall, UpdateBack, UpdateCall}
 use Rattle.accounts.specs.declared.sessions.SessionNote.{SessionNote}
-use Rattle.schedule.specs.Explains.{Explains as SchedExplains}
-use Rattle.schedule.specs.Trace.{Back, Call, Trace, Updated, caller}
+use Rattle.schedule.specs.Trace.{Back, Call, ReadBack, Trace, Updated, caller}
 use Rattle.store_steps.specs.Asking.{asked_op}
 use Rattle.store_steps.specs.Shelving.{places_of, sessions_of}
 use Rattle.store_steps.specs.Stages.{IsOnItsWay}
 use Rattle.store_steps.specs.Views.{SessionView, known_of}
-use Rattle.store_laws.specs.CallsMade.{GoneOn, events_of_session}
-use Rattle.store_laws.specs.OwnEvents.{event_of, own_trace, trace_of}
-use Rattle.store_laws.specs.RunEvents.{opening_of}
-use Rattle.store_laws.proofs.Export.{notes_tell, since_begins, trace_goes_on, traces_are_theirs, traces_tell}
-use Rattle.store_laws.proofs.Export.{updates_are_explained}
+use Rattle.store_laws.specs.Gone.{GoneOn}
+use Rattle.store_laws.specs.RunEvents.{event_of, opening_of, own_trace, trace_of}
+use Rattle.store_laws.proofs.Export.{answers_are_in_run, notes_tell, runs_are_explained, since_begins, trace_goes_on, traces_are_theirs}
 use Rattle.promise.proofs.Export.{explains}
 use Rattle.store.specs.Adding.{ListsAdd, LooksAddNothing, PollsAdd, PostsAdd}
-use Rattle.store.specs.Linear.{Adds, AddsAnswer, AddsPost, AddsUpdate, Linearizes, own_events, seen}
+use Rattle.store.specs.Explained.{ClosesExplained}
+use Rattle.store.specs.Linear.{Adds, AddsAnswer, AddsPost, AddsRead, AddsTry, AddsUpdate, Linearizes, own_events, seen}
 use Rattle.store.specs.Opening.{ClosedView, IsClosed, setup_of}
 use Rattle.store.specs.PolledPipelines.{IsTold}
 use Rattle.store.specs.Polled.{TellsAsked, TellsCompleted, TellsPost}
@@ -141,6 +140,23 @@ module _ (store : StoreView) (old new : SessionView) (op : Operation) (goes : Se
   adds_asked (Ok (Some a)) told = posts told.0 told.1 (ap (λ (n : SessionNote). n.events) told.3)
   adds_asked (Err e) told = absurd told
 
+-- ---- a read
+
+-- who has asked a read and heard its answer
+pub reads_notes : (old new : SessionView) (op : Operation) (a : ReadAnswer) → new.note ≡ read_with old.note op a.point a.reply
+    → Notes old new (Call old.session Read op ∷ Back old.session (ReadBack a) ∷ [])
+reads_notes old new op a note = ap (own_trace old.session) note
+    ∙ map-append (event_of old.session) old.note.events (ReadCall op ∷ ReadBackNoted a.point a.reply ∷ [])
+
+module _ (store : StoreView) (old new : SessionView) (op : Operation) (goes : SessionGoesOn store old new) where
+  pub adds_read : (a : ReadAnswer) → new.note ≡ read_with old.note op a.point a.reply → AddsRead old new op (Ok a)
+  adds_read a note = adds store old new _ goes (reads_notes old new op a note)
+
+  pub adds_try : (o : Option ReadAnswer) → MatchOption o (new.note ≡ old.note) (λ a. new.note ≡ read_with old.note op a.point a.reply)
+      → AddsTry old new op (Ok o)
+  adds_try None note = adds_nothing store old new goes note
+  adds_try (Some a) note = adds_read a note
+
 -- who goes on with its update until it has the answer
 pub adds_back : (store : StoreView) (old mid new : SessionView) (o : Pending) (reply : Reply)
     → SessionGoesOn store old new → IsOnItsWay old mid → new.note ≡ answered_with (record mid.note { batch = [] }) o.op reply
@@ -182,17 +198,15 @@ polls_add store old new answers result goes told j s t o was now waits = by resu
 
 -- ---- one list of operations
 
-pub linearizes : TypableProgramsRun → (store : StoreView) (sessions : List SessionView) (closed : ClosedView)
+linearizes : TypableProgramsRun → (store : StoreView) (sessions : List SessionView) (closed : ClosedView)
     → IsCatalogue store.catalogue → (c : IsClosed store sessions closed) → Linearizes store sessions c.progress.history
 linearizes always store sessions closed whole c =
     let m = opening_of (setup_of store) in
     let count = sessions_of store.config in
     let places = places_of store.config in
-    let is = traces_tell m count places c.run c.progress c.notes c.leads in
-    let explained = updates_are_explained m count places c.run c.progress c.notes c.leads in record {
+    let explained = runs_are_explained m count places c.run c.progress c.notes c.leads in record {
       trace = trace_of c.run;
-      own = λ a s at. ap (events_of_session s.session) (sym is)
-          ∙ notes_tell m count places c.run c.progress c.notes c.leads s.session s.note (c.noted a s at);
+      own = λ a s at. notes_tell m count places c.run c.progress c.notes c.leads s.session s.note (c.noted a s at);
       only = All-weaker _ _ (λ e few. c.all (caller e) few) (trace_of c.run)
           (traces_are_theirs m count places c.run c.progress c.notes c.leads);
       begins = λ a s at.
@@ -201,6 +215,15 @@ linearizes always store sessions closed whole c =
           let more = since_begins s.session on.0 s.run s.steps (c.ends a s at).seen own in
           (more.0, ap trace_of on.1 ∙ more.1, more.2);
       positions = explained.0;
-      explains = explains always m c.progress.history explained.0 (trace_of c.run) whole
-          (subst (λ t. SchedExplains m c.progress.history explained.0 t) is explained.1);
+      explains = explains always m c.progress.history explained.0 (trace_of c.run) whole explained.1;
     }
+
+pub closes_explained : TypableProgramsRun → (store : StoreView) (sessions : List SessionView) (closed : ClosedView)
+    → IsCatalogue store.catalogue → IsClosed store sessions closed → ClosesExplained store sessions closed
+unfolding linearizes
+closes_explained always store sessions closed whole c = record {
+  is = c;
+  linear = linearizes always store sessions closed whole c;
+  told = λ a q s u at has.
+      answers_are_in_run (opening_of (setup_of store)) (sessions_of store.config) (places_of store.config) c.run c.progress c.notes c.leads s.session q s.note u (c.noted a s at) has;
+}

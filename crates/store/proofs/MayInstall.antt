@@ -1,6 +1,6 @@
 -- What may be installed within some maps may be installed.
 use Rattle.std.proofs.Common.{◌≡◌, ℕ, Bool, true, false, cond, List, Some, None, refl}
-use Rattle.std.specs.Prelude.{◌&&◌, nat_le, length, Result, Ok, Err}
+use Rattle.std.specs.Prelude.{Result, Ok, Err}
 use Rattle.maps.specs.declared.shapes.Shape.{Shape}
 use Rattle.verifier.specs.Accepted.{Checked}
 use Rattle.loader.specs.Installed.{installed_program}

@@ -38,7 +38,7 @@ use Rattle.store.specs.Opening.{AreOf}
 use Rattle.store.specs.Pipelines.{AreJoined, EachGoesOn, OthersStay, views_of}
 use Rattle.store.specs.PolledPipelines.{AreListed, AreWaiting, EachAsks, EachIsTold, EachLooks, IsTold, SetsFirst}
 use Rattle.store.specs.Sessions.{HasRoom, IsOf, SessionGoesOn, StoreView, known_of, said}
-use Rattle.store_laws.specs.CallsMade.{GoneOn}
+use Rattle.store_laws.specs.Gone.{GoneOn}
 use Rattle.store.proofs.Gone.{begin_goes, done_goes, visits_go}
 use Rattle.store.proofs.AskedEach.{IsShared, at_replaced, at_taken, replaced_long, stays_behind}
 use Rattle.store.proofs.Held.{HoldNothing}

@@ -1,4 +1,4 @@
--- What other calls add to the updates of their sessions, by what they tell.
+-- What other calls add to the calls and answers of their sessions, by what they tell.
 use Rattle.std.specs.Prelude.{◌≡◌, ℕ, List, [], ◌∷◌, Option, Result, Some, None, MatchOption}
 use Rattle.ownlock.specs.Seats.{At}
 use Rattle.verifier.specs.declared.refusal.Mode.TheVariants.{Update}
@@ -14,7 +14,7 @@ use Rattle.store.specs.Pipelines.{EachGoesOn, TellsEach}
 use Rattle.store.specs.PolledPipelines.{EachAsks, EachIsTold}
 use Rattle.store.specs.Sessions.{SessionGoesOn, StoreView}
 
--- A call that leaves its session's note adds nothing: a look, and a try in vain.
+-- A call that leaves its session's note adds nothing: a look for no read, and a try in vain.
 abbrev pub LooksAddNothing : Type 0
 LooksAddNothing =
     (store : StoreView) (old new : SessionView) → SessionGoesOn store old new → new.note ≡ old.note → Adds old new []

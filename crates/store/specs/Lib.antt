@@ -16,8 +16,6 @@ pub mod Within
 pub mod Linear
 -- The history that explains what the sessions of a closed store did.
 pub mod Explained
--- What is told of the calls of a session.
-pub mod CallsTold
 -- Several sessions of one node that ask for their updates at once.
 pub mod Pipelines
 -- Several sessions of one node whose calls answer at once.

@@ -1,28 +1,29 @@
--- What a call adds to the updates of its session, and what it is that one list of operations explains those of all
--- sessions. Reads make no events here.
+-- What a call adds to the calls and answers of its session, and what it is that one list of operations explains those of
+-- all sessions.
 use Rattle.std.specs.Prelude.{◌≡◌, ℕ, ◌++◌, List, [], ◌∷◌, Option, Some, None, Result, Ok, Err}
 use Rattle.std.specs.List.{All}
 use Rattle.ownlock.specs.Seats.{At}
 use Rattle.oplog.specs.Operations.{Operation}
+use Rattle.accounts.specs.Told.{read_with}
 use Rattle.oplog.specs.History.{History}
-use Rattle.verifier.specs.declared.refusal.Mode.TheVariants.{Update}
+use Rattle.verifier.specs.declared.refusal.Mode.TheVariants.{Read, Update}
 use Rattle.combiner.specs.declared.slots.Reply.{Reply}
 use Rattle.replica.specs.declared.refusals.StoreRefused.{StoreRefused}
-use Rattle.schedule.specs.Trace.{Back, Call, Positions, Trace, Updated, caller}
+use Rattle.readpath.specs.declared.reading.ReadAnswer.{ReadAnswer}
+use Rattle.schedule.specs.Trace.{Back, Call, Positions, ReadBack, Trace, Updated, caller}
 use Rattle.promise.specs.Linearized.{Explains}
 use Rattle.store_steps.specs.Views.{SessionView}
-use Rattle.store_laws.specs.CallsMade.{events_of_session}
-use Rattle.store_laws.specs.OwnEvents.{own_trace, trace_of}
+use Rattle.store_laws.specs.RunEvents.{events_of_session, own_trace, trace_of}
 use Rattle.store.specs.declared.answers.Answer.{Answer}
 use Rattle.store.specs.Sessions.{StoreView, said}
 
--- ---- the updates of a session
+-- ---- the calls of a session
 
--- its own updates and their answers, in their order, as its note has them
+-- its own updates and reads, with their answers, in their order, as its note has them
 abbrev pub own_events : SessionView → Trace
 own_events s = own_trace s.session s.note
 
--- the updates and answers of all sessions that it has seen
+-- the calls and answers of all sessions that it has seen
 abbrev pub seen : SessionView → Trace
 seen s = trace_of s.run
 
@@ -32,7 +33,7 @@ pub record Adds (old new : SessionView) (events : Trace) : Type 0 where
   pub own : own_events new ≡ own_events old ++ events
   pub grown : (more : Trace) × (seen new ≡ seen old ++ more)
 
--- the sessions have made no update, and have seen none
+-- the sessions have made no call, and have seen none
 abbrev pub AreNew : List SessionView → Type 0
 AreNew sessions = (a : ℕ) (s : SessionView) → At a s sessions → (own_events s ≡ []) × (seen s ≡ [])
 
@@ -55,6 +56,22 @@ abbrev pub AddsAnswer : (old new : SessionView) → Option (Result Answer StoreR
 AddsAnswer old new None = Adds old new []
 AddsAnswer old new (Some result) =
     (reply : Reply) × (result ≡ said reply) × Adds old new (Back old.session (Updated reply) ∷ [])
+
+-- what a session notes of a read: the read and its answer, if there is one
+abbrev pub NotesRead : (old new : SessionView) → Operation → Option ReadAnswer → Type 0
+NotesRead old new op (Some a) = new.note ≡ read_with old.note op a.point a.reply
+NotesRead old new op None = new.note ≡ old.note
+
+-- a read that isn't refused: it and what it answers
+abbrev pub AddsRead : (old new : SessionView) → Operation → Result ReadAnswer StoreRefused → Type 0
+AddsRead old new op (Ok a) = Adds old new (Call old.session Read op ∷ Back old.session (ReadBack a) ∷ [])
+AddsRead old new op (Err refused) = ⊥
+
+-- the same of a try to read, which adds nothing if it has no answer
+abbrev pub AddsTry : (old new : SessionView) → Operation → Result (Option ReadAnswer) StoreRefused → Type 0
+AddsTry old new op (Ok (Some a)) = AddsRead old new op (Ok a)
+AddsTry old new op (Ok None) = Adds old new []
+AddsTry old new op (Err refused) = ⊥
 
 -- ---- one list of operations
 

@@ -1,5 +1,5 @@
 -- A session whose calls answer at once: what they tell.
-use Rattle.std.specs.Prelude.{◌≡◌, ◌≤◌, length, Some, Option, Result, MatchOption, MatchResult}
+use Rattle.std.specs.Prelude.{◌≡◌, ◌≤◌, length, Option, Result, MatchOption, MatchResult}
 use Rattle.oplog.specs.Operations.{Operation}
 use Rattle.combiner.specs.declared.slots.Reply.{Reply}
 use Rattle.replica.specs.declared.refusals.StoreRefused.{StoreRefused}

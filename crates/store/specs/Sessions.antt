@@ -17,7 +17,7 @@ use Rattle.accounts.specs.Accounts.{Extends, IsWellFormed}
 use Rattle.accounts.specs.LogSteps.{first_progress, fresh_note}
 use Rattle.accounts.specs.Told.{Tells, note_ended, note_with}
 use Rattle.store.specs.declared.answers.Answer.{Answer}
-use Rattle.store_laws.specs.CallsMade.{GoneOn}
+use Rattle.store_laws.specs.Gone.{GoneOn}
 use Rattle.replica.specs.declared.refusals.StoreRefused.{StoreRefused}
 use Rattle.replica.specs.declared.refusals.StoreRefused.TheVariants.{Ended as TheEnd}
 use Rattle.store_steps.specs.Standing.{SessionKnown, StoreSeat}

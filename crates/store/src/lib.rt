@@ -20,7 +20,7 @@ mod within;
 pub use answers::Answer;
 pub use closed::Closed;
 pub use describing::StoreInfo;
-pub use laws::{calls_add, calls_are_told};
+pub use laws::calls_add;
 pub use loader::{Catalogue, LoadError, StoreState, load_manifest, load_manifest_within};
 pub use maps::{MapLimits, Shape};
 pub use node::NodeReplica;

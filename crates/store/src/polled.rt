@@ -1,13 +1,14 @@
 // A session whose calls answer at once.
 
-ghost use Rattle.std.specs.Prelude.{◌≡◌, [], ◌∷◌, None, Some, Err, true, false, length, ◌≤◌, IfSome, IfNone, MatchOption, Ok};
+ghost use Rattle.std.specs.Prelude.{◌≡◌, [], ◌∷◌, None, Some, Err, true, false, length, ◌≤◌, IfSome, IfNone, IfOk, MatchOption, Ok};
 ghost use Rattle.verifier.specs.declared.refusal.Mode.TheVariants.{Update, Read};
 ghost use Rattle.accounts.specs.declared.sessions.Pending.{Pending};
 ghost use Rattle.replica.specs.StoreMeaning.{is_operation};
 ghost use Rattle.replica.specs.declared.refusals.StoreRefused.{StoreRefused};
 ghost use Rattle.replica.specs.Refusals.{early_refusal};
 ghost use Rattle.store.specs.Going.{CompleteGoes, PostGoes};
-ghost use Rattle.store.specs.Linear.{AddsAnswer, AddsPost};
+ghost use Rattle.accounts.specs.ReadNotes.{looked_with};
+ghost use Rattle.store.specs.Linear.{AddsAnswer, AddsPost, AddsTry, NotesRead};
 ghost use Rattle.store_steps.specs.Views.{op_of};
 ghost use Rattle.store.specs.Sessions.{IsOf, MayUpdate, SessionGoesOn, known_of, install_of, install_refused};
 ghost use Rattle.store_steps.specs.Stages.{HasDone};
@@ -411,7 +412,9 @@ impl Polled {
         requires may { L.may look.old store.now.catalogue }
         requires idle { self.old.note.pending ≡ None }
         ensures session { SessionGoesOn store.now self.old self.new }
-        ensures note { self.new.note ≡ self.old.note }
+        ensures note { TriedGoes result (λ told. self.new.note ≡ looked_with (L.asks look.old) (L.point told) (L.replies told) self.old.note) }
+        ensures quiet { L.asks look.old ≡ None → self.new.note ≡ self.old.note }
+        ensures still { IfUnanswered result (self.new.note ≡ self.old.note) }
         ensures early { IsRefused (L.refusal look.old store.now.catalogue) result (self.new ≡ self.old) }
         ensures kept { IfUnanswered result (look.new ≡ look.old) }
         ensures lent { TriedGoes result (λ _. L.lent look.old look.new) }
@@ -462,10 +465,11 @@ impl Polled {
         requires own { IsOf store.now self.old }
         requires idle { self.old.note.pending ≡ None }
         ensures session { SessionGoesOn store.now self.old self.new }
-        ensures note { self.new.note ≡ self.old.note }
+        ensures note { IfOk result (NotesRead self.old self.new (op_of program argument.now)) }
         ensures early { IsRefused (early_refusal store.now.catalogue Read program argument.now) result (self.new ≡ self.old) }
         ensures told { MayRead store.now program argument.now
             → TellsTried result (IsSight (HasReply (op_of program argument.now)) (λ a. a.point) self.old self.new) }
+        ensures adds { MayRead store.now program argument.now → AddsTry self.old self.new (op_of program argument.now) result }
     {
         self.try_see(store, &mut Question { program, argument })
     }

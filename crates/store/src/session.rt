@@ -8,7 +8,8 @@ ghost use Rattle.replica.specs.StoreMeaning.{is_operation};
 ghost use Rattle.replica.specs.declared.refusals.StoreRefused.{StoreRefused};
 ghost use Rattle.replica.specs.Refusals.{early_refusal};
 ghost use Rattle.store.specs.Going.{UpdateGoes};
-ghost use Rattle.store.specs.Linear.{AddsUpdate};
+ghost use Rattle.accounts.specs.ReadNotes.{looked_with};
+ghost use Rattle.store.specs.Linear.{AddsRead, AddsUpdate, NotesRead};
 ghost use Rattle.store.specs.Sessions.{said};
 ghost use Rattle.store_steps.specs.Questions.{first_refused};
 ghost use Rattle.loader.specs.CatalogueView.{sizes_for};
@@ -378,7 +379,8 @@ impl Session {
         requires own { IsOf store.now self.old }
         requires may { L.may look.old store.now.catalogue }
         ensures session { SessionGoesOn store.now self.old self.new }
-        ensures note { self.new.note ≡ self.old.note }
+        ensures note { IfOk result (λ told. self.new.note ≡ looked_with (L.asks look.old) (L.point told) (L.replies told) self.old.note) }
+        ensures quiet { L.asks look.old ≡ None → self.new.note ≡ self.old.note }
         ensures early { IsRefused (L.refusal look.old store.now.catalogue) result (self.new ≡ self.old) }
         ensures kept { IfErr result (λ _. look.new ≡ look.old) }
         ensures lent { IfOk result (λ _. L.lent look.old look.new) }
@@ -425,10 +427,11 @@ impl Session {
     ) -> Result<ReadAnswer, StoreRefused>
         requires own { IsOf store.now self.old }
         ensures session { SessionGoesOn store.now self.old self.new }
-        ensures note { self.new.note ≡ self.old.note }
+        ensures note { IfOk result (λ a. NotesRead self.old self.new (op_of program argument.now) (Some a)) }
         ensures early { IsRefused (early_refusal store.now.catalogue Read program argument.now) result (self.new ≡ self.old) }
         ensures told { MayRead store.now program argument.now
             → TellsSight (HasReply (op_of program argument.now)) (λ a. a.point) self.old self.new result }
+        ensures adds { MayRead store.now program argument.now → AddsRead self.old self.new (op_of program argument.now) result }
     {
         self.see(rt, store, &mut Question { program, argument })
     }

@@ -15,28 +15,27 @@ use Rattle.accounts.specs.declared.sessions.Claim.{Claim}
 use Rattle.accounts.specs.declared.sessions.SessionNote.{SessionNote}
 use Rattle.accounts.specs.Accounts.{Accounts, HasNoRecord, IsInBatch}
 use Rattle.accounts.specs.Moves.{record_of, with_records}
-use Rattle.accounts.proofs.Export.{at_behind, at_below, at_joined, at_none, at_of, get_of}
-use Rattle.schedule.specs.declared.parts.BegunRead.{BegunRead}
+use Rattle.accounts.proofs.Export.{at_behind, at_joined, at_none, at_of, get_of}
+use Rattle.accounts.specs.declared.sessions.BegunRead.{BegunRead}
 use Rattle.schedule.specs.declared.parts.Opening.{Opening}
 use Rattle.schedule.specs.Explains.{Explains}
 use Rattle.schedule.specs.Stands.{OpenAt}
 use Rattle.schedule.specs.Trace.{Call, Trace, Positions}
 use Rattle.schedule.proofs.Export.{take_length, take_snoc, explains_entry, count_self}
-use Rattle.store_laws.specs.Stands.{CallStands, EventsStand, IndexIs}
-use Rattle.store_laws.specs.Threads.{Moment}
+use Rattle.store_laws.proofs.Stands.{CallStands, EventsStand, IndexIs, L}
 use Rattle.store_laws.proofs.Calls.{call_entry}
 use Rattle.maps.proofs.Export.{at_end}
 use Rattle.node.proofs.Export.{get_some}
 
 -- the call of a session that waits
-abbrev pub Waiting : Opening → (done : ℕ) → History → Positions → Trace → (x count : ℕ) → Pending → Type 0
-Waiting m done h positions t x count o = (c : ℕ) × (index : Option ℕ) × OpenAt m h positions t x count Update o.op index c × IndexIs h x count o.op index
+abbrev pub Waiting : Opening → History → Positions → Trace → (x count : ℕ) → Pending → Type 0
+Waiting m h positions t x count o = (c : ℕ) × (index : Option ℕ) × OpenAt m h positions t x count Update o.op index c × IndexIs h x count o.op index
 
-pub waits_for : (m : Opening) (done : ℕ) (h : History) (positions : Positions) (t : Trace) (x count : ℕ) (o : Pending) (pending : Option Pending) (read : Option BegunRead) → pending ≡ Some o
-    → CallStands m done h positions t x count pending read → (read ≡ None) × Waiting m done h positions t x count o
-waits_for m done h positions t x count o pending read is p = by read (subst (λ z. CallStands m done h positions t x count z read) is p)
+pub waits_for : (m : Opening) (h : History) (positions : Positions) (t : Trace) (x count : ℕ) (o : Pending) (pending : Option Pending) (read : Option BegunRead) → pending ≡ Some o
+    → CallStands m h positions t x count pending read → (read ≡ None) × Waiting m h positions t x count o
+waits_for m h positions t x count o pending read is p = by read (subst (λ z. CallStands m h positions t x count z read) is p)
   where
-    by : (read : Option BegunRead) → CallStands m done h positions t x count (Some o) read → (read ≡ None) × Waiting m done h positions t x count o
+    by : (read : Option BegunRead) → CallStands m h positions t x count (Some o) read → (read ≡ None) × Waiting m h positions t x count o
     by None p = (refl, p)
     by (Some read) p = absurd p
 
@@ -66,24 +65,23 @@ taken_at (suc k) [] j r e = absurd (at_none j r e)
 taken_at (suc k) (x ∷ xs) zero r e = (x, omega arith, refl, some-injective (record_of x) r e)
 taken_at (suc k) (x ∷ xs) (suc j) r e = let t = taken_at k xs j r e in let l = t.1 in (t.0, omega arith, t.2, t.3)
 
-module _ (m : Opening) (s : Moment) (positions : Positions) (t : Trace) (stands : EventsStand m s positions t) (w : Accounts store_meaning s.progress s.notes) (c : ℕ) (n : SessionNote)
-    (here : At c n s.notes) (unplaced : (j : ℕ) (q : Claim) → At j q n.batch → q.index ≡ None) where
+module _ (m : Opening) (l : L) (ns : List SessionNote) (positions : Positions) (t : Trace) (stands : EventsStand m l ns positions t) (w : Accounts store_meaning l ns) (c : ℕ) (n : SessionNote)
+    (here : At c n ns) (unplaced : (j : ℕ) (q : Claim) → At j q n.batch → q.index ≡ None) where
   abbrev h : History
-  h = s.progress.history
+  h = l.history
 
   abbrev pub grown : ℕ → History
   grown k = h ++ map record_of (take k n.batch)
 
   pub grown_long : (k : ℕ) → k ≤ length n.batch → length (grown k) ≡ length h + k
-  grown_long k l = length-append h (map record_of (take k n.batch)) ∙ ap (λ i. length h + i) (map_length (take k n.batch) ∙ take_length k n.batch l)
+  grown_long k low = length-append h (map record_of (take k n.batch)) ∙ ap (λ i. length h + i) (map_length (take k n.batch) ∙ take_length k n.batch low)
 
   pub record Grown (k : ℕ) : Type 0 where
     pub places : Positions
     pub more : Positions
     pub places_are : places ≡ positions ++ more
     pub explains : Explains m (grown k) places t
-    pub calls : (x : ℕ) (n : SessionNote) (read : Option BegunRead) → slice_get s.notes x ≡ Some n → slice_get s.reads x ≡ Some read
-        → CallStands m s.progress.completed (grown k) places t x (length n.answered) n.pending read
+    pub calls : (x : ℕ) (n : SessionNote) → slice_get ns x ≡ Some n → CallStands m (grown k) places t x (length n.answered) n.pending n.begun
 
   none_grown : grown 0 ≡ h
   none_grown = ap (λ zs. h ++ map record_of zs) (take_zero n.batch) ∙ append-nil h
@@ -99,10 +97,10 @@ module _ (m : Opening) (s : Moment) (positions : Positions) (t : Trace) (stands 
     more = [];
     places_are = sym (append-nil positions);
     explains = subst (λ z. Explains m z positions t) (sym none_grown) stands.explains;
-    calls = λ x n read at begun. subst (λ z. CallStands m s.progress.completed z positions t x (length n.answered) n.pending read) (sym none_grown) (stands.calls x n read at begun);
+    calls = λ x n at. subst (λ z. CallStands m z positions t x (length n.answered) n.pending n.begun) (sym none_grown) (stands.calls x n at);
   }
 
-  in_batch : (k : ℕ) (q : Claim) → slice_get n.batch k ≡ Some q → IsInBatch s.notes c k q
+  in_batch : (k : ℕ) (q : Claim) → slice_get n.batch k ≡ Some q → IsInBatch ns c k q
   in_batch k q g = (n, here, at_of n.batch k q g)
 
   -- nothing of a request is in the history before it is appended
@@ -123,10 +121,7 @@ module _ (m : Opening) (s : Moment) (positions : Positions) (t : Trace) (stands 
       let asked = w.requested c k q (in_batch k q g) in
       let a : SessionNote = asked.0 in
       let o : Pending = asked.2.0 in
-      let below = at_below s.notes r.author a asked.1 in
-      let long = stands.long in
-      let begun = get_some s.reads r.author (omega (arith, below, long)) in
-      let waits = waits_for m s.progress.completed (grown k) y.places t r.author (length a.answered) o a.pending begun.0 asked.2.1 (y.calls r.author a begun.0 (get_of s.notes r.author a asked.1) begun.1) in
+      let waits = waits_for m (grown k) y.places t r.author (length a.answered) o a.pending a.begun asked.2.1 (y.calls r.author a (get_of ns r.author a asked.1)) in
       let call = waits.1 in
       let seq : r.seq ≡ length a.answered = asked.2.3 in
       let none : HasNoRecord (grown k) r.author (length a.answered) = subst (HasNoRecord (grown k) r.author) seq (not_yet k q g) in
@@ -137,7 +132,7 @@ module _ (m : Opening) (s : Moment) (positions : Positions) (t : Trace) (stands 
       let done = stands.completed in
       let grew : Explains m (grown k ++ r ∷ []) (y.places ++ call.0 ∷ []) t =
       explains_entry r call.0 y.explains (subst (λ z. is_operation Update m.catalogue z ≡ true) (sym asked.2.2) waiting.may) called waiting.has (omega (arith, counts, seq)) (omega (arith, len, room))
-      (λ b x answer at. let l = stands.stamps b x answer at in omega (arith, l, len, done)) in
+      (λ b x answer at. let low = stands.stamps b x answer at in omega (arith, low, len, done)) in
       let place : length y.places ≡ length (grown k) = y.explains.each_placed in
       let opened : OpenAt m (grown k ++ r ∷ []) (y.places ++ call.0 ∷ []) t r.author (length a.answered) Update o.op (Some (length (grown k))) call.0 = record {
         is_open = waiting.is_open;
@@ -147,23 +142,21 @@ module _ (m : Opening) (s : Moment) (positions : Positions) (t : Trace) (stands 
       } in
       let is : r ≡ record { author = r.author; seq = length a.answered; op = o.op } = λ i. record { author = r.author; seq = seq i; op = asked.2.2 i } in
       let there : At (length (grown k)) r (grown k ++ r ∷ []) = subst (λ z. At z r (grown k ++ r ∷ [])) (plus_none (length (grown k))) (at_behind (grown k) (r ∷ []) 0 r refl) in
-      let own : CallStands m s.progress.completed (grown k ++ r ∷ []) (y.places ++ call.0 ∷ []) t r.author (length a.answered) (Some o) None =
+      let own : CallStands m (grown k ++ r ∷ []) (y.places ++ call.0 ∷ []) t r.author (length a.answered) (Some o) None =
       (call.0, Some (length (grown k)), opened, subst (λ z. At (length (grown k)) z (grown k ++ r ∷ [])) is there) in
       record {
         places = y.places ++ call.0 ∷ [];
         more = y.more ++ call.0 ∷ [];
         places_are = ap (λ z. z ++ call.0 ∷ []) y.places_are ∙ append_assoc positions y.more (call.0 ∷ []);
         explains = subst (λ z. Explains m z (y.places ++ call.0 ∷ []) t) (sym (one_grown k q g)) grew;
-        calls = λ x n read at now. subst (λ z. CallStands m s.progress.completed z (y.places ++ call.0 ∷ []) t x (length n.answered) n.pending read) (sym (one_grown k q g))
+        calls = λ x n at. subst (λ z. CallStands m z (y.places ++ call.0 ∷ []) t x (length n.answered) n.pending n.begun) (sym (one_grown k q g))
             (⊎_elim
             (λ same.
-            let is_a : a ≡ n = same_Some a n (sym (get_of s.notes r.author a asked.1) ∙ subst (λ z. slice_get s.notes z ≡ Some n) same at) in
-            let nothing : None ≡ read = sym waits.0 ∙ same_Some begun.0 read (sym begun.1 ∙ subst (λ z. slice_get s.reads z ≡ Some read) same now) in
-            subst (λ z. CallStands m s.progress.completed (grown k ++ r ∷ []) (y.places ++ call.0 ∷ []) t z (length n.answered) n.pending read) (sym same)
-            (subst (λ z. CallStands m s.progress.completed (grown k ++ r ∷ []) (y.places ++ call.0 ∷ []) t r.author (length z.answered) z.pending read) is_a
-            (subst (λ z. CallStands m s.progress.completed (grown k ++ r ∷ []) (y.places ++ call.0 ∷ []) t r.author (length a.answered) z read) (sym asked.2.1)
-            (subst (λ z. CallStands m s.progress.completed (grown k ++ r ∷ []) (y.places ++ call.0 ∷ []) t r.author (length a.answered) (Some o) z) nothing own))))
-            (λ ne. call_entry m s.progress.completed (grown k) y.places t x (length n.answered) n.pending read r call.0 called (λ e. ne (sym e)) (y.calls x n read at now))
+            let is_a : a ≡ n = same_Some a n (sym (get_of ns r.author a asked.1) ∙ subst (λ z. slice_get ns z ≡ Some n) same at) in
+            subst (λ z. CallStands m (grown k ++ r ∷ []) (y.places ++ call.0 ∷ []) t z (length n.answered) n.pending n.begun) (sym same)
+            (subst (λ z. CallStands m (grown k ++ r ∷ []) (y.places ++ call.0 ∷ []) t r.author (length z.answered) z.pending z.begun) is_a
+            (subst (λ (z : Option Pending × Option BegunRead). CallStands m (grown k ++ r ∷ []) (y.places ++ call.0 ∷ []) t r.author (length a.answered) z.0 z.1) (λ i. (sym asked.2.1 i, sym waits.0 i)) own)))
+            (λ ne. call_entry m (grown k) y.places t x (length n.answered) n.pending n.begun r call.0 called (λ e. ne (sym e)) (y.calls x n at))
             (cases_eq x r.author));
       }
     where
@@ -171,20 +164,19 @@ module _ (m : Opening) (s : Moment) (positions : Positions) (t : Trace) (stands 
       plus_none i = omega arith
 
   grown_to : (k : ℕ) → k ≤ length n.batch → length h + k ≤ m.config.limit → Grown k
-  grown_to zero l room = grown_none
-  grown_to (suc k) l room = let q = get_some n.batch k (omega arith) in grown_next k q.0 q.1 (omega arith) (grown_to k (omega arith) (omega arith))
+  grown_to zero low room = grown_none
+  grown_to (suc k) low room = let q = get_some n.batch k (omega arith) in grown_next k q.0 q.1 (omega arith) (grown_to k (omega arith) (omega arith))
 
   -- the events stand for the moment with these records
   pub batch_stands : (k : ℕ) → k ≤ length n.batch → length h + k ≤ m.config.limit
-      → (more : Positions) × EventsStand m (record { progress = with_records s.progress (map record_of (take k n.batch)); notes = s.notes; reads = s.reads }) (positions ++ more) t
-  batch_stands k l room =
-      let y = grown_to k l room in (
+      → (more : Positions) × EventsStand m (with_records l (map record_of (take k n.batch))) ns (positions ++ more) t
+  batch_stands k low room =
+      let y = grown_to k low room in (
         y.more,
-        subst (λ z. EventsStand m (record { progress = with_records s.progress (map record_of (take k n.batch)); notes = s.notes; reads = s.reads }) z t) y.places_are (record {
+        subst (λ z. EventsStand m (with_records l (map record_of (take k n.batch))) ns z t) y.places_are (record {
           config = stands.config;
           catalogue = stands.catalogue;
-          completed = (let len = grown_long k l in let done = stands.completed in omega (arith, len, done));
-          long = stands.long;
+          completed = (let len = grown_long k low in let done = stands.completed in omega (arith, len, done));
           explains = y.explains;
           stamps = stands.stamps;
           told = stands.told;

@@ -7,7 +7,7 @@ use Rattle.combiner.specs.Desks.{DeskView, replied}
 use Rattle.accounts.specs.Agreement.{desk_place, replica_place}
 use Rattle.node.specs.Answering.{answered_batch}
 use Rattle.node.specs.declared.following.NodeReplica.{NodeReplica}
-use Rattle.store_steps.specs.Doing.{ADesk, ALog, AReplica, ChangesNothing, Nothing, Part, PutsBack, Reads, takes_and_puts}
+use Rattle.store_steps.specs.Doing.{ADesk, ALog, AReplica, ChangesNothing, Nothing, Part, PutsBack, ReadsAndPutsBack, takes_and_puts}
 use Rattle.store_steps.specs.Whole.{HadRoom, MovedBase, RoomMade, answer_deeds}
 use Rattle.store_laws.specs.OnShelf.{TakesLogOnce, takes_of_log}
 
@@ -22,8 +22,8 @@ takes_on (Raised n ∷ xs) ys = takes_on xs ys
 
 none_taken : {xs : List (ShelfStep Part)} → ChangesNothing xs → takes_of_log xs ≡ 0
 none_taken Nothing = refl
-none_taken (Reads n steps a) = none_taken a
 none_taken (PutsBack p n steps a) = none_taken a
+none_taken (ReadsAndPutsBack p n tail steps a) = none_taken a
 
 one_taken : {want : ℕ} {g : LogView} {n : NodeReplica} (place desk : ℕ) (room : RoomMade want g n) (h : LogView) (m : NodeReplica) (x y : DeskView) → takes_of_log (answer_deeds place room h m ++ takes_and_puts desk (ADesk x) (ADesk y)) ≡ 1
 one_taken place desk (HadRoom enough) h m x y = refl

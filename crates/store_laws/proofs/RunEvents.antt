@@ -1,371 +1,227 @@
--- A run of the lock is a list of the steps of threads.
-use Rattle.std.proofs.Common.{◌≡◌, ◌≢◌, ◌==◌, eq-eqb, ne_eqb, Bool, true, false, if◌then◌else◌, ℕ, zero, suc, ◌<◌, ◌≤◌, ◌⊎◌, List, [], ◌∷◌, ◌++◌, map, take, drop, length, replicate, Option, Some, None, sym, ap, ◌∙◌, refl, subst, ⊎_elim, inl, inr, arith, append-nil, append_assoc}
+-- The events of a run of the lock, step by step, and the history that explains them.
+use Rattle.std.proofs.Common.{◌≡◌, ◌≢◌, ne_eqb, eq-eqb, if◌then◌else◌, ℕ, zero, suc, ◌<◌, ◌≤◌, List, [], ◌∷◌, ◌++◌, map, drop, length, replicate, Some, sym, ap, ◌∙◌, refl, subst, ⊎_elim, arith, append-nil, append_assoc}
 use Rattle.std.specs.Prelude.{slice_get, slice_set}
+use Rattle.std.specs.List.{All}
 use Rattle.std.proofs.lemmas.Bool.{cases_eq}
+use Rattle.std.proofs.lemmas.List.{append_cancel_right}
+use Rattle.std.proofs.lemmas.List.Elements.{All-append, All-cons, All-drop, All-head, All-nil, All-tail, filter-append}
 use Rattle.std.proofs.lemmas.Option.{slice_get_within}
-use Rattle.ownlock.specs.declared.known.ShelfStep.TheVariants.{Took, Put, Read, Raised}
+use Rattle.atomic_table.proofs.Lists.{set_again, set_else, set_here}
+use Rattle.ownlock.specs.declared.known.ShelfStep.{ShelfStep}
+use Rattle.ownlock.specs.declared.known.ShelfStep.TheVariants.{Took, Raised}
 use Rattle.ownlock.specs.Rules.{IsAmong, Move}
-use Rattle.ownlock.specs.Seats.{At}
-use Rattle.loader.specs.CatalogueView.{CatalogueView}
-use Rattle.loader.specs.StoreState.{StoreState}
-use Rattle.replica.specs.StoreMeaning.{store_meaning}
-use Rattle.atomic_table.proofs.Lists.{set_again, set_here}
-use Rattle.accounts.specs.declared.sessions.Claim.{Claim}
-use Rattle.accounts.specs.declared.sessions.Pending.{Pending}
-use Rattle.accounts.specs.Accounts.{Extends}
+use Rattle.ownlock.specs.Runs.{Begins, Loads, Puts, Raises, Runs, Takes, keeping}
+use Rattle.ownlock.specs.Seats.{At, own_steps}
+use Rattle.ownlock.proofs.Export.{own_else, own_here}
+use Rattle.accounts.specs.Accounts.{Accounts, Extends}
 use Rattle.accounts.specs.LogSteps.{first_progress, fresh_note}
-use Rattle.store_steps.proofs.Export.{store_laws}
-use Rattle.accounts.specs.Moves.{raised}
-use Rattle.accounts.proofs.Export.{at_below, get_of, move_seen, some_none}
-use Rattle.accounts.specs.declared.sessions.Progress.{Progress}
+use Rattle.accounts.specs.Moves.{MayBegin, raised}
+use Rattle.accounts.specs.declared.sessions.SessionEvent.{SessionEvent}
+use Rattle.accounts.specs.declared.sessions.SessionEvent.TheVariants as noted
 use Rattle.accounts.specs.declared.sessions.SessionNote.{SessionNote}
-use Rattle.accounts.specs.Moves.{BatchAppended, LogMove, Moves, placed_from, record_of}
-use Rattle.accounts.specs.Values.{StoreValue, TheLog, TheReplica, TheDesk}
-use Rattle.schedule.specs.declared.parts.BegunRead.{BegunRead}
+use Rattle.accounts.proofs.Export.{at_below, at_one, at_replicate, get_of, opens}
+use Rattle.replica.specs.StoreMeaning.{store_meaning}
 use Rattle.schedule.specs.declared.parts.Opening.{Opening}
 use Rattle.schedule.specs.Explains.{Explains}
-use Rattle.schedule.specs.Trace.{Answer, Back, Event, Positions, Trace, stamp}
-use Rattle.schedule.proofs.Export.{set_same, replicate_length}
+use Rattle.schedule.specs.Trace.{Answer, Back, Event, Positions, Trace, caller, stamp}
+use Rattle.schedule.proofs.Export.{replicate_length}
 use Rattle.store_steps.specs.declared.values.Value.{Value}
-use Rattle.store_steps.specs.Shelving.{IsSized, places_of, session_rules, sessions_of, store_rules, view_of}
-use Rattle.ownlock.specs.Runs.{Begins, Loads, Puts, Raises, Runs, Takes, keeping}
-use Rattle.store_laws.specs.RunEvents.{AnswersAreInRun, Asks, BetweenIsExplained, CalledLater, EachStepStands, EventsGoOn, Hears, KnownEventsBegin, MaySay, MaySayAll, Nothing, RunsAreExplained, Says, Sayings, StoreRun, StoreStep, UpdatesAreExplained, events_in, opened_for, begun_by, begun_in, opening_of, said_at, said_by}
-use Rattle.store_laws.specs.Stands.{EventsStand}
-use Rattle.store_laws.specs.Threads.{AnswersRead, BeginsRead, Moment, PutsBack, Raises as RaisesTail, ThreadStep, events_between, events_of}
-use Rattle.store_laws.proofs.Kept.{opening_stands, step_keeps}
-use Rattle.store_laws.proofs.Noted.{Kept, further, no_more, progress_is}
-use Rattle.maps.proofs.Export.{get_set_other, length_set}
+use Rattle.store_steps.specs.Shelving.{places_of, sessions_of, store_rules, view_of}
+use Rattle.store_steps.proofs.Export.{store_laws}
+use Rattle.store_laws.specs.RunEvents.{AnswersAreInRun, BetweenIsExplained, CalledLater, EachStepStands, EventsGoOn, KnownEventsBegin, NotesTell, RunsAreExplained, StoreRun, StoreStep, TracesAreTheirs}
+use Rattle.store_laws.specs.RunEvents.{added, event_of, events_of_session, opened_for, opening_of, own_trace, trace_of}
+use Rattle.store_laws.proofs.Behind.{own_both}
+use Rattle.store_laws.proofs.Kept.{begins, moves, opening_stands, raise_kept}
+use Rattle.store_laws.proofs.Noted.{Keeps, Kept, drop_front, further, no_more}
+use Rattle.store_laws.proofs.Stands.{EventsStand, L}
+use Rattle.maps.proofs.Export.{length_set}
 use Rattle.node.proofs.Export.{get_some}
 
-abbrev L : Type 0
-L = Progress CatalogueView
+none_some_list : {A : Type 0} (x : A) (xs : List A) → [] ≡ x ∷ xs → ⊥
+none_some_list x xs e = let long = ap length e in omega (arith, long)
 
-none_at : (n x : ℕ) → x < n → slice_get (let rs : List (Option BegunRead) = replicate n None in rs) x ≡ Some None
-none_at zero x l = absurd (omega arith)
-none_at (suc n) zero l = refl
-none_at (suc n) (suc x) l = none_at n x (omega arith)
-
-abbrev indexes : List Claim → Option ℕ
-indexes [] = None
-indexes (t ∷ ts) = t.index
-
--- ---- a put that notes nothing changes nothing
-
-nothing_appended : (from k : ℕ) (ts : List Claim) → ((j : ℕ) (t : Claim) → At j t ts → t.index ≡ None) → placed_from from k ts ≡ ts → take k ts ≡ []
-nothing_appended from zero ts none same = refl
-nothing_appended from (suc k) [] none same = refl
-nothing_appended from (suc k) (t ∷ ts) none same = absurd (some_none from t.index (sym (ap indexes same)) (none 0 t refl))
-
-log_same : (l l' : L) (n n' : SessionNote) → n' ≡ n → LogMove store_meaning l n l' n' → l' ≡ l
-log_same l l' n n' same move = progress_is l' l move.config move.catalogue history move.completed
-  where
-    grown : BatchAppended store_meaning l n l' n' → l'.history ≡ l.history
-    grown b =
-        let batch = ap (λ (z : SessionNote). z.batch) (sym b.note ∙ same) in
-        b.history ∙ (ap (λ ts. l.history ++ map record_of ts) (nothing_appended (length l.history) b.count n.batch b.unplaced batch) ∙ append-nil l.history)
-
-    history : l'.history ≡ l.history
-    history = ⊎_elim (λ (t : (l'.history ≡ l.history) × (n' ≡ n)). t.0) grown move.appends
-
-move_same : (p c : ℕ) (v : StoreValue StoreState) (l l' : L) (n n' : SessionNote) → n' ≡ n → Moves store_meaning p c v l n l' n' → l' ≡ l
-move_same p c (TheLog x) l l' n n' same move = log_same l l' n n' same move.1
-move_same p c (TheReplica x) l l' n n' same move = move.0
-move_same p c (TheDesk x) l l' n n' same move = move.0
-
-pub no_event : (x : ℕ) (n n' : SessionNote) → n' ≡ n → events_of x n n' ≡ []
-no_event x n n' same = subst (λ (z : SessionNote). events_of x n z ≡ []) (sym same) (by n.pending)
-  where
-    by : (p : Option Pending) → events_between x p p (drop (length n.answered) n.answered) ≡ []
-    by None = refl
-    by (Some o) = refl
-
--- ---- a run is a list of steps
-
-abbrev at_moment : L → List SessionNote → List (Option BegunRead) → Moment
-at_moment l ns reads = record { progress = l; notes = ns; reads = reads }
-
--- the events stand for this moment, and the first calls have these positions
-abbrev Comes : Opening → Positions → Moment → Trace → Type 0
-Comes m p s t = Kept m p s t
-
-goes_to : (m : Opening) (p : Positions) (s next : Moment) (t : Trace) (events : List Event) → Comes m p s t → ThreadStep s events next → Comes m p next (t ++ events)
-goes_to m p s next t events c step = further m p c.0 next (t ++ events) (step_keeps m (p ++ c.0) t c.1 step)
-
-with_none : (m : Opening) (p : Positions) (s : Moment) (t more : Trace) → more ≡ [] → Comes m p s t → Comes m p s (t ++ more)
-with_none m p s t more none c = subst (Comes m p s) (sym (ap (λ z. t ++ z) none ∙ append-nil t)) c
-
--- the reads that are begun once this is said
-abbrev reads_with : List (Option BegunRead) → StoreStep → Says → List (Option BegunRead)
-reads_with reads e Nothing = reads
-reads_with reads e (Asks call) = slice_set reads e.session (Some (record { call = call; seen = e.progress.completed }))
-reads_with reads e (Hears answer) = slice_set reads e.session None
-
-abbrev reads_in : Sayings → ℕ → StoreRun → List (Option BegunRead)
-reads_in says sessions [] = replicate sessions None
-reads_in says sessions (e ∷ es) = reads_with (reads_in says sessions es) e (said_at says e es)
-
--- and what may be said among them
-abbrev CanSay : List (Option BegunRead) → StoreStep → Says → Type 0
-CanSay reads e w = (begun : Option BegunRead) × (slice_get reads e.session ≡ Some begun) × MaySay begun e w
-
-abbrev CanSayAll : Sayings → ℕ → StoreRun → Type 0
-CanSayAll says sessions [] = Unit {0}
-CanSayAll says sessions (e ∷ es) = CanSayAll says sessions es × CanSay (reads_in says sessions es) e (said_at says e es)
-
-with_here : (reads : List (Option BegunRead)) (e : StoreStep) (w : Says) (old : Option BegunRead) → slice_get reads e.session ≡ Some old → slice_get (reads_with reads e w) e.session ≡ Some (begun_by e w old)
-with_here reads e Nothing old at = at
-with_here reads e (Asks call) old at = set_same reads e.session old (Some (record { call = call; seen = e.progress.completed })) at
-with_here reads e (Hears answer) old at = set_same reads e.session old None at
-
-with_else : (reads : List (Option BegunRead)) (e : StoreStep) (w : Says) (c : ℕ) → c ≢ e.session → slice_get (reads_with reads e w) c ≡ slice_get reads c
-with_else reads e Nothing c ne = refl
-with_else reads e (Asks call) c ne = get_set_other reads e.session c (Some (record { call = call; seen = e.progress.completed })) ne
-with_else reads e (Hears answer) c ne = get_set_other reads e.session c None ne
-
--- each session has begun what it said
-begun_at : (says : Sayings) (sessions : ℕ) (run : StoreRun) (c : ℕ) → c < sessions → slice_get (reads_in says sessions run) c ≡ Some (begun_in says c run)
-begun_at says sessions [] c low = none_at sessions c low
-begun_at says sessions (e ∷ es) c low = by (begun_at says sessions es c low) (cases_eq e.session c)
-  where
-    other : Option BegunRead
-    other = begun_in says c es
-
-    said : Option BegunRead
-    said = begun_by e (said_at says e es) other
-
-    by : slice_get (reads_in says sessions es) c ≡ Some other → (e.session ≡ c) ⊎ (e.session ≢ c) → slice_get (reads_with (reads_in says sessions es) e (said_at says e es)) c ≡ Some (if e.session == c then said else other)
-    by old (inl same) = subst (λ z. slice_get (reads_with (reads_in says sessions es) e (said_at says e es)) z ≡ Some said) same
-        (with_here (reads_in says sessions es) e (said_at says e es) other (subst (λ z. slice_get (reads_in says sessions es) z ≡ Some other) (sym same) old))
-        ∙ ap (λ b. Some (if b then said else other)) (sym (eq-eqb e.session c same))
-    by old (inr ne) = with_else (reads_in says sessions es) e (said_at says e es) c (λ same. ne (sym same)) ∙ (old ∙ ap (λ b. Some (if b then said else other)) (sym (ne_eqb e.session c ne)))
-
-free_to : (reads : List (Option BegunRead)) (e : StoreStep) (w : Says) → CanSay reads e w → (slice_get reads e.session ≡ Some None) ⊎ (e.note ≡ e.before)
-free_to reads e Nothing can = ⊎_elim (λ none. inl (can.1 ∙ ap Some none)) (λ same. inr same) can.2
-free_to reads e (Asks call) can = inl (can.1 ∙ ap Some can.2.0)
-free_to reads e (Hears answer) can = inr can.2.0
-
--- what is said
-says_it : (m : Opening) (p : Positions) (e : StoreStep) (ns : List SessionNote) (reads : List (Option BegunRead)) (t : Trace) (w : Says) → At e.session e.note ns → CanSay reads e w
-    → Comes m p (at_moment e.progress ns reads) t → Comes m p (at_moment e.progress ns (reads_with reads e w)) (t ++ said_by e.session w)
-says_it m p e ns reads t Nothing here may c = with_none m p (at_moment e.progress ns reads) t [] refl c
-says_it m p e ns reads t (Asks call) here may c = goes_to m p _ _ t _ c (BeginsRead (at_moment e.progress ns reads) e.session e.note call here may.2.2 (may.1 ∙ ap Some may.2.0) may.2.3)
-says_it m p e ns reads t (Hears answer) here may c = let r = may.2.1 in goes_to m p _ _ t _ c (AnswersRead (at_moment e.progress ns reads) e.session r.0 answer (may.1 ∙ ap Some r.1) r.2)
-
--- a put
-puts_it : (m : Opening) (p : Positions) (ns : List SessionNote) (move : Move store_rules) (reads : List (Option BegunRead)) (t : Trace) → IsAmong move ns → (slice_get reads move.session ≡ Some None) ⊎ (move.new_note ≡ move.note)
-    → Comes m p (at_moment move.progress ns reads) t → Comes m p (at_moment move.new_progress (slice_set ns move.session move.new_note) reads) (t ++ events_of move.session move.note move.new_note)
-puts_it m p ns move reads t among free c = ⊎_elim
-    (λ unread. goes_to m p _ _ t _ c (PutsBack (move_seen view_of IsSized session_rules move) ns reads (record { accounts = among.accounts; own = among.own; agrees = among.agrees.0 }) unread))
-    (λ same.
-    let progress : move.new_progress ≡ move.progress = move_same move.place move.session (view_of move.value) move.progress move.new_progress move.note move.new_note same move.allowed in
-    let notes : slice_set ns move.session move.new_note ≡ ns = ap (λ n. slice_set ns move.session n) same ∙ set_again ns move.session move.note among.own in
-    with_none m p (at_moment move.new_progress (slice_set ns move.session move.new_note) reads) t _ (no_event move.session move.note move.new_note same)
-    (subst (λ (z : L × List SessionNote). Comes m p (at_moment z.0 z.1 reads) t) (λ i. (sym progress i, sym notes i)) c))
-    free
-
--- the step that a put is
-abbrev put_step : Move store_rules → Value → StoreStep
-put_step move y = record { session = move.session; step = Put move.place y; progress = move.new_progress; before = move.note; note = move.new_note }
-
-some_steps : {e : StoreStep} {es : StoreRun} → e ∷ es ≡ [] → ⊥
-some_steps h = let long = ap length h in omega (arith, long)
-
--- a run of no steps stands where the store was opened
-begins_with : (m : Opening) (sessions places : ℕ) {run : StoreRun} {l : L} {ns : List SessionNote} → Runs store_rules (opened_for m sessions places) run l ns → run ≡ [] → (l ≡ first_progress m.config m.catalogue) × (ns ≡ replicate sessions fresh_note)
-begins_with m sessions places Begins e = (refl, refl)
-begins_with m sessions places (Takes run l ns c p x n r at agrees) e = absurd (some_steps e)
-begins_with m sessions places (Puts run ns move y r among puts) e = absurd (some_steps e)
-begins_with m sessions places (Loads run l ns c found n r at is) e = absurd (some_steps e)
-begins_with m sessions places (Raises run l ns c k n r at reaches) e = absurd (some_steps e)
-
-module _ (m : Opening) (sessions places : ℕ) (says : Sayings) where
+module _ (m : Opening) (sessions places : ℕ) where
   abbrev Leads : StoreRun → L → List SessionNote → Type 0
   Leads run l ns = Runs store_rules (opened_for m sessions places) run l ns
 
-  abbrev there : L → List SessionNote → StoreRun → Moment
-  there l ns run = at_moment l ns (reads_in says sessions run)
+  -- a run of no steps stands where the store was opened
+  begins_with : {run : StoreRun} {l : L} {ns : List SessionNote} → Leads run l ns → run ≡ [] → (l ≡ first_progress m.config m.catalogue) × (ns ≡ replicate sessions fresh_note)
+  begins_with Begins e = (refl, refl)
+  begins_with (Takes run l ns c p x n r at agrees) e = absurd (none_some_list _ _ (sym e))
+  begins_with (Puts run ns move y r among puts) e = absurd (none_some_list _ _ (sym e))
+  begins_with (Loads run l ns c found n n' r at is asks) e = absurd (none_some_list _ _ (sym e))
+  begins_with (Raises run l ns c k n r at reaches) e = absurd (none_some_list _ _ (sym e))
 
-  -- a step that notes nothing, after which this progress stands, and what is said at it
-  quiet : (p : Positions) (run : StoreRun) (e : StoreStep) (ns : List SessionNote) → At e.session e.note ns → e.note ≡ e.before → CanSay (reads_in says sessions run) e (said_at says e run)
-      → Comes m p (at_moment e.progress ns (reads_in says sessions run)) (events_in says run) → Comes m p (there e.progress ns (e ∷ run)) (events_in says (e ∷ run))
-  quiet p run e ns here same may c =
-      says_it m p e ns (reads_in says sessions run) (events_in says run ++ events_of e.session e.before e.note) (said_at says e run) here may
-      (with_none m p (at_moment e.progress ns (reads_in says sessions run)) (events_in says run) _ (no_event e.session e.before e.note same) c)
+  accounted : {run : StoreRun} {l : L} {ns : List SessionNote} → Leads run l ns → Accounts store_meaning l ns
+  accounted Begins = (opens store_meaning m.config m.catalogue sessions).0
+  accounted (Takes run l ns c p x n r at agrees) = accounted r
+  accounted (Puts run ns move y r among puts) = store_laws.moves_account move ns among
+  accounted (Loads run l ns c found n n' r at is asks) = store_laws.asks_account c l n n' ns asks at (accounted r)
+  accounted (Raises run l ns c k n r at reaches) = store_laws.raised_account l k ns reaches (accounted r)
 
-  -- the last step of a run, and what it does
-  StepGoes : StoreRun → L → List SessionNote → Type 0
+  -- a step of the run: its session goes from its note to another, which has the events that the step adds; and what they explain
+  pub record Goes (e : StoreStep) (es : StoreRun) (l : L) (ns : List SessionNote) : Type 0 where
+    pub was : L
+    pub notes : List SessionNote
+    pub leads : Leads es was notes
+    pub here : At e.session e.before notes
+    pub noted : ns ≡ slice_set notes e.session e.note
+    pub grows : own_trace e.session e.note ≡ own_trace e.session e.before ++ added e
+    pub grown : Extends was l
+    pub is : l ≡ e.progress
+    pub goes : (p : Positions) → Kept m p was notes (trace_of es) → Kept m p l ns (trace_of (e ∷ es))
+
+  -- what a session adds by a step is what its note has more then
+  adds : (c : ℕ) (n n' : SessionNote) (events : Trace) → own_trace c n' ≡ own_trace c n ++ events → drop (length (own_trace c n)) (own_trace c n') ≡ events
+  adds c n n' events grows = ap (drop (length (own_trace c n))) grows ∙ drop_front (own_trace c n) events
+
+  -- so it is added to the trace
+  added_to : (c : ℕ) (n n' : SessionNote) (l : L) (ns : List SessionNote) (p : Positions) (t : Trace) → Keeps m p t c n n' l ns → Kept m p l ns (t ++ drop (length (own_trace c n)) (own_trace c n'))
+  added_to c n n' l ns p t k = subst (λ z. Kept m p l ns (t ++ z)) (sym (adds c n n' k.events k.grows)) k.kept
+
+  grown_by : (c : ℕ) (n n' : SessionNote) (l : L) (ns : List SessionNote) (p : Positions) (t : Trace) → Keeps m p t c n n' l ns → own_trace c n' ≡ own_trace c n ++ drop (length (own_trace c n)) (own_trace c n')
+  grown_by c n n' l ns p t k = k.grows ∙ ap (λ z. own_trace c n ++ z) (sym (adds c n n' k.events k.grows))
+
+  -- where the note stays nothing is added
+  still : (c : ℕ) (n : SessionNote) → own_trace c n ≡ own_trace c n ++ drop (length (own_trace c n)) (own_trace c n)
+  still c n = sym (append-nil (own_trace c n)) ∙ ap (λ z. own_trace c n ++ z) (sym (adds c n n [] (sym (append-nil (own_trace c n)))))
+
+  none_added : (c : ℕ) (n : SessionNote) (l : L) (ns : List SessionNote) (p : Positions) (t : Trace) → Kept m p l ns t → Kept m p l ns (t ++ drop (length (own_trace c n)) (own_trace c n))
+  none_added c n l ns p t k = subst (Kept m p l ns) (sym (ap (λ z. t ++ z) (adds c n n [] (sym (append-nil (own_trace c n)))) ∙ append-nil t)) k
+
+  -- what stood before this session's step stands for the positions that it has then
+  from_kept : (p : Positions) (c : ℕ) (n n' : SessionNote) (l l' : L) (ns ns' : List SessionNote) (t : Trace) → ((q : Positions) → EventsStand m l ns q t → Keeps m q t c n n' l' ns') → Kept m p l ns t → Kept m p l' ns' (t ++ drop (length (own_trace c n)) (own_trace c n'))
+  from_kept p c n n' l l' ns ns' t keeps k = further m p k.0 l' ns' _ (added_to c n n' l' ns' (p ++ k.0) t (keeps (p ++ k.0) k.1))
+
+  raises_tail : (l : L) (ns : List SessionNote) (t : Trace) (k : ℕ) → k ≤ length l.history → (p : Positions) → Kept m p l ns t → Kept m p (raised l k) ns t
+  raises_tail l ns t k within p kept = (kept.0, raise_kept m l ns (p ++ kept.0) t k within kept.1)
+
+  moves_it : (run : StoreRun) (move : Move store_rules) (ns : List SessionNote) → IsAmong move ns → (q : Positions) → EventsStand m move.progress ns q (trace_of run)
+      → Keeps m q (trace_of run) move.session move.note move.new_note move.new_progress (slice_set ns move.session move.new_note)
+  moves_it run move ns among q stands =
+      moves m move.progress ns q (trace_of run) stands move.session move.note among.own among.accounts move.place (view_of move.value) move.new_progress move.new_note move.allowed among.agrees.0
+
+  asks_it : {run : StoreRun} {l : L} {ns : List SessionNote} → Leads run l ns → (c : ℕ) (n n' : SessionNote) → At c n ns → MayBegin store_meaning l n n' → (q : Positions) → EventsStand m l ns q (trace_of run)
+      → Keeps m q (trace_of run) c n n' l (slice_set ns c n')
+  asks_it {run} {l} {ns} r c n n' at asks q stands = begins m l ns q (trace_of run) stands c n at (accounted r) n' asks
+
+  -- what the events of a run explain
+  pub comes : {run : StoreRun} {l : L} {ns : List SessionNote} → Leads run l ns → Kept m [] l ns (trace_of run)
+  comes Begins = no_more m [] _ _ [] (opening_stands m sessions)
+  comes (Takes run l ns c p x n r at agrees) = none_added c n l ns [] (trace_of run) (comes r)
+  comes (Puts run ns move y r among puts) =
+      from_kept [] move.session move.note move.new_note move.progress move.new_progress ns (slice_set ns move.session move.new_note) (trace_of run) (moves_it run move ns among) (comes r)
+  comes (Loads run l ns c found n n' r at is asks) = from_kept [] c n n' l l ns (slice_set ns c n') (trace_of run) (asks_it r c n n' at asks) (comes r)
+  comes (Raises run l ns c k n r at reaches) = none_added c n (raised l k) ns [] (trace_of run) (raises_tail l ns (trace_of run) k reaches [] (comes r))
+
+  abbrev StepGoes : StoreRun → L → List SessionNote → Type 0
   StepGoes [] l ns = Unit {0}
-  StepGoes (e ∷ es) l ns = (was : L) × (notes : List SessionNote) × Leads es was notes
-      × ((p : Positions) → Comes m p (there was notes es) (events_in says es) → CanSay (reads_in says sessions es) e (said_at says e es) → Comes m p (there l ns (e ∷ es)) (events_in says (e ∷ es)))
+  StepGoes (e ∷ es) l ns = Goes e es l ns
+
+  -- a step at which no note changes
+  keeps_notes : (c : ℕ) (step : ShelfStep Value) (was l : L) (n : SessionNote) (ns : List SessionNote) (run : StoreRun) → Leads run was ns → At c n ns → Extends was l
+      → ((p : Positions) → Kept m p was ns (trace_of run) → Kept m p l ns (trace_of run)) → Goes (keeping c step l n) run l ns
+  keeps_notes c step was l n ns run r at grown on = record {
+    was = was;
+    notes = ns;
+    leads = r;
+    here = at;
+    noted = sym (set_again ns c n at);
+    grows = still c n;
+    grown = grown;
+    is = refl;
+    goes = λ p kept. none_added c n l ns p (trace_of run) (on p kept);
+  }
 
   step_goes : {run : StoreRun} {l : L} {ns : List SessionNote} → Leads run l ns → StepGoes run l ns
-  unfolding StepGoes
   step_goes Begins = tt
-  step_goes (Takes run l ns c p x n r at agrees) = (l, ns, r, λ q old can. quiet q run (keeping c (Took p x) l n) ns at refl can old)
-  step_goes (Puts run ns move y r among puts) = (
-    move.progress,
-    ns,
-    r,
-    λ q old can. says_it m q (put_step move y) _ (reads_in says sessions run) _ (said_at says (put_step move y) run) (set_here ns move.session move.new_note (at_below ns move.session move.note among.own)) can
-        (puts_it m q ns move (reads_in says sessions run) (events_in says run) among (free_to (reads_in says sessions run) (put_step move y) (said_at says (put_step move y) run) can) old),
-  )
-  step_goes (Loads run l ns c found n r at is) = (l, ns, r, λ q old can. quiet q run (keeping c (Read found) l n) ns at refl can old)
-  step_goes (Raises run l ns c k n r at reaches) = (
-    l,
-    ns,
-    r,
-    λ q old can. quiet q run (keeping c (Raised k) (raised l k) n) ns at refl can
-        (subst (Comes m q (at_moment (raised l k) ns (reads_in says sessions run))) (append-nil (events_in says run)) (goes_to m q (there l ns run) _ (events_in says run) [] old (RaisesTail (there l ns run) k reaches))),
-  )
-
-  comes : (run : StoreRun) (l : L) (ns : List SessionNote) → Leads run l ns → CanSayAll says sessions run → Comes m [] (there l ns run) (events_in says run)
-  unfolding StepGoes
-  comes [] l ns leads may = no_more m [] (there l ns []) [] (subst (λ (z : L × List SessionNote). EventsStand m (there z.0 z.1 []) [] []) (λ i. (sym (begins_with m sessions places leads refl).0 i, sym (begins_with m sessions places leads refl).1 i)) (opening_stands m sessions))
-  comes (e ∷ es) l ns leads may = let s = step_goes leads in s.3 [] (comes es s.0 s.1 s.2 may.0) may.1
+  step_goes (Takes run l ns c p x n r at agrees) = keeps_notes c (Took p x) l l n ns run r at (store_laws.extends_self l) (λ _ kept. kept)
+  step_goes (Puts run ns move y r among puts) = let k = comes r in record {
+    was = move.progress;
+    notes = ns;
+    leads = r;
+    here = among.own;
+    noted = refl;
+    grows = grown_by move.session move.note move.new_note move.new_progress (slice_set ns move.session move.new_note) k.0 (trace_of run) (moves_it run move ns among k.0 k.1);
+    grown = store_laws.moves_extend move;
+    is = refl;
+    goes = λ p kept. from_kept p move.session move.note move.new_note move.progress move.new_progress ns (slice_set ns move.session move.new_note) (trace_of run) (moves_it run move ns among) kept;
+  }
+  step_goes (Loads run l ns c found n n' r at is asks) = let k = comes r in record {
+    was = l;
+    notes = ns;
+    leads = r;
+    here = at;
+    noted = refl;
+    grows = grown_by c n n' l (slice_set ns c n') k.0 (trace_of run) (asks_it r c n n' at asks k.0 k.1);
+    grown = store_laws.extends_self l;
+    is = refl;
+    goes = λ p kept. from_kept p c n n' l l ns (slice_set ns c n') (trace_of run) (asks_it r c n n' at asks) kept;
+  }
+  step_goes (Raises run l ns c k n r at reaches) = keeps_notes c (Raised k) l (raised l k) n ns run r at (store_laws.raised_extends l k) (raises_tail l ns (trace_of run) k reaches)
 
   -- what stood then stands on
-  pub record StoodThen (run : StoreRun) (s : Moment) (t : Trace) : Type 0 where
+  pub record StoodThen (run : StoreRun) (l : L) (ns : List SessionNote) (t : Trace) : Type 0 where
     pub was : L
     pub notes : List SessionNote
     pub leads : Leads run was notes
+    pub grown : Extends was l
     pub positions : Positions
-    pub stood : EventsStand m (there was notes run) positions (events_in says run)
-    pub now : Comes m positions s t
+    pub stood : EventsStand m was notes positions (trace_of run)
+    pub now : Kept m positions l ns t
 
-  stands_on : (since run : StoreRun) (l : L) (ns : List SessionNote) → Leads (since ++ run) l ns → CanSayAll says sessions (since ++ run) → StoodThen run (there l ns (since ++ run)) (events_in says (since ++ run))
-  unfolding StepGoes
-  stands_on [] run l ns leads may = let k = comes run l ns leads may in record { was = l; notes = ns; leads = leads; positions = k.0; stood = k.1; now = no_more m k.0 (there l ns run) (events_in says run) k.1 }
-  stands_on (e ∷ es) run l ns leads may =
+  pub stands_on : (since run : StoreRun) (l : L) (ns : List SessionNote) → Leads (since ++ run) l ns → StoodThen run l ns (trace_of (since ++ run))
+  stands_on [] run l ns leads =
+      let k = comes leads in
+      record { was = l; notes = ns; leads = leads; grown = store_laws.extends_self l; positions = k.0; stood = k.1; now = no_more m k.0 l ns (trace_of run) k.1 }
+  stands_on (e ∷ es) run l ns leads =
       let s = step_goes leads in
-      let rest = stands_on es run s.0 s.1 s.2 may.0 in
-      record { was = rest.was; notes = rest.notes; leads = rest.leads; positions = rest.positions; stood = rest.stood; now = s.3 rest.positions rest.now may.1 }
+      let rest = stands_on es run s.was s.notes s.leads in
+      record { was = rest.was; notes = rest.notes; leads = rest.leads; grown = store_laws.extends_on rest.was s.was l rest.grown s.grown; positions = rest.positions; stood = rest.stood; now = s.goes rest.positions rest.now }
 
--- ---- no read
+  long_notes : {run : StoreRun} {l : L} {ns : List SessionNote} → Leads run l ns → length ns ≡ sessions
+  long_notes Begins = replicate_length sessions fresh_note
+  long_notes (Takes run l ns c p x n r at agrees) = long_notes r
+  long_notes (Puts run ns move y r among puts) = length_set ns move.session move.new_note ∙ long_notes r
+  long_notes (Loads run l ns c found n n' r at is asks) = length_set ns c n' ∙ long_notes r
+  long_notes (Raises run l ns c k n r at reaches) = long_notes r
 
-long_notes : (m : Opening) (sessions places : ℕ) {run : StoreRun} {l : L} {ns : List SessionNote} → Runs store_rules (opened_for m sessions places) run l ns → length ns ≡ sessions
-long_notes m sessions places Begins = replicate_length sessions fresh_note
-long_notes m sessions places (Takes run l ns c p x n r at agrees) = long_notes m sessions places r
-long_notes m sessions places (Puts run ns move y r among puts) = length_set ns move.session move.new_note ∙ long_notes m sessions places r
-long_notes m sessions places (Loads run l ns c found n r at is) = long_notes m sessions places r
-long_notes m sessions places (Raises run l ns c k n r at reaches) = long_notes m sessions places r
+  low : {run : StoreRun} {l : L} {ns : List SessionNote} → Leads run l ns → (c : ℕ) (n : SessionNote) → At c n ns → c < sessions
+  low {run} {l} {ns} r c n at = let long = long_notes r in let below = at_below ns c n at in omega (arith, long, below)
 
-pub low : (m : Opening) (sessions places : ℕ) {run : StoreRun} {l : L} {ns : List SessionNote} → Runs store_rules (opened_for m sessions places) run l ns → (c : ℕ) (n : SessionNote) → At c n ns → c < sessions
-low m sessions places {run} {l} {ns} r c n at = let long = long_notes m sessions places r in let below = at_below ns c n at in omega (arith, long, below)
-
--- what each session may say they can all say
-can_all : (m : Opening) (sessions places : ℕ) (says : Sayings) {run : StoreRun} {l : L} {ns : List SessionNote} → Runs store_rules (opened_for m sessions places) run l ns → MaySayAll says run → CanSayAll says sessions run
-can_all m sessions places says Begins may = tt
-can_all m sessions places says (Takes run l ns c p x n r at agrees) may = (can_all m sessions places says r may.0, (begun_in says c run, begun_at says sessions run c (low m sessions places r c n at), may.1))
-can_all m sessions places says (Puts run ns move y r among puts) may =
-    (can_all m sessions places says r may.0, (begun_in says move.session run, begun_at says sessions run move.session (low m sessions places r move.session move.note among.own), may.1))
-can_all m sessions places says (Loads run l ns c found n r at is) may = (can_all m sessions places says r may.0, (begun_in says c run, begun_at says sessions run c (low m sessions places r c n at), may.1))
-can_all m sessions places says (Raises run l ns c k n r at reaches) may = (can_all m sessions places says r may.0, (begun_in says c run, begun_at says sessions run c (low m sessions places r c n at), may.1))
+-- ---- one history
 
 pub runs_are_explained : RunsAreExplained
-runs_are_explained m sessions places run l ns says runs may = let k = comes m sessions places says run l ns runs (can_all m sessions places says runs may) in (k.0, k.1.explains)
+runs_are_explained m sessions places run l ns runs = let k = comes m sessions places runs in (k.0, k.1.explains)
 
 pub answers_are_in_run : AnswersAreInRun
-answers_are_in_run m sessions places run l ns says runs may x q n u at has =
-    let k = comes m sessions places says run l ns runs (can_all m sessions places says runs may) in k.1.told x q n u (get_of ns x n at) (get_of n.answered q u has)
+answers_are_in_run m sessions places run l ns runs x q n u at has = (comes m sessions places runs).1.told x q n u (get_of ns x n at) (get_of n.answered q u has)
 
-abbrev silent : Sayings
-silent = λ _ _. Nothing
-
-none_begun_in : (c : ℕ) (run : StoreRun) → begun_in silent c run ≡ None
-none_begun_in c [] = refl
-none_begun_in c (e ∷ es) = by (none_begun_in c es) (e.session == c)
-  where
-    by : begun_in silent c es ≡ None → (b : Bool) → (if b then begun_in silent c es else begun_in silent c es) ≡ None
-    by none true = none
-    by none false = none
-
-all_silent : (run : StoreRun) → MaySayAll silent run
-all_silent [] = tt
-all_silent (e ∷ es) = (all_silent es, inl (none_begun_in e.session es))
-
-pub updates_are_explained : UpdatesAreExplained
-updates_are_explained m sessions places run l ns runs = runs_are_explained m sessions places run l ns silent runs (all_silent run)
-
-pub events_go_on : EventsGoOn
-events_go_on says [] run = ([], sym (append-nil (events_in says run)))
-events_go_on says (e ∷ es) run =
-    let h = events_go_on says es run in
-    let own = events_of e.session e.before e.note in
-    let said = said_by e.session (said_at says e (es ++ run)) in (
-      (h.0 ++ own) ++ said,
-      ap (λ z. (z ++ own) ++ said) h.1 ∙ (ap (λ z. z ++ said) (append_assoc (events_in says run) h.0 own) ∙ append_assoc (events_in says run) (h.0 ++ own) said),
-    )
-
--- ---- what stood behind a step
-
--- the last step of a run, and what it grew from
-pub record Ended (m : Opening) (sessions places : ℕ) (e : StoreStep) (run : StoreRun) (l : L) : Type 0 where
-  pub was : L
-  pub notes : List SessionNote
-  pub leads : Runs store_rules (opened_for m sessions places) run was notes
-  pub grown : Extends was l
-  pub is : l ≡ e.progress
-
-abbrev first_step : StoreStep → StoreRun → StoreStep
-first_step d [] = d
-first_step d (e ∷ es) = e
-
-abbrev other_steps : StoreRun → StoreRun
-other_steps [] = []
-other_steps (e ∷ es) = es
-
-pub ended : (m : Opening) (sessions places : ℕ) {r : StoreRun} {l : L} {ns : List SessionNote} → Runs store_rules (opened_for m sessions places) r l ns → (e : StoreStep) (run : StoreRun) → r ≡ e ∷ run → Ended m sessions places e run l
-ended m sessions places Begins e run same = absurd (no same)
-  where
-    no : [] ≡ e ∷ run → ⊥
-    no h = let long = ap length h in omega (arith, long)
-ended m sessions places (Takes r l ns c p x n leads at agrees) e run same =
-    record { was = l; notes = ns; leads = subst (λ z. Runs store_rules (opened_for m sessions places) z l ns) (ap other_steps same) leads; grown = store_laws.extends_self l; is = ap (λ z. (first_step e z).progress) same }
-ended m sessions places (Puts r ns move y leads among puts) e run same =
-    record { was = move.progress; notes = ns; leads = subst (λ z. Runs store_rules (opened_for m sessions places) z move.progress ns) (ap other_steps same) leads; grown = store_laws.moves_extend move; is = ap (λ z. (first_step e z).progress) same }
-ended m sessions places (Loads r l ns c found n leads at is) e run same =
-    record { was = l; notes = ns; leads = subst (λ z. Runs store_rules (opened_for m sessions places) z l ns) (ap other_steps same) leads; grown = store_laws.extends_self l; is = ap (λ z. (first_step e z).progress) same }
-ended m sessions places (Raises r l ns c k n leads at reaches) e run same =
-    record { was = l; notes = ns; leads = subst (λ z. Runs store_rules (opened_for m sessions places) z l ns) (ap other_steps same) leads; grown = store_laws.raised_extends l k; is = ap (λ z. (first_step e z).progress) same }
-
--- what stood before the last steps
-pub record Stood (m : Opening) (sessions places : ℕ) (run : StoreRun) (l : L) : Type 0 where
-  pub progress : L
-  pub notes : List SessionNote
-  pub leads : Runs store_rules (opened_for m sessions places) run progress notes
-  pub grown : Extends progress l
-
-pub stood : (m : Opening) (sessions places : ℕ) (since run : StoreRun) (l : L) (ns : List SessionNote) → Runs store_rules (opened_for m sessions places) (since ++ run) l ns → Stood m sessions places run l
-stood m sessions places [] run l ns leads = record { progress = l; notes = ns; leads = leads; grown = store_laws.extends_self l }
-stood m sessions places (f ∷ fs) run l ns leads =
-    let one = ended m sessions places leads f (fs ++ run) refl in
-    let rest = stood m sessions places fs run one.was one.notes one.leads in
-    record { progress = rest.progress; notes = rest.notes; leads = rest.leads; grown = store_laws.extends_on rest.progress one.was l rest.grown one.grown }
-
-said_before : (says : Sayings) (since run : StoreRun) → MaySayAll says (since ++ run) → MaySayAll says run
-said_before says [] run may = may
-said_before says (f ∷ fs) run may = said_before says fs run may.0
+pub trace_goes_on : EventsGoOn
+trace_goes_on [] run = ([], sym (append-nil (trace_of run)))
+trace_goes_on (e ∷ es) run =
+    let rest = trace_goes_on es run in
+    (rest.0 ++ added e, ap (λ t. t ++ added e) rest.1 ∙ append_assoc (trace_of run) rest.0 (added e))
 
 pub each_step_stands : EachStepStands
-each_step_stands m sessions places since run e l ns says leads may =
-    let s = stood m sessions places since (e ∷ run) l ns leads in
-    let is = (ended m sessions places s.leads e run refl).is in
-    let k = comes m sessions places says (e ∷ run) s.progress s.notes s.leads (can_all m sessions places says s.leads (said_before says since (e ∷ run) may)) in (
+each_step_stands m sessions places since run e l ns leads =
+    let s = stands_on m sessions places since (e ∷ run) l ns leads in
+    let is = (step_goes m sessions places s.leads).is in (
       subst (λ z. Extends z l) is s.grown,
-      subst (λ (z : L). (positions : Positions) × Explains m z.history positions (events_in says (e ∷ run))) is (k.0, k.1.explains),
-      subst (λ (z : L). (b x : ℕ) (answer : Answer) → slice_get (events_in says (e ∷ run)) b ≡ Some (Back x answer) → stamp m.config.limit answer ≤ z.completed) is k.1.stamps,
+      subst (λ (z : L). (positions : Positions) × Explains m z.history positions (trace_of (e ∷ run))) is (s.positions, s.stood.explains),
+      subst (λ (z : L). (b x : ℕ) (answer : Answer) → slice_get (trace_of (e ∷ run)) b ≡ Some (Back x answer) → stamp m.config.limit answer ≤ z.completed) is s.stood.stamps,
     )
 
 -- ---- between two atomic steps
 
 pub between_is_explained : BetweenIsExplained
-between_is_explained opening s says w may = runs_are_explained (opening_of opening) (sessions_of opening.config) (places_of opening.config) w.run w.progress w.notes says w.leads may
+between_is_explained opening s w = runs_are_explained (opening_of opening) (sessions_of opening.config) (places_of opening.config) w.run w.progress w.notes w.leads
 
 pub known_events_begin : KnownEventsBegin
-known_events_begin opening s says w k h =
+known_events_begin opening s w k h =
     let on = w.goes_on h.0 h.1 h.2 k h.3 h.4 in
-    let more = events_go_on says on.0 k.run in
-    (more.0, ap (events_in says) on.1 ∙ more.1)
+    let more = trace_goes_on on.0 k.run in
+    (more.0, ap trace_of on.1 ∙ more.1)
 
 -- ---- calls behind a step
 
@@ -375,15 +231,115 @@ get_front (x ∷ xs) ys zero v low e = e
 get_front (x ∷ xs) ys (suc i) v low e = get_front xs ys i v (omega (arith, low)) e
 
 pub called_later : CalledLater
-called_later m sessions places since run e l ns says leads may =
-    let k = stands_on m sessions places says since (e ∷ run) l ns leads (can_all m sessions places says leads may) in
-    let is : k.was ≡ e.progress = (ended m sessions places k.leads e run refl).is in (
+called_later m sessions places since run e l ns leads =
+    let k = stands_on m sessions places since (e ∷ run) l ns leads in
+    let is : k.was ≡ e.progress = (step_goes m sessions places k.leads).is in (
       k.positions ++ k.now.0,
       k.now.1.explains,
       λ i c at low.
-          let before : Explains m e.progress.history k.positions (events_in says (e ∷ run)) = subst (λ (z : L). Explains m z.history k.positions (events_in says (e ∷ run))) is k.stood.explains in
+          let before : Explains m e.progress.history k.positions (trace_of (e ∷ run)) = subst (λ (z : L). Explains m z.history k.positions (trace_of (e ∷ run))) is k.stood.explains in
           let many = before.each_placed in
           let there = get_front k.positions k.now.0 i c (omega (arith, many, low)) at in
           let r = get_some e.progress.history i low in
-          slice_get_within (events_in says (e ∷ run)) c _ (before.calls i c r.0 r.1 there),
+          slice_get_within (trace_of (e ∷ run)) c _ (before.calls i c r.0 r.1 there),
     )
+
+-- ---- whose events they are
+
+-- all that one session notes is its own
+all_own : (P : Event → Type 0) (x : ℕ) → ((e : Event) → caller e ≡ x → P e) → (events : List SessionEvent) → All P (map (event_of x) events)
+all_own P x own [] = All-nil P
+all_own P x own (noted.UpdateCall op ∷ es) = All-cons P _ _ (own _ refl) (all_own P x own es)
+all_own P x own (noted.UpdateBack reply ∷ es) = All-cons P _ _ (own _ refl) (all_own P x own es)
+all_own P x own (noted.ReadCall op ∷ es) = All-cons P _ _ (own _ refl) (all_own P x own es)
+all_own P x own (noted.ReadBack point reply ∷ es) = All-cons P _ _ (own _ refl) (all_own P x own es)
+
+all_added : (P : Event → Type 0) (e : StoreStep) → ((f : Event) → caller f ≡ e.session → P f) → All P (added e)
+all_added P e own = All-drop P (length (own_trace e.session e.before)) (own_trace e.session e.note) (all_own P e.session own e.note.events)
+
+module _ (m : Opening) (sessions places : ℕ) where
+  theirs : (run : StoreRun) {l : L} {ns : List SessionNote} → Leads m sessions places run l ns → All (λ e. caller e < sessions) (trace_of run)
+  theirs [] leads = All-nil (λ e. caller e < sessions)
+  theirs (e ∷ es) leads =
+      let s = step_goes m sessions places leads in
+      let few = low m sessions places s.leads e.session e.before s.here in
+      All-append (λ f. caller f < sessions) (trace_of es) (added e) (theirs es s.leads) (all_added (λ f. caller f < sessions) e (λ f is. subst (λ z. z < sessions) (sym is) few))
+
+pub traces_are_theirs : TracesAreTheirs
+traces_are_theirs m sessions places run l ns leads = theirs m sessions places run leads
+
+-- ---- the events of one session
+
+-- of one session's events, all are its own
+all_of : (c x : ℕ) → x ≡ c → (t : Trace) → All (λ e. caller e ≡ x) t → events_of_session c t ≡ t
+all_of c x same [] all = refl
+all_of c x same (e ∷ es) all =
+    let is = All-head (λ e. caller e ≡ x) e es all in
+    ap (λ b. if b then e ∷ events_of_session c es else events_of_session c es) (eq-eqb (caller e) c (is ∙ same))
+    ∙ ap (λ t. e ∷ t) (all_of c x same es (All-tail (λ e. caller e ≡ x) e es all))
+
+-- and none is another's
+none_of : (c x : ℕ) → x ≢ c → (t : Trace) → All (λ e. caller e ≡ x) t → events_of_session c t ≡ []
+none_of c x ne [] all = refl
+none_of c x ne (e ∷ es) all =
+    let is = All-head (λ e. caller e ≡ x) e es all in
+    ap (λ b. if b then e ∷ events_of_session c es else events_of_session c es)
+    (ne_eqb (caller e) c (λ same. ne (sym is ∙ same)))
+    ∙ none_of c x ne es (All-tail (λ e. caller e ≡ x) e es all)
+
+added_here : (c : ℕ) (e : StoreStep) → e.session ≡ c → events_of_session c (added e) ≡ added e
+added_here c e same = all_of c e.session same (added e) (all_added (λ f. caller f ≡ e.session) e (λ f is. is))
+
+added_else : (c : ℕ) (e : StoreStep) → e.session ≢ c → events_of_session c (added e) ≡ []
+added_else c e ne = none_of c e.session ne (added e) (all_added (λ f. caller f ≡ e.session) e (λ f is. is))
+
+module _ (m : Opening) (sessions places : ℕ) (c : ℕ) where
+  tell : (run : StoreRun) {l : L} {ns : List SessionNote} → Leads m sessions places run l ns → (n : SessionNote) → At c n ns → events_of_session c (trace_of run) ≡ own_trace c n
+  tell [] {l} {ns} leads n at =
+      let opened = (begins_with m sessions places leads refl).1 in
+      sym (ap (own_trace c) (at_replicate sessions c fresh_note n (subst (At c n) opened at)).0)
+  tell (e ∷ es) {l} {ns} leads n at = let s = step_goes m sessions places leads in by s (λ k here. tell es s.leads k here)
+    where
+      by : (s : Goes m sessions places e es l ns) → ((k : SessionNote) → At c k s.notes → events_of_session c (trace_of es) ≡ own_trace c k) → events_of_session c (trace_of (e ∷ es)) ≡ own_trace c n
+      by s before = filter-append _ (trace_of es) (added e) ∙ ⊎_elim here else_ (cases_eq e.session c)
+        where
+          now : At c n (slice_set s.notes e.session e.note)
+          now = subst (At c n) s.noted at
+
+          here : e.session ≡ c → events_of_session c (trace_of es) ++ events_of_session c (added e) ≡ own_trace c n
+          here same =
+              let mine = set_here s.notes e.session e.note (at_below s.notes e.session e.before s.here) in
+              let one : n ≡ e.note = at_one (slice_set s.notes e.session e.note) c n e.note now (subst (λ z. At z e.note (slice_set s.notes e.session e.note)) same mine) in
+              let old = before e.before (subst (λ z. At z e.before s.notes) same s.here) in
+              (λ j. old j ++ added_here c e same j)
+              ∙ (ap (λ z. own_trace z e.before ++ added e) (sym same) ∙ (sym s.grows ∙ (λ j. own_trace (same j) (sym one j))))
+
+          else_ : e.session ≢ c → events_of_session c (trace_of es) ++ events_of_session c (added e) ≡ own_trace c n
+          else_ ne =
+              (λ j. events_of_session c (trace_of es) ++ added_else c e ne j)
+              ∙ (append-nil (events_of_session c (trace_of es)) ∙ before n (sym (set_else s.notes e.session c e.note (λ same. ne (sym same))) ∙ now))
+
+pub notes_tell : NotesTell
+notes_tell m sessions places run l ns leads x n at = tell m sessions places x run leads n at
+
+-- ---- a session that takes no more steps
+
+since : (c : ℕ) (more run : StoreRun) → own_steps c more ≡ []
+    → (events : Trace) × (trace_of (more ++ run) ≡ trace_of run ++ events) × (events_of_session c events ≡ [])
+since c [] run none = ([], sym (append-nil (trace_of run)), refl)
+since c (e ∷ es) run none = ⊎_elim
+    (λ (same : e.session ≡ c). absurd (none_some_list e.step (own_steps c es) (sym none ∙ own_here c e es same)))
+    (λ (ne : e.session ≢ c).
+    let rest = since c es run (sym (own_else c e es ne) ∙ none) in (
+      rest.0 ++ added e,
+      ap (λ t. t ++ added e) rest.1 ∙ append_assoc (trace_of run) rest.0 (added e),
+      filter-append _ rest.0 (added e) ∙ (λ j. rest.2 j ++ added_else c e ne j),
+    ))
+    (cases_eq e.session c)
+
+-- What such a session has seen begins the trace, and what comes later has none of its events.
+pub since_begins : (c : ℕ) (more run : StoreRun) (steps : List (ShelfStep Value)) → own_steps c run ≡ steps
+    → own_steps c (more ++ run) ≡ steps
+    → (events : Trace) × (trace_of (more ++ run) ≡ trace_of run ++ events) × (events_of_session c events ≡ [])
+since_begins c more run steps seen own = since c more run (append_cancel_right (own_steps c more) [] steps
+    (ap (λ z. own_steps c more ++ z) (sym seen) ∙ (sym (own_both c more run) ∙ own)))

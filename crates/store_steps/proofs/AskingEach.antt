@@ -1,5 +1,5 @@
 -- The whole call of a pipeline, member by member.
-use Rattle.std.proofs.Common.{◌≡◌, ℕ, suc, ◌<◌, ◌^◌, List, length, sym, refl, ap, ◌∙◌, subst, arith, Some}
+use Rattle.std.proofs.Common.{◌≡◌, ℕ, suc, ◌<◌, ◌^◌, List, length, sym, refl, ap, ◌∙◌, subst, arith}
 use Rattle.std.proofs.lemmas.List.{length-map}
 use Rattle.ownlock.proofs.Export.{one_known}
 use Rattle.ownlock.specs.Seats.{At, IsSession}
@@ -9,7 +9,7 @@ use Rattle.combiner.specs.declared.slots.Reply.{Reply}
 use Rattle.node.specs.Answering.{answered_batch}
 use Rattle.replica.specs.StoreMeaning.{store_meaning}
 use Rattle.replica.specs.Views.{RepliesView}
-use Rattle.accounts.specs.Moves.{posted_with}
+use Rattle.accounts.specs.Moves.{IsAtRest, posted_with}
 use Rattle.accounts.specs.declared.sessions.Pending.{Pending}
 use Rattle.accounts.specs.declared.sessions.SessionNote.{SessionNote}
 use Rattle.accounts.proofs.Export.{at_map, at_mapped, at_one, at_there, grown_long}
@@ -72,7 +72,7 @@ looked_then k m after a b = record {
 -- who has only looked may ask still
 pub alone_then : (k m : K) → HasLooked k m → IsAlone k → IsAlone m
 alone_then k m l a = record {
-  pending = ap (λ (n : SessionNote). n.pending) l.note ∙ a.pending;
+  rests = subst IsAtRest (sym l.note) a.rests;
   alone = ap (λ (n : SessionNote). n.batch) l.note ∙ a.alone;
   few = subst (λ (n : SessionNote). suc (length n.answered) < 2 ^ 64) (sym l.note) a.few;
 }

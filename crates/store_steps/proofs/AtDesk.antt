@@ -24,7 +24,7 @@ use Rattle.accounts.specs.Accounts.{IsAllowed}
 use Rattle.accounts.specs.Agreement.{StageAgrees, SlotAgrees}
 use Rattle.accounts.specs.DeskSteps.{PostStep, ClaimStep, ReplyStep, CollectStep, Gives}
 use Rattle.accounts.specs.Batches.{Ascend}
-use Rattle.accounts.specs.Moves.{posted_with, record_of, unplaced}
+use Rattle.accounts.specs.Moves.{IsAtRest, posted_with, record_of, unplaced}
 use Rattle.accounts.proofs.Export.{batch_is, claims_ascend, collected_is, answered, at_below, at_of, at_one, get_of, some_none, at_there}
 use Rattle.store_steps.specs.declared.desks.Turn.{Turn}
 use Rattle.store_steps.specs.declared.desks.Turn.TheVariants.{Collects, Combines, Waits}
@@ -68,9 +68,9 @@ free_posts slot k x op i free refused = by_stage o.found.stage refl o.stage
     by_stage Claimed e h = some_none h.0 k.note.pending h.1 free
     by_stage (Answered reply) e h = some_none h.0 k.note.pending h.1 free
 
-pub post_steps : (slot : ℕ) (k : SessionKnown) (x y : DeskView) (op : Operation) → posted slot op x ≡ Some y → IsAt slot k x → IsAllowed store_meaning k.progress.catalogue op
+pub post_steps : (slot : ℕ) (k : SessionKnown) (x y : DeskView) (op : Operation) → posted slot op x ≡ Some y → IsAt slot k x → IsAtRest k.note → IsAllowed store_meaning k.progress.catalogue op
     → Steps k x (posted_with k.note (request_of k.progress op)) y
-post_steps slot k x y op e i may = PostStep slot op i.own may refl e
+post_steps slot k x y op e i rests may = PostStep slot op i.own rests.1 may refl e
 
 -- ---- turn
 

@@ -1,5 +1,5 @@
 -- What a post with its claim leaves, and answers with the turn behind them.
-use Rattle.std.proofs.Common.{◌≡◌, ℕ, suc, ◌<◌, ◌≤◌, ◌^◌, [], ◌∷◌, length, sym, refl, ap, ◌∙◌, subst, arith, Some}
+use Rattle.std.proofs.Common.{◌≡◌, ℕ, suc, ◌<◌, ◌≤◌, ◌^◌, [], ◌∷◌, length, sym, refl, ap, ◌∙◌, subst, arith}
 use Rattle.ownlock.specs.Seats.{IsSession}
 use Rattle.oplog.specs.Operations.{Operation}
 use Rattle.combiner.specs.Desks.{BatchView}
@@ -78,6 +78,7 @@ module _ (old new : S) (caller : Caller) (i : IsIdle old caller) (few : suc (len
         is = refl;
         free = free_by caller i.known m p.back.session p.back.held p.back.extends i.free;
         pending = ap (λ (n : SessionNote). n.pending) p.note;
+        unread = ap (λ (n : SessionNote). n.begun) p.note ∙ i.unread;
         few = subst (λ (n : SessionNote). suc (length n.answered) < 2 ^ 64) (sym p.note) few;
         well_formed = well_formed m.progress p.back.stands.notes p.back.stands.accounts;
         within = subst (λ (n : SessionNote). length n.answered ≤ length m.progress.history) (sym p.note) (omega (arith, long, low));

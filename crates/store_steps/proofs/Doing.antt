@@ -11,7 +11,7 @@ use Rattle.combiner.specs.Desks.{DeskView}
 use Rattle.node.specs.declared.following.NodeReplica.{NodeReplica}
 use Rattle.store_steps.specs.declared.values.Value.{Value}
 use Rattle.store_steps.specs.declared.values.Value.TheVariants.{Log, Replica, Desk}
-use Rattle.store_steps.specs.Doing.{ADesk, ALog, AReplica, ChangesNothing, Did, Nothing, Part, PutsBack, Reads, and_then, of_part, part_of}
+use Rattle.store_steps.specs.Doing.{ADesk, ALog, AReplica, ChangesNothing, Did, Nothing, Part, PutsBack, ReadsAndPutsBack, and_then, of_part, part_of}
 use Rattle.store_steps.specs.Lending.{desk_of, log_of, replica_of, with_desk, with_log, with_replica}
 
 -- ---- the part that a value is
@@ -58,8 +58,8 @@ parts_on (x ∷ xs) ys = ap (λ z. of_part x ∷ z) (parts_on xs ys)
 
 pub nothing_on : {xs ys : List (ShelfStep Part)} → ChangesNothing xs → ChangesNothing ys → ChangesNothing (xs ++ ys)
 nothing_on Nothing b = b
-nothing_on (Reads n steps a) b = Reads n _ (nothing_on a b)
 nothing_on (PutsBack p x steps a) b = PutsBack p x _ (nothing_on a b)
+nothing_on (ReadsAndPutsBack p x tail steps a) b = ReadsAndPutsBack p x tail _ (nothing_on a b)
 
 module _ {P N : Type 0} where
   -- no step

@@ -62,6 +62,7 @@ asking_on old new caller k m o a is v = record {
   is = is;
   free = free_by caller k m v.session v.held v.extends a.free;
   pending = ap (λ (n : SessionNote). n.pending) v.way ∙ a.pending;
+  unread = ap (λ (n : SessionNote). n.begun) v.way ∙ a.unread;
   few = subst (λ z. suc (length z) < 2 ^ 64) (sym answered) a.few;
   well_formed = v.well;
   within = let long = grown_long store_meaning k.progress m.progress v.extends in let low = a.within in subst (λ z. length z ≤ length m.progress.history) (sym answered) (omega (arith, long, low));
@@ -145,6 +146,7 @@ module _ (Goes : K → K → Deed → Type 0) (old new : S) (caller : Caller) (b
         is = is;
         free = free_by caller k m h.back.session h.back.held h.back.extends a.free;
         pending = ap (λ (n : SessionNote). n.pending) h.turns.0 ∙ none_pending reply;
+        unread = ap (λ (n : SessionNote). n.begun) h.turns.0 ∙ same_begun reply;
         batch = ap (λ (n : SessionNote). n.batch) h.turns.0 ∙ same_batch reply;
         well_formed = well;
         within = subst (λ (n : SessionNote). length n.answered ≤ length m.progress.history) (sym h.turns.0) (fits reply h.turns.1);
@@ -154,6 +156,10 @@ module _ (Goes : K → K → Deed → Type 0) (old new : S) (caller : Caller) (b
       none_pending : (reply : Reply) → (answered_with k.note o.op reply).pending ≡ None
       none_pending (Placed i x) = refl
       none_pending Ended = refl
+
+      same_begun : (reply : Reply) → (answered_with k.note o.op reply).begun ≡ None
+      same_begun (Placed i x) = a.unread
+      same_begun Ended = a.unread
 
       same_batch : (reply : Reply) → (answered_with k.note o.op reply).batch ≡ []
       same_batch (Placed i x) = alone

@@ -18,6 +18,7 @@ use Rattle.accounts.specs.Agreement.{desk_place}
 use Rattle.accounts.specs.DeskNotes.{PostedThere, RepliedThere}
 use Rattle.accounts.specs.declared.sessions.Progress.{Progress}
 use Rattle.accounts.specs.declared.sessions.SessionNote.{SessionNote}
+use Rattle.accounts.specs.Moves.{IsAtRest}
 use Rattle.store_steps.specs.declared.steps.Caller.{Caller}
 use Rattle.store_steps.specs.declared.steps.Here.{Here}
 use Rattle.store_steps.specs.declared.values.Value.{Value}
@@ -77,14 +78,14 @@ module _ (s : StoreSeat) (here : Here) (h : Held Value) (k t : K) (d : HasDesk s
   pub taken : TookDesk here.caller k t (held_place h) h.value
   taken = took_desk k t here.caller (held_place h) h.value d.free spot d.took
 
-  module _ (op : Operation) (update : is_operation Update here.shared.catalogue.now op ≡ true) where
+  module _ (op : Operation) (update : is_operation Update here.shared.catalogue.now op ≡ true) (rests : IsAtRest k.note) where
     pub allowed : IsAllowed store_meaning k.progress.catalogue op
     allowed = subst (λ z. IsAllowed store_meaning z op) (sym d.on.catalogue_is) update
 
     -- the desk x is y, once the operation is posted
     module _ (x y : DeskView) (is : desk_of h.value ≡ Some x) (posts : posted here.caller.slot op x ≡ Some y) (sessions : List K) (one : sessions ≡ t ∷ []) where
       pub may_put : DeskMayBePut PostedThere sessions t (held_place h) (with_desk h.value y)
-      may_put = (puts_posted here.caller k t (held_place h) h.value op taken x y is posts sessions one k.progress.catalogue refl allowed).may
+      may_put = (puts_posted here.caller k t (held_place h) h.value op taken x y is posts sessions one k.progress.catalogue refl allowed rests).may
 
       -- it is `asked` then
       module _ (l : L) (ns : List SessionNote) (can : Possible store_rules t l ns) (run : RunOf L SessionNote Value) (on : StepsTo t (Put (held_place h) (with_desk h.value y)) (desk_back PostedThere sessions t (held_place h) (with_desk h.value y) l run)) where
@@ -93,7 +94,7 @@ module _ (s : StoreSeat) (here : Here) (h : Held Value) (k t : K) (d : HasDesk s
 
         pub has_posted_so : HasPosted k asked op
         has_posted_so =
-            has_posted here.caller k t (held_place h) h.value op taken x y is posts sessions one k.progress.catalogue refl allowed asked ((puts_posted here.caller k t (held_place h) h.value op taken x y is posts sessions one k.progress.catalogue refl allowed).back l ns can run (adds_on t _ _ _ _ on))
+            has_posted here.caller k t (held_place h) h.value op taken x y is posts sessions one k.progress.catalogue refl allowed rests asked ((puts_posted here.caller k t (held_place h) h.value op taken x y is posts sessions one k.progress.catalogue refl allowed rests).back l ns can run (adds_on t _ _ _ _ on))
 
         pub posts_so : PostsBy k asked op
         posts_so = posts_by here.caller k t (held_place h) h.value taken x y is asked (stepped_by t asked (Put (held_place h) (with_desk h.value y)) refl refl on) op posts

@@ -19,6 +19,7 @@ pub mod Whole
 pub mod Stretches
 pub mod MakingRoom
 pub mod Tried
+pub mod Loaded
 pub mod Waiting
 pub mod Ready
 pub mod Looked

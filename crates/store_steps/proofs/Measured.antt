@@ -86,7 +86,7 @@ log_found l ns (Desk d) a well g is = absurd (none-some g is)
 -- the session has read the completed tail, which is that of the progress d, while it holds the log x
 module _ (k t : K) (n : NodeReplica) (x : Value) (b : TookLog k t n x) (d : L) (ns : List SessionNote) (can : Possible store_rules t d ns) (done : ℕ) (run : RunOf L SessionNote Value) (on : Adds t (Read done) d t.note run) (q : ℕ) (at : q ≡ leader) where
   abbrev m : K
-  m = having_read t d done run
+  m = having_read t d t.note done run
 
   pub held_log : m.held ≡ (q, x) ∷ k.held
   held_log = b.held ∙ ap (λ z. (z, x) ∷ k.held) (sym at)

@@ -12,7 +12,7 @@ use Rattle.node.specs.declared.following.NodeReplica.{NodeReplica}
 use Rattle.store_steps.specs.declared.values.Value.{Value}
 use Rattle.store_steps.specs.declared.values.Value.TheVariants.{Log, Replica, Desk}
 use Rattle.store_steps.specs.Lending.{log_of, replica_of, desk_of, with_replica, with_desk}
-use Rattle.store_steps.specs.Shelving.{view_of, IsSized, HasReplicaSizes, replica_value}
+use Rattle.store_steps.specs.Shelving.{view_of, IsSized, HasReplicaSizes, log_value, replica_value}
 
 -- ---- what is seen as a part has that part
 
@@ -53,6 +53,11 @@ has_desk (Replica n) x e = absurd (subst IsDeskSeen (sym e) tt)
 
 not_some : false ≡ true → ⊥
 not_some e = cc
+
+pub log_seen : (x : Value) → IsSome (log_of x) → (v : LogValue StoreState) × (view_of x ≡ TheLog v)
+log_seen (Log g) e = (log_value g.value, refl)
+log_seen (Replica n) e = absurd (not_some e)
+log_seen (Desk d) e = absurd (not_some e)
 
 -- ---- a replica
 

@@ -160,6 +160,7 @@ idle_looked old new same looks idle j q at =
       is = known_as new j l.0 q at l.1;
       free = subst (λ z. IsFree z l.0) (sym (same_caller old new same j p.0 q p.1 at)) (free_by p.0.caller i.known l.0 l.2.session (l.2.held ∙ i.free.held) l.2.extends i.free);
       pending = ap (λ (n : SessionNote). n.pending) l.2.note ∙ i.pending;
+      unread = ap (λ (n : SessionNote). n.begun) l.2.note ∙ i.unread;
       batch = ap (λ (n : SessionNote). n.batch) l.2.note ∙ i.batch;
       well_formed = l.2.well_formed i.well_formed;
       within = let long = grown_long store_meaning i.known.progress l.0.progress l.2.extends in let low = i.within in subst (λ (n : SessionNote). length n.answered ≤ length l.0.progress.history) (sym l.2.note) (omega (arith, long, low));

@@ -10,6 +10,7 @@ use Rattle.ownlock.specs.Seats.{At, IsSession, TookNext}
 use Rattle.ownlock.specs.declared.shelf.Held.{Held}
 use Rattle.oplog.specs.Operations.{Operation}
 use Rattle.combiner.specs.Desks.{BatchView, DeskView, batch_of, first_author, posted}
+use Rattle.accounts.specs.Moves.{IsAtRest}
 use Rattle.store_steps.specs.declared.desks.Turn.{Turn}
 use Rattle.store_steps.specs.declared.desks.Turn.TheVariants.{Combines}
 use Rattle.accounts.proofs.Export.{at_below, at_none, at_one, at_there}
@@ -95,7 +96,7 @@ same_note shared s h member f t k u d e place =
 
 pub alone_by : (f k : K) → f.note ≡ k.note → IsAlone k → IsAlone f
 alone_by f k same a = record {
-  pending = ap (λ (n : SessionNote). n.pending) same ∙ a.pending;
+  rests = subst IsAtRest (sym same) a.rests;
   alone = ap (λ (n : SessionNote). n.batch) same ∙ a.alone;
   few = subst (λ (n : SessionNote). suc (length n.answered) < 2 ^ 64) (sym same) a.few;
 }

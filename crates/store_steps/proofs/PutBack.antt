@@ -1,5 +1,5 @@
 -- A session has posted at its desk, or has handed over answers there: what it is, once it has put the desk back, and if it settles that.
-use Rattle.std.proofs.Common.{◌≡◌, ℕ, List, [], ◌∷◌, refl, sym, ap, ◌∙◌, subst, Some}
+use Rattle.std.proofs.Common.{◌≡◌, ℕ, List, [], refl, sym, ap, ◌∙◌, subst, Some}
 use Rattle.ownlock.specs.declared.known.ShelfStep.TheVariants.{Put}
 use Rattle.ownlock.specs.Seats.{HasStepped, IsSession, StepsTo, Run as RunOf, TookLast, TookNext}
 use Rattle.ownlock.specs.Knowledge.{Acquired, Possible, Settles}
@@ -17,6 +17,7 @@ use Rattle.accounts.specs.declared.sessions.SessionNote.{SessionNote}
 use Rattle.accounts.specs.Accounts.{IsAllowed}
 use Rattle.accounts.specs.DeskNotes.{DeskDeed, PostedThere, RepliedThere, desk_noting}
 use Rattle.accounts.specs.Picks.{put_progress, put_note}
+use Rattle.accounts.specs.Moves.{IsAtRest}
 use Rattle.store_steps.specs.declared.steps.Caller.{Caller}
 use Rattle.store_steps.specs.declared.values.Value.{Value}
 use Rattle.store_steps.specs.AtDesk.{IsReady}
@@ -88,13 +89,13 @@ module _ (caller : Caller) (k t : K) (p : ℕ) (v w : Value) (b : HasDesk caller
 -- ---- a post
 
 -- the desk x was lent, and is put back as y
-module _ (caller : Caller) (k t : K) (p : ℕ) (v : Value) (op : Operation) (b : HasDesk caller k t p v) (x y : DeskView) (lent : desk_of v ≡ Some x) (h : posted caller.slot op x ≡ Some y) (before : StoreSeat) (is : IsSession before t) (c : CatalogueView) (of : k.progress.catalogue ≡ c) (may : IsAllowed store_meaning c op) where
+module _ (caller : Caller) (k t : K) (p : ℕ) (v : Value) (op : Operation) (b : HasDesk caller k t p v) (x y : DeskView) (lent : desk_of v ≡ Some x) (h : posted caller.slot op x ≡ Some y) (before : StoreSeat) (is : IsSession before t) (c : CatalogueView) (of : k.progress.catalogue ≡ c) (may : IsAllowed store_meaning c op) (rests : IsAtRest k.note) where
   abbrev Posts : K → Type 0
   Posts m = HasPosted k m op × PostsBy k m op
 
   pub posts_there : (l : L) (ns : List SessionNote) → Possible store_rules t l ns → (run : RunOf L SessionNote Value) → StepsTo t (Put p (with_desk v y)) (desk_back PostedThere before.sessions t p (with_desk v y) l run) → Posts (desk_back PostedThere before.sessions t p (with_desk v y) l run)
   posts_there l ns can run on = (
-    has_posted caller k t p v op b x y lent h before.sessions is c of may _ ((puts_posted caller k t p v op b x y lent h before.sessions is c of may).back l ns can run (adds_on t _ _ _ _ on)),
+    has_posted caller k t p v op b x y lent h before.sessions is c of may rests _ ((puts_posted caller k t p v op b x y lent h before.sessions is c of may rests).back l ns can run (adds_on t _ _ _ _ on)),
     posts_by caller k t p v b x y lent _ (stepped_by t (desk_back PostedThere before.sessions t p (with_desk v y) l run) (Put p (with_desk v y)) refl refl on) op h,
   )
 

@@ -377,18 +377,18 @@ module _ (k t f after : K) (g : LogView) (n u m : NodeReplica) (took : Extends k
     stays = λ wrong. cc;
   }
 
--- the whole look: the session k loaded the completed tail, which was done with the progress p, took its replica and is
--- t then, r once that has come up, and f once it has put it back
-module _ (k t r f : K) (p : L) (done : ℕ) (n m : NodeReplica) (point : ℕ) (grown : Extends k.progress p) (done_is : done ≡ p.completed) (took : Extends p t.progress) (found : Agrees t.progress n) (stands : Stands t) (first : FollowsBy (nat_lt n.replica.tail done) t r n m)
+-- the whole look: the session k took its replica, loaded the completed tail, which was done, and is t then, r once the replica has come up, and f
+-- once it has put it back
+module _ (k t r f : K) (done : ℕ) (n m : NodeReplica) (point : ℕ) (grown : Extends k.progress t.progress) (done_is : done ≡ t.progress.completed) (found : Agrees t.progress n) (stands : Stands t) (first : FollowsBy (nat_lt n.replica.tail done) t r n m)
     (up : Extends t.progress r.progress) (agrees : Agrees r.progress m) (within : m.replica.tail ≤ length r.progress.history) (reached : done ≤ m.replica.tail) (back : Extends r.progress f.progress) (stands_f : Stands f)
     (w : Value) (w_is : replica_of w ≡ Some n) (h : HoldsReplica r w) (same : r.session ≡ k.session) (place : ℕ) (here : place ≡ 1 + h.node) (q : ℕ) (there : q ≡ 1 + h.node)
-    (begins : Did k t (Read done ∷ Took place (AReplica n) ∷ [])) (put_it : HasStepped r (Put q (with_replica w m)) f) where
+    (begins : Did k t (Took place (AReplica n) ∷ Read done ∷ [])) (put_it : HasStepped r (Put q (with_replica w m)) f) where
   abbrev lacks : Bool
   lacks = nat_lt n.replica.tail done
 
-  looks_did : Did k f (Read done ∷ look_deeds (1 + h.node) lacks first.log n m)
-  looks_did = did_then k t f (Read done ∷ Took (1 + h.node) (AReplica n) ∷ []) (follow_deeds lacks first.log m ++ Put (1 + h.node) (AReplica m) ∷ [])
-      (subst (λ z. Did k t (Read done ∷ Took z (AReplica n) ∷ [])) here begins)
+  looks_did : Did k f (look_deeds (1 + h.node) done first.log n m)
+  looks_did = did_then k t f (Took (1 + h.node) (AReplica n) ∷ Read done ∷ []) (follow_deeds lacks first.log m ++ Put (1 + h.node) (AReplica m) ∷ [])
+      (subst (λ z. Did k t (Took z (AReplica n) ∷ Read done ∷ [])) here begins)
       (did_then t r f (follow_deeds lacks first.log m) (Put (1 + h.node) (AReplica m) ∷ []) first.did
       (did_one r f (Put q (with_replica w m)) (Put (1 + h.node) (AReplica m)) put_it (λ i. Put (there i) (with_replica_part w n m w_is i))))
 
@@ -396,21 +396,21 @@ module _ (k t r f : K) (p : L) (done : ℕ) (n m : NodeReplica) (point : ℕ) (g
   c2 = k.progress.catalogue
 
   to_t : k.progress.catalogue ≡ t.progress.catalogue
-  to_t = grown.catalogue ∙ took.catalogue
+  to_t = grown.catalogue
 
   all_config : k.progress.config ≡ r.progress.config
-  all_config = grown.config ∙ (took.config ∙ up.config)
+  all_config = grown.config ∙ up.config
 
   -- the replica that it looked at is m
   pub looks_by : tails_in f.steps ≡ tails_in k.steps ++ done ∷ [] → point ≡ m.replica.tail → (by : LooksBy k f point) × (by.left ≡ m)
   looks_by read at =
-      let tail = agrees.0.tail in let rise = back.completed in let rise_t = took.completed in let rise_s = first.since.completed in (
+      let tail = agrees.0.tail in let rise = back.completed in let rise_s = first.since.completed in (
         record {
           loads = record { seen = done; more = []; read = read };
           ends = record {
             logs = record {
               from = first.from;
-              since = store_laws.extends_on k.progress t.progress first.from (store_laws.extends_on k.progress p t.progress grown took) first.since;
+              since = store_laws.extends_on k.progress t.progress first.from grown first.since;
               log = first.log;
               back = later f.progress first.back;
               log_is = first.log_is;
@@ -421,7 +421,7 @@ module _ (k t r f : K) (p : L) (done : ℕ) (n m : NodeReplica) (point : ℕ) (g
             own_is = agrees_on t.progress first.from n first.since (let tail = found.0.tail in let low = stands.accounts.completed in omega (arith, tail, low)) found;
             left_is = agrees_on r.progress f.progress m back within agrees;
           };
-          begun = omega (arith, done_is, rise_t, rise_s);
+          begun = omega (arith, done_is, rise_s);
           up = first.up;
           goes = λ d. then_others c2 _ _ _ (read_steps first.log n first.up) (under t.progress.catalogue c2 (sym to_t) (first.goes d))
               (others r.progress f.progress first.back first.back_is back (well_of f stands_f) c2 (to_t ∙ (up.catalogue ∙ back.catalogue)) m Absent d);

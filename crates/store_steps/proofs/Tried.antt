@@ -1,14 +1,12 @@
 -- A session that found a place held: what it was free to do it still is, and what its last try tells holds from its first one on.
 use Rattle.std.proofs.Common.{◌≡◌, ℕ, ◌+◌, ◌≤◌, Some, List, [], ◌∷◌, ◌++◌, length, append-nil, append_assoc, sym, refl, ap, ◌∙◌, subst, arith}
-use Rattle.std.specs.Prelude.{nat_le, nat_lt}
+use Rattle.std.specs.Prelude.{nat_le}
 use Rattle.std.proofs.lemmas.Bool.{and_from, and_parts, le-leb, leb-true}
 use Rattle.ownlock.specs.declared.known.ShelfStep.{ShelfStep}
 use Rattle.ownlock.specs.declared.known.ShelfStep.TheVariants.{Put, Read, Took}
-use Rattle.ownlock.proofs.Export.{stepped_by}
-use Rattle.ownlock.specs.Seats.{Adds, having_read, tails_in, HasStepped, Run as RunOf}
+use Rattle.ownlock.specs.Seats.{tails_in, HasStepped}
 use Rattle.oplog.specs.declared.configuration.Sizes.{Sizes}
 use Rattle.oplog.specs.Sessions.{IsSessionOf}
-use Rattle.ownlock.specs.Knowledge.{Possible}
 use Rattle.loader.specs.CatalogueView.{CatalogueView}
 use Rattle.combiner.specs.Desks.{BatchView}
 use Rattle.replica.specs.Views.{RepliesView}
@@ -17,12 +15,13 @@ use Rattle.accounts.specs.declared.sessions.SessionNote.{SessionNote}
 use Rattle.node.specs.declared.following.NodeReplica.{NodeReplica}
 use Rattle.store_steps.specs.declared.values.Value.{Value}
 use Rattle.store_steps.specs.Combining.{HasAnswered, HasClaimed, HasCombined}
-use Rattle.store_steps.specs.Sights.{HasSeen}
-use Rattle.store_steps.specs.Shelving.{store_rules}
+use Rattle.store_steps.specs.Sights.{HasSeen, Heard}
+use Rattle.accounts.specs.Accounts.{Extends}
+use Rattle.accounts.specs.ReadNotes.{looked_with}
 use Rattle.store_steps.specs.Standing.{Agrees, SessionKnown, Stands}
 use Rattle.store_steps.specs.Trying.{BeginsBelow, IsStill}
 use Rattle.store_steps.specs.Whole.{AnswersBy, BetweenReplicas, LooksBy, answer_deeds, look_deeds}
-use Rattle.store_steps.specs.Doing.{AReplica, Did, Nothing, Part, PutsBack, Reads}
+use Rattle.store_steps.specs.Doing.{AReplica, Did, Nothing, Part, PutsBack, ReadsAndPutsBack, part_of}
 use Rattle.store_steps.specs.Lending.{replica_of, with_replica}
 use Rattle.store_steps.proofs.Doing.{did_both, did_none, did_one, did_then, nothing_on, replica_part, with_replica_part}
 use Rattle.store_steps.proofs.Finished.{Back}
@@ -32,9 +31,6 @@ use Rattle.store_steps.proofs.Taken.{TookReplica, well_formed}
 
 abbrev K : Type 0
 K = SessionKnown
-
-abbrev L : Type 0
-L = Progress CatalogueView
 
 pub low_enough : (k : K) (n : NodeReplica) → Agrees k.progress n → Stands k → n.replica.tail ≤ length k.progress.history
 low_enough k n a s = let low = a.0.tail in let all = s.accounts.completed in omega (arith, low, all)
@@ -76,20 +72,21 @@ still_back p q k t f w n b e is at put = record {
   did = did_both k t f p q p w (with_replica w n) (AReplica n) (AReplica n) b.steps put refl at (replica_part w n is) (with_replica_part w n n is);
 }
 
--- the session has read the completed tail alone, which is that of the progress l
-pub still_told : (k : K) (l : L) (n : ℕ) (ns : List SessionNote) (run : RunOf L SessionNote Value) → k.held ≡ [] → Possible store_rules k l ns → n ≡ l.completed → Adds k (Read n) l k.note run → IsStill k (having_read k l n run)
-still_told k l n ns run none can is on = record {
-  session = refl;
-  held = none;
-  note = refl;
-  extends = can.0.0;
-  well_formed = λ _. well_formed l ns can.2;
-  more = n ∷ [];
-  read = refl;
-  below = omega (arith, is);
-  tries = Read n ∷ [];
-  nothing = Reads n [] Nothing;
-  did = did_one k (having_read k l n run) (Read n) (Read n) (stepped_by k (having_read k l n run) (Read n) refl refl on) refl;
+-- the same, where it has read the completed tail meanwhile, which is no more than it knows to be completed then
+pub still_read : (p q : ℕ) (k t f : K) (n : NodeReplica) (tail : ℕ) (y : Value) → t.session ≡ k.session → t.note ≡ k.note → Extends k.progress t.progress → tail ≤ t.progress.completed
+    → tails_in t.steps ≡ tails_in k.steps ++ tail ∷ [] → Did k t (Took p (AReplica n) ∷ Read tail ∷ []) → Back t f → q ≡ p → part_of y ≡ AReplica n → HasStepped t (Put q y) f → IsStill k f
+still_read p q k t f n tail y session note extends low read did e at is put = record {
+  session = e.session ∙ session;
+  held = e.held;
+  note = e.note ∙ note;
+  extends = store_laws.extends_on k.progress t.progress f.progress extends e.extends;
+  well_formed = λ _. well_formed f.progress e.stands.notes e.stands.accounts;
+  more = tail ∷ [];
+  read = e.tails ∙ read;
+  below = let up = e.extends.completed in omega (arith, low, up);
+  tries = Took p (AReplica n) ∷ Read tail ∷ Put p (AReplica n) ∷ [];
+  nothing = ReadsAndPutsBack p n tail [] Nothing;
+  did = did_then k t f (Took p (AReplica n) ∷ Read tail ∷ []) (Put p (AReplica n) ∷ []) did (did_one t f (Put q y) (Put p (AReplica n)) put (λ i. Put (at i) (is i)));
 }
 
 begins_on : (ms ns : List ℕ) (low high : ℕ) → low ≤ high → BeginsBelow ms low → BeginsBelow ns high → BeginsBelow (ms ++ ns) high
@@ -183,17 +180,18 @@ module _ (k m f : K) (s : IsStill k m) where
   reads : (n : ℕ) (ns : List ℕ) → tails_in f.steps ≡ tails_in m.steps ++ n ∷ ns → tails_in f.steps ≡ tails_in k.steps ++ first_read s.more n ∷ later_reads s.more n ns
   reads n ns read = read ∙ (ap (λ z. z ++ n ∷ ns) s.read ∙ (append_assoc (tails_in k.steps) s.more (n ∷ ns) ∙ ap (λ z. tails_in k.steps ++ z) (all_reads s.more n ns)))
 
-  pub seen_since : (point : ℕ) → HasSeen m f point → HasSeen k f point
+module _ (h : Heard) (k m f : K) (s : IsStill k m) where
+  pub seen_since : (point : ℕ) → HasSeen h m f point → HasSeen h k f point
   seen_since point r =
       let up = s.extends.completed in let far = r.far in record {
         begun = first_read s.more r.begun;
         more = later_reads s.more r.begun r.more;
-        read = reads r.begun r.more r.read;
+        read = reads k m f s r.begun r.more r.read;
         reached = first_below s.more r.begun m.progress.completed point s.below far r.reached;
         far = omega (arith, up, far);
         session = r.session ∙ s.session;
         held = r.held;
-        note = r.note ∙ s.note;
+        note = r.note ∙ ap (looked_with h.asked point h.reply) s.note;
         extends = store_laws.extends_on k.progress m.progress f.progress s.extends r.extends;
         well_formed = r.well_formed;
       }
@@ -219,7 +217,7 @@ module _ (k m f : K) (s : IsStill k m) where
             tries = s.tries ++ r.tries;
             nothing = nothing_on s.nothing r.nothing;
             loaded = r.loaded;
-            did = tried_then k m f s.tries r.tries (Read r.loaded ∷ look_deeds (1 + r.node) (nat_lt r.own.replica.tail r.loaded) r.log r.own r.left) s.did r.did;
+            did = tried_then k m f s.tries r.tries (look_deeds (1 + r.node) r.loaded r.log r.own r.left) s.did r.did;
             stays = r.stays;
           };
         },

@@ -22,14 +22,14 @@ use Rattle.accounts.specs.Values.{TheDesk}
 use Rattle.accounts.specs.Accounts.{Extends, IsAllowed}
 use Rattle.accounts.specs.Agreement.{StageAgrees}
 use Rattle.accounts.specs.DeskNotes.{ClaimedThere, CollectedThere, DeskDeed, Looked, PostedThere, desk_held, desk_in, desk_note, stage_at}
-use Rattle.accounts.specs.Moves.{answered_with, posted_with, unplaced}
+use Rattle.accounts.specs.Moves.{IsAtRest, answered_with, posted_with, unplaced}
 use Rattle.accounts.specs.Told.{Tells}
 use Rattle.accounts.proofs.Export.{claim_noted, collect_noted, desk_picks, post_noted, collected_is, none_claimed, grown_long, get_of, some_none, at_map}
 use Rattle.store_steps.specs.declared.desks.Turn.{Turn}
 use Rattle.store_steps.specs.declared.desks.Turn.TheVariants.{Collects, Combines, Waits}
 use Rattle.store_steps.specs.declared.steps.Caller.{Caller}
 use Rattle.store_steps.specs.declared.values.Value.{Value}
-use Rattle.store_steps.specs.AtDesk.{HasAsked, IsAt, IsTurn, Steps}
+use Rattle.store_steps.specs.AtDesk.{HasAsked, IsAt, IsTurn, MayPost, Steps}
 use Rattle.store_steps.specs.Lending.{desk_of, with_desk}
 use Rattle.store_steps.specs.Requests.{HasPosted, HasTurned, IsBack, Turns}
 use Rattle.store_steps.specs.Views.{request_of}
@@ -54,7 +54,7 @@ is_back k f n b = record { session = b.session; held = b.held; extends = b.exten
 -- ---- a post
 
 -- the desk x was lent, and is put back as y
-module _ (caller : Caller) (k t : K) (p : ℕ) (v : Value) (op : Operation) (b : HasDesk caller k t p v) (x y : DeskView) (lent : desk_of v ≡ Some x) (h : posted caller.slot op x ≡ Some y) (sessions : List K) (is : sessions ≡ t ∷ []) (c : CatalogueView) (of : k.progress.catalogue ≡ c) (may : IsAllowed store_meaning c op) where
+module _ (caller : Caller) (k t : K) (p : ℕ) (v : Value) (op : Operation) (b : HasDesk caller k t p v) (x y : DeskView) (lent : desk_of v ≡ Some x) (h : posted caller.slot op x ≡ Some y) (sessions : List K) (is : sessions ≡ t ∷ []) (c : CatalogueView) (of : k.progress.catalogue ≡ c) (may : IsAllowed store_meaning c op) (rests : IsAtRest k.note) where
   abbrev request : Pending
   request = request_of t.progress op
 
@@ -65,7 +65,7 @@ module _ (caller : Caller) (k t : K) (p : ℕ) (v : Value) (op : Operation) (b :
   there = ap (posted caller.slot op) (same_desk caller k t p v b x lent) ∙ h
 
   step : Steps t b.desk waiting y
-  step = post_steps caller.slot t b.desk y op there b.here (subst (λ z. IsAllowed store_meaning z op) (sym of ∙ b.extends.catalogue) may)
+  step = post_steps caller.slot t b.desk y op there b.here (subst IsAtRest (sym b.note) rests) (subst (λ z. IsAllowed store_meaning z op) (sym of ∙ b.extends.catalogue) may)
 
   pub puts_posted : PutsDesk k t sessions PostedThere (with_desk v y) waiting p
   puts_posted = puts_desk caller k t p v b sessions is PostedThere (with_desk v y) y waiting (desk_put v x y lent) step (post_noted view_of t caller.slot op b.desk y t.note b.here.own there) p refl
@@ -74,9 +74,9 @@ module _ (caller : Caller) (k t : K) (p : ℕ) (v : Value) (op : Operation) (b :
   has_posted f back = record { back = is_back k f waiting back; request = request; op_is = refl; seen = grown_long store_meaning k.progress t.progress b.extends; note = back.note ∙ ap (λ (n : SessionNote). posted_with n request) b.note }
 
 -- who waits for no answer may post there
-pub may_post : (caller : Caller) (k t : K) (p : ℕ) (v : Value) (op : Operation) (b : HasDesk caller k t p v) (x : DeskView) → desk_of v ≡ Some x → k.note.pending ≡ None → (c : CatalogueView) → k.progress.catalogue ≡ c → IsAllowed store_meaning c op
-    → (t : K) × IsAt caller.slot t x × (t.note.pending ≡ None) × IsAllowed store_meaning t.progress.catalogue op
-may_post caller k t p v op b x lent none c of may = (t, is_at caller k t p v b x lent, ap (λ (n : SessionNote). n.pending) b.note ∙ none, subst (λ z. IsAllowed store_meaning z op) (sym of ∙ b.extends.catalogue) may)
+pub may_post : (caller : Caller) (k t : K) (p : ℕ) (v : Value) (op : Operation) (b : HasDesk caller k t p v) (x : DeskView) → desk_of v ≡ Some x → IsAtRest k.note → (c : CatalogueView) → k.progress.catalogue ≡ c → IsAllowed store_meaning c op
+    → (t : K) × IsAt caller.slot t x × MayPost t op
+may_post caller k t p v op b x lent none c of may = (t, is_at caller k t p v b x lent, (subst IsAtRest (sym b.note) none, subst (λ z. IsAllowed store_meaning z op) (sym of ∙ b.extends.catalogue) may))
 
 -- ---- a turn
 

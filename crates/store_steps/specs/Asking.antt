@@ -1,10 +1,10 @@
 -- The seat of a session that asks for an update: what it has to be, and what it becomes, from the post to the answer.
-use Rattle.std.specs.Prelude.{◌≡◌, None}
 use Rattle.ownlock.specs.Seats.{IsSession}
 use Rattle.oplog.specs.Operations.{Operation}
 use Rattle.combiner.specs.Desks.{BatchView}
 use Rattle.combiner.specs.declared.slots.Reply.{Reply}
 use Rattle.accounts.specs.declared.sessions.Pending.{Pending}
+use Rattle.accounts.specs.Moves.{IsAtRest}
 use Rattle.store_steps.specs.declared.desks.Turn.{Turn}
 use Rattle.store_steps.specs.declared.steps.Caller.{Caller}
 use Rattle.store_steps.specs.declared.steps.Question.{Question}
@@ -24,7 +24,7 @@ asked_op asked = op_of asked.program asked.argument.now
 
 -- the seat is one session of this store, that of the caller's slot, which holds nothing and waits for no answer
 abbrev pub AwaitsNothing : StoreSeat → Caller → Shared → Type 0
-AwaitsNothing s caller shared = (k : SessionKnown) × IsSession s k × IsFree caller k × (k.note.pending ≡ None) × IsOn shared k
+AwaitsNothing s caller shared = (k : SessionKnown) × IsSession s k × IsFree caller k × IsAtRest k.note × IsOn shared k
 
 -- `AwaitsNothing`, but the session waits for the answer to a request, and combines for nobody
 abbrev pub AwaitsAnswer : StoreSeat → Caller → Shared → Type 0

@@ -12,11 +12,11 @@ use Rattle.node.specs.Answering.{answered_batch, HaveRun}
 use Rattle.accounts.specs.declared.sessions.Pending.{Pending}
 use Rattle.accounts.specs.declared.sessions.Claim.{Claim}
 use Rattle.accounts.specs.declared.sessions.SessionNote.{SessionNote}
-use Rattle.accounts.specs.Accounts.{Accounts}
+use Rattle.accounts.specs.Accounts.{Accounts, IsAllowed}
 use Rattle.accounts.specs.Agreement.{DeskAgrees}
 use Rattle.accounts.specs.Batches.{Ascend}
 use Rattle.accounts.specs.DeskSteps.{DeskStep, Gives}
-use Rattle.accounts.specs.Moves.{answered_with, posted_with, record_of, unplaced}
+use Rattle.accounts.specs.Moves.{IsAtRest, answered_with, posted_with, record_of, unplaced}
 use Rattle.accounts.specs.Told.{Tells}
 use Rattle.store_steps.specs.declared.desks.Turn.{Turn}
 use Rattle.store_steps.specs.declared.desks.Turn.TheVariants.{Collects, Combines, Waits}
@@ -53,6 +53,10 @@ pub record IsReady (k : SessionKnown) (b : BatchView) (kept : RepliesView) : Typ
 -- the session may put the desk back as y, with the note n
 abbrev pub Steps : SessionKnown → DeskView → SessionNote → DeskView → Type 0
 Steps k x n y = DeskStep store_meaning k.progress k.session k.note x n y
+
+-- the session waits for no answer, and the operation is an update of its catalogue
+abbrev pub MayPost : SessionKnown → Operation → Type 0
+MayPost k op = IsAtRest k.note × IsAllowed store_meaning k.progress.catalogue op
 
 -- the session does so when it posts the operation, and notes that it waits for the answer
 abbrev pub PostSteps : SessionKnown → Operation → DeskView → DeskView → Type 0

@@ -1,5 +1,5 @@
 -- A post and the turn after it in one hold of the desk.
-use Rattle.std.specs.Prelude.{◌≡◌, ℕ, suc, ◌<◌, ◌^◌, [], length, None, Some}
+use Rattle.std.specs.Prelude.{◌≡◌, ℕ, suc, ◌<◌, ◌^◌, [], length, Some}
 use Rattle.ownlock.specs.Seats.{IsSession}
 use Rattle.oplog.specs.Operations.{Operation}
 use Rattle.combiner.specs.Desks.{BatchView}
@@ -9,6 +9,7 @@ use Rattle.store_steps.specs.declared.desks.Turn.TheVariants.{Collects, Combines
 use Rattle.store_steps.specs.declared.steps.Caller.{Caller}
 use Rattle.store_steps.specs.declared.steps.Shared.{Shared}
 use Rattle.accounts.specs.declared.sessions.Pending.{Pending}
+use Rattle.accounts.specs.Moves.{IsAtRest}
 use Rattle.replica.specs.Views.{RepliesView}
 use Rattle.store_steps.specs.AtDesk.{IsReady}
 use Rattle.store_steps.specs.Combining.{HasCombined}
@@ -21,7 +22,7 @@ use Rattle.store_steps.specs.Visits.{TakesNext}
 
 -- the session waits for no answer, combines for nobody, and has had fewer answers than a word can count
 pub record IsAlone (k : SessionKnown) : Type 0 where
-  pub pending : k.note.pending ≡ None
+  pub rests : IsAtRest k.note
   pub alone : k.note.batch ≡ []
   pub few : suc (length k.note.answered) < 2 ^ 64
 

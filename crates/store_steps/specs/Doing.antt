@@ -46,8 +46,9 @@ pub record Did {P N : Type 0} (k after : Known P N Value) (steps : List (ShelfSt
 abbrev pub takes_and_puts : ℕ → Part → Part → List (ShelfStep Part)
 takes_and_puts place x y = Took place x ∷ Put place y ∷ []
 
--- these steps change nothing: the completed tail is read, and a replica is put back as it was taken
+-- these steps change nothing: a replica is put back as it was taken; the completed tail may be read meanwhile
 pub data ChangesNothing : List (ShelfStep Part) → Type 0 where
   Nothing : ChangesNothing []
-  Reads : (n : ℕ) (steps : List (ShelfStep Part)) → ChangesNothing steps → ChangesNothing (Read n ∷ steps)
   PutsBack : (place : ℕ) (n : NodeReplica) (steps : List (ShelfStep Part)) → ChangesNothing steps → ChangesNothing (Took place (AReplica n) ∷ Put place (AReplica n) ∷ steps)
+  ReadsAndPutsBack : (place : ℕ) (n : NodeReplica) (tail : ℕ) (steps : List (ShelfStep Part)) → ChangesNothing steps
+      → ChangesNothing (Took place (AReplica n) ∷ Read tail ∷ Put place (AReplica n) ∷ steps)

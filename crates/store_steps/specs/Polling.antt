@@ -1,5 +1,5 @@
 -- An update by four takes whose session waits for nobody: what its post and claim leave, and of which deeds its calls are.
-use Rattle.std.specs.Prelude.{◌≡◌, ◌≤◌, [], length, Some}
+use Rattle.std.specs.Prelude.{◌≡◌, ◌≤◌, [], length}
 use Rattle.oplog.specs.Operations.{Operation}
 use Rattle.combiner.specs.Desks.{BatchView}
 use Rattle.replica.specs.StoreMeaning.{store_meaning}

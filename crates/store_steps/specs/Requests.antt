@@ -1,5 +1,5 @@
 -- What a session does at its desk with a request of its own, from its post to its answer.
-use Rattle.std.specs.Prelude.{◌≡◌, ◌<◌, ◌≤◌, [], length, Some}
+use Rattle.std.specs.Prelude.{◌≡◌, ◌<◌, ◌≤◌, [], length}
 use Rattle.oplog.specs.Operations.{Operation}
 use Rattle.combiner.specs.Desks.{BatchView}
 use Rattle.combiner.specs.declared.slots.Reply.{Reply}

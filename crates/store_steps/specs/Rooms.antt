@@ -1,7 +1,6 @@
 -- A node whose replica may have changed places with the log's base, until it is again what it was.
 use Rattle.std.specs.Prelude.{◌≡◌, ◌⊎◌, ℕ, ◌+◌, ◌*◌, ◌-◌, ◌<◌, ◌≤◌, [], length, drop, min}
 use Rattle.loader.specs.CatalogueView.{CatalogueView}
-use Rattle.oplog.specs.History.{History}
 use Rattle.oplog.specs.Logs.{Log as LogView, tail_of, left_of, records_from, room_in}
 use Rattle.node.specs.Following.{IsNext, replayed_first}
 use Rattle.node.specs.declared.following.NodeReplica.{NodeReplica}

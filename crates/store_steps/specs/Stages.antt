@@ -1,5 +1,5 @@
 -- An update on its way: the four stages in which it stands between two deeds, and what a deed leaves.
-use Rattle.std.specs.Prelude.{◌≡◌, suc, ◌≤◌, ◌<◌, ◌^◌, [], length, Some}
+use Rattle.std.specs.Prelude.{◌≡◌, suc, ◌≤◌, ◌<◌, ◌^◌, [], length, Some, None}
 use Rattle.ownlock.specs.Seats.{IsSession}
 use Rattle.combiner.specs.Desks.{BatchView}
 use Rattle.combiner.specs.declared.slots.Reply.{Reply}
@@ -26,6 +26,7 @@ pub record IsAsking (s : StoreSeat) (caller : Caller) (k : SessionKnown) (o : Pe
   pub is : IsSession s k
   pub free : IsFree caller k
   pub pending : k.note.pending ≡ Some o
+  pub unread : k.note.begun ≡ None
   pub few : suc (length k.note.answered) < 2 ^ 64
   pub well_formed : IsWellFormed store_meaning k.progress
   pub within : length k.note.answered ≤ length k.progress.history

@@ -174,7 +174,6 @@ pub record HasReplayed (k after : SessionKnown) (n m : NodeReplica) (old new : R
 -- the replica has reached at least that tail
 pub record HasReached (k after : SessionKnown) (done : ℕ) (n : NodeReplica) : Type 0 where
   pub goes : GoesOn k after
-  pub note : after.note ≡ k.note
   pub agrees : Agrees after.progress n
   pub within : n.replica.tail ≤ length after.progress.history
   pub reached : done ≤ n.replica.tail

@@ -52,6 +52,7 @@ pub record IsIdle (s : StoreSeat) (caller : Caller) : Type 0 where
   pub is : IsSession s known
   pub free : IsFree caller known
   pub pending : known.note.pending ≡ None
+  pub unread : known.note.begun ≡ None
   pub batch : known.note.batch ≡ []
   -- what the session knows is a history of the store's catalogue, within its limit
   pub well_formed : IsWellFormed store_meaning known.progress

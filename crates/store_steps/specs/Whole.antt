@@ -108,9 +108,10 @@ abbrev pub follow_deeds : (lacks : Bool) → LogView → NodeReplica → List (S
 follow_deeds true g m = Took log_place (ALog g) ∷ Put log_place (ALog g) ∷ Raised m.replica.tail ∷ []
 follow_deeds false g m = []
 
--- the replica n of this place is taken, comes up to m, and is put back
-abbrev pub look_deeds : ℕ → (lacks : Bool) → LogView → (n m : NodeReplica) → List (ShelfStep Part)
-look_deeds place lacks g n m = Took place (AReplica n) ∷ (follow_deeds lacks g m ++ Put place (AReplica m) ∷ [])
+-- the replica n of this place is taken, the completed tail is loaded, the replica comes up to m, and it is put back
+abbrev pub look_deeds : ℕ → (loaded : ℕ) → LogView → (n m : NodeReplica) → List (ShelfStep Part)
+look_deeds place loaded g n m =
+    Took place (AReplica n) ∷ Read loaded ∷ (follow_deeds (nat_lt n.replica.tail loaded) g m ++ Put place (AReplica m) ∷ [])
 
 -- ---- what a session found, and what it left
 
@@ -236,7 +237,7 @@ pub record LoadsFirst (k after : SessionKnown) : Type 0 where
   pub more : List ℕ
   pub read : tails_in after.steps ≡ tails_in k.steps ++ seen ∷ more
 
--- what a look does on the shelf: after tries in vain the session loads the completed tail, and takes the replica of its own node. It takes the log if
+-- what a look does on the shelf: after tries in vain the session takes the replica of its own node, and loads the completed tail. It takes the log if
 -- and only if that replica is below the loaded tail. Another replica stays as it was.
 pub record LooksOnShelf (k after : SessionKnown) (log : LogView) (own left : NodeReplica) : Type 0 where
   pub node : ℕ
@@ -244,7 +245,7 @@ pub record LooksOnShelf (k after : SessionKnown) (log : LogView) (own left : Nod
   pub tries : List (ShelfStep Part)
   pub nothing : ChangesNothing tries
   pub loaded : ℕ
-  pub did : Did k after (tries ++ Read loaded ∷ look_deeds (replica_place k.progress.config node) (nat_lt own.replica.tail loaded) log own left)
+  pub did : Did k after (tries ++ look_deeds (replica_place k.progress.config node) loaded log own left)
   pub stays : nat_lt own.replica.tail loaded ≡ false → left ≡ own
 
 -- a look at its node's replica, at this point of the history: the completed tail is loaded, and a replica below it catches up with the log; then

@@ -1,6 +1,6 @@
 // What a store says of its maps and programs.
 
-ghost use Rattle.std.specs.Prelude.{◌≡◌, ◌<◌, length};
+ghost use Rattle.std.specs.Prelude.{◌≡◌, ◌<◌, length, None};
 ghost use Rattle.maps.specs.Maps.{shapes_of};
 ghost use Rattle.verifier.specs.Accepted.{checked_in};
 ghost use Rattle.store_steps.specs.Describing.{AreFactsThere, Describes, DescribesProgram, HasMap, info_fault_number, map_refusal, program_refusal};
@@ -150,6 +150,10 @@ impl Look for MapQuery {
 
     ghost sees = { λ old new info. AMap old.map info };
 
+    ghost asks = { λ look. None };
+
+    ghost replies = { λ told. 0 };
+
     ghost lent = { λ old new. Unit {0} };
 
     fn check(&self, catalogue: &Catalogue) -> Result<(), InfoRefused> {
@@ -183,6 +187,10 @@ impl Look for ProgramQuery {
     ghost point = { λ info. info.point };
 
     ghost sees = { λ old new info. AProgram old.program info };
+
+    ghost asks = { λ look. None };
+
+    ghost replies = { λ told. 0 };
 
     ghost lent = { λ old new. Unit {0} };
 

@@ -4,10 +4,9 @@
 ghost use Rattle.std.specs.Prelude.{◌≡◌, ℕ, [], Some, None};
 ghost use Rattle.combiner.specs.Desks.{posted, replied};
 ghost use Rattle.replica.specs.StoreMeaning.{store_meaning};
-ghost use Rattle.accounts.specs.Accounts.{IsAllowed};
 ghost use Rattle.accounts.specs.declared.sessions.Pending.{Pending};
 ghost use Rattle.node.specs.Answering.{answered_batch};
-ghost use Rattle.store_steps.specs.AtDesk.{IsAt, IsClaim, IsReady, HasAsked, IsTurn, PostSteps, TurnSteps, KeepsBatch, Steps};
+ghost use Rattle.store_steps.specs.AtDesk.{IsAt, IsClaim, IsReady, HasAsked, IsTurn, MayPost, PostSteps, TurnSteps, KeepsBatch, Steps};
 ghost use Rattle.store_steps.specs.Standing.{SessionKnown};
 
 use combiner::{Batch, Desk, Reply};
@@ -29,9 +28,9 @@ pub enum Turn {
 /// Posts an update of the store's catalogue in the session's slot. The session waits for no other answer.
 #[inline(always)]
 pub fn post(desk: &mut Desk, slot: usize, op: &OpRef<'_>)
-    requires own { (k : SessionKnown) × IsAt slot k desk.old × (k.note.pending ≡ None) × IsAllowed store_meaning k.progress.catalogue op.now }
+    requires own { (k : SessionKnown) × IsAt slot k desk.old × MayPost k op.now }
     ensures posted { posted slot op.now desk.old ≡ Some desk.new }
-    ensures step { (k : SessionKnown) → IsAt slot k desk.old → IsAllowed store_meaning k.progress.catalogue op.now → PostSteps k op.now desk.old desk.new }
+    ensures step { (k : SessionKnown) → IsAt slot k desk.old → MayPost k op.now → PostSteps k op.now desk.old desk.new }
 {
     match desk.post(slot, op) {
         Ok(()) => {}

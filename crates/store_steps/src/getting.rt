@@ -1,6 +1,6 @@
 // The value under one key.
 
-ghost use Rattle.std.specs.Prelude.{◌≡◌, length};
+ghost use Rattle.std.specs.Prelude.{◌≡◌, length, None};
 ghost use Rattle.maps.specs.Maps.{shapes_of};
 ghost use Rattle.store_steps.specs.Getting.{FitsIn, IsUnder, IsVerdict, get_fault_number, get_refusal};
 ghost use Rattle.store_steps.specs.Seen.{AKey};
@@ -111,6 +111,10 @@ impl Look for Get<'_, '_> {
     ghost point = { λ found. found.point };
 
     ghost sees = { λ old new found. AKey old.of.map old.of.key.now old.value.now new.value.now found };
+
+    ghost asks = { λ look. None };
+
+    ghost replies = { λ told. 0 };
 
     ghost lent = { λ old new. new.value.ghost_name ≡ old.value.ghost_name };
 

@@ -1,14 +1,18 @@
 // A look at the replica of a session's node: its steps are the same, whatever the session looks for.
 
-ghost use Rattle.std.specs.Prelude.{◌≡◌, ◌<◌, ℕ, Option, None, IfOk, IfErr};
+ghost use Rattle.std.specs.Prelude.{◌≡◌, ◌<◌, ℕ, Option, Some, None, IfOk, IfErr};
+ghost use Rattle.accounts.specs.Moves.{IsAtRest};
 ghost use Rattle.loader.specs.CatalogueView.{CatalogueView, sizes_for};
 ghost use Rattle.loader.specs.StoreState.{sizes_of};
+ghost use Rattle.oplog.specs.Operations.{Operation};
 ghost use Rattle.store_steps.specs.Getting.{IsVerdict};
 ghost use Rattle.store_steps.specs.Knowing.{IsOn, Knows, Learns};
 ghost use Rattle.store_steps.specs.Seen.{Sight, holds};
-ghost use Rattle.store_steps.specs.Sights.{SessionLooks};
+ghost use Rattle.store_steps.specs.Ready.{MayRead};
+ghost use Rattle.store_steps.specs.Sights.{SessionLooks, heard_by};
 ghost use Rattle.store_steps.specs.Standing.{IsFree};
 ghost use Rattle.store_steps.specs.Trying.{IsStill};
+ghost use Rattle.store_steps.specs.Views.{RepliesIn};
 
 use crate::steps::{Here, try_hold_ready};
 use crate::values::Value;
@@ -38,12 +42,18 @@ pub trait Look {
     // What the answer says of the state at that point, with the room that was filled.
     ghost sees: { (old new : Self) → Self.Told → Sight };
 
+    // The read that the look asks, if it asks one, and what that replies.
+    ghost asks: { Self → Option Operation };
+
+    ghost replies: { Self.Told → ℕ };
+
     // The room that the look fills is still the room that its caller lent it.
     ghost lent: { (old new : Self) → Type 0 };
 
     /// Whether the look is allowed.
     fn check(&self, catalogue: &Catalogue) -> Result<(), Self::Refused>
-        ensures refusal { IsVerdict (refusal self.now catalogue.now) result };
+        ensures refusal { IsVerdict (refusal self.now catalogue.now) result }
+        ensures asks { IfOk result (λ _. MayRead catalogue.now (asks self.now)) };
 
     /// Looks at the state of a node, and leaves that as it was.
     fn at(&mut self, catalogue: &Catalogue, node: &mut NodeReplica) -> Self::Told
@@ -52,6 +62,7 @@ pub trait Look {
         requires sizes { sizes_of node.old.replica.state ≡ sizes_for catalogue.now }
         ensures point { point result ≡ node.old.replica.tail }
         ensures sees { holds (sees self.old self.new result) catalogue.now node.old.replica.state }
+        ensures heard { (op : Operation) → asks self.old ≡ Some op → RepliesIn catalogue.now op node.old.replica.state (replies result) }
         ensures lent { lent self.old self.new }
         ensures same { node.new ≡ node.old };
 }
@@ -64,17 +75,18 @@ pub fn try_look<L: Look>(
     look: &mut L,
 ) -> Result<L::Told, usize>
     requires own { seat.old.shelf ≡ here.shared.shelf.now.id }
-    requires idle { Knows seat.old (λ k. IsFree here.caller k × IsOn here.shared k) }
+    requires idle { Knows seat.old (λ k. IsFree here.caller k × IsOn here.shared k × IsAtRest k.note) }
     requires may { L.may look.old here.shared.catalogue.now }
     requires allowed { L.refusal look.old here.shared.catalogue.now ≡ None }
+    requires asks { MayRead here.shared.catalogue.now (L.asks look.old) }
     ensures same { seat.new.shelf ≡ seat.old.shelf }
     ensures held { IfErr result (λ place. place < here.entry.shared.shelf.now.places) }
     ensures stays { IfErr result (λ _. Learns seat.old seat.new IsStill) }
     ensures kept { IfErr result (λ _. look.new ≡ look.old) }
     ensures lent { IfOk result (λ _. L.lent look.old look.new) }
-    ensures told { IfOk result (λ told. SessionLooks seat.old seat.new (holds (L.sees look.old look.new told)) (L.point told)) }
+    ensures told { IfOk result (λ t. SessionLooks seat.old seat.new (heard_by L.asks look.old (L.replies t)) (holds (L.sees look.old look.new t)) (L.point t)) }
 {
-    let mut held = try_hold_ready(here, seat)?;
+    let mut held = try_hold_ready::<Brand, L>(here, seat, look)?;
     let node = held.value.replica_mut();
     let told = look.at(here.shared.catalogue, node);
     here.shared.shelf.put::<Brand>(seat, held);
@@ -89,12 +101,13 @@ pub fn look_waiting<R: Wait, L: Look>(
     look: &mut L,
 ) -> L::Told
     requires own { seat.old.shelf ≡ here.shared.shelf.now.id }
-    requires idle { Knows seat.old (λ k. IsFree here.caller k × IsOn here.shared k) }
+    requires idle { Knows seat.old (λ k. IsFree here.caller k × IsOn here.shared k × IsAtRest k.note) }
     requires may { L.may look.old here.shared.catalogue.now }
     requires allowed { L.refusal look.old here.shared.catalogue.now ≡ None }
+    requires asks { MayRead here.shared.catalogue.now (L.asks look.old) }
     ensures same { seat.new.shelf ≡ seat.old.shelf }
     ensures lent { L.lent look.old look.new }
-    ensures told { SessionLooks seat.old seat.new (holds (L.sees look.old look.new result)) (L.point result) }
+    ensures told { SessionLooks seat.old seat.new (heard_by L.asks look.old (L.replies result)) (holds (L.sees look.old look.new result)) (L.point result) }
 {
     for _ in rt.forever() {
         match try_look(here, seat, look) {

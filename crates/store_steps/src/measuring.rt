@@ -56,7 +56,7 @@ fn try_find(shelf: &Shelf<Value>, seat: &mut Seat<Value>, node: &NodeReplica) ->
     let Some(held) = shelf.try_take(seat, LEADER) else {
         return None;
     };
-    let completed = shelf.done(seat);
+    let completed = shelf.done::<Brand>(seat);
     let stats = stats_of(held.value.log(), node, completed);
     shelf.put::<Brand>(seat, held);
     Some(stats)

@@ -108,10 +108,14 @@ impl Look for Question<'_> {
 
     ghost sees = { λ old new answer. AReply (asked_op old) answer.reply };
 
+    ghost asks = { λ question. Some (asked_op question) };
+
+    ghost replies = { λ answer. answer.reply };
+
     ghost lent = { λ old new. Unit {0} };
 
     fn check(&self, catalogue: &Catalogue) -> Result<(), StoreRefused> {
-        check_call(catalogue, Mode::Read, self.program, self.argument)
+        check_one(catalogue, Mode::Read, self.program, self.argument)
     }
 
     fn at(&mut self, catalogue: &Catalogue, node: &mut NodeReplica) -> ReadAnswer {
@@ -140,6 +144,10 @@ impl Look for Reads<'_, '_> {
     ghost point = { λ point. point };
 
     ghost sees = { λ old new point. Replies old.questions.now new.replies.now };
+
+    ghost asks = { λ reads. None };
+
+    ghost replies = { λ point. 0 };
 
     ghost lent = { λ old new. new.replies.ghost_name ≡ old.replies.ghost_name };
 

@@ -1,6 +1,6 @@
 // Scans of a map: which are refused, and how one is made.
 
-ghost use Rattle.std.specs.Prelude.{◌≡◌, length};
+ghost use Rattle.std.specs.Prelude.{◌≡◌, length, None};
 ghost use Rattle.maps.specs.Maps.{shapes_of};
 ghost use Rattle.store_steps.specs.Getting.{IsVerdict};
 ghost use Rattle.store_steps.specs.Scanning.{GivesThere, IsPlaceIn, scan_fault_number, scan_refusal};
@@ -106,6 +106,10 @@ impl Look for Page<'_> {
     ghost point = { λ scan. scan.point };
 
     ghost sees = { λ old new scan. APage old.begin.map old.begin.from (length old.keys.now) (length old.values.now) new.keys.now new.values.now scan };
+
+    ghost asks = { λ look. None };
+
+    ghost replies = { λ told. 0 };
 
     ghost lent = { λ old new. (new.keys.ghost_name ≡ old.keys.ghost_name) × (new.values.ghost_name ≡ old.values.ghost_name) };
 

@@ -30,6 +30,10 @@ impl Look for Snapshot<'_> {
 
     ghost sees = { λ old new point. AState new.into.now };
 
+    ghost asks = { λ look. None };
+
+    ghost replies = { λ told. 0 };
+
     ghost lent = { λ old new. (new.into.ghost_name ≡ old.into.ghost_name) × (sizes_of new.into.now ≡ sizes_of old.into.now) };
 
     fn check(&self, _catalogue: &Catalogue) -> Result<(), Infallible> {

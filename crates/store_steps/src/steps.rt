@@ -1,10 +1,11 @@
 // What a session does on the shelf.
 
-ghost use Rattle.std.specs.Prelude.{◌≡◌, ◌↔◌, ◌⊎◌, ◌+◌, ◌-◌, ◌<◌, ◌≤◌, true, false, min, length, drop, None, IsTrue, IfSome, IfNone, IfOk, IfErr};
+ghost use Rattle.std.specs.Prelude.{◌≡◌, ◌↔◌, ◌⊎◌, ◌+◌, ◌-◌, ◌<◌, ◌≤◌, true, false, min, length, drop, Option, None, IsTrue, IfSome, IfNone, IfOk, IfErr};
 ghost use Rattle.loader.specs.CatalogueView.{sizes_for};
 ghost use Rattle.loader.specs.StoreState.{sizes_of};
 ghost use Rattle.oplog.specs.History.{AllFit};
 ghost use Rattle.oplog.specs.Limits.{IsWindow};
+ghost use Rattle.oplog.specs.Operations.{Operation};
 ghost use Rattle.oplog.specs.Logs.{left_of, records_from, room_in, tail_of};
 ghost use Rattle.oplog.specs.declared.configuration.TheConstants.{ENDLESS};
 ghost use Rattle.replica.specs.StoreMeaning.{AreUpdates};
@@ -13,7 +14,7 @@ ghost use Rattle.accounts.specs.Moves.{unplaced};
 ghost use Rattle.store_steps.specs.Knowing.{HasLog, HasReplica, IsOn, Knows, Learns};
 ghost use Rattle.store_steps.specs.Standing.{Stands, IsFree, HasOthers, HasRaised, HasAppended, HasReplayed};
 ghost use Rattle.store_steps.specs.Trying.{IsStill};
-ghost use Rattle.store_steps.specs.Ready.{HoldsReady, SessionFollows, SessionReaches};
+ghost use Rattle.store_steps.specs.Ready.{HoldsReady, MayBegin, SessionFollows};
 ghost use Rattle.ownlock.specs.Held.{held_place};
 ghost use Rattle.store_steps.specs.Rooms.{FreesRoom, IsBaseDue, IsHalfBefore, Owes, caught_up};
 ghost use Rattle.store_steps.specs.Due.{IsDue, SessionAppends, SessionMakesRoom, SessionReplays};
@@ -338,10 +339,19 @@ pub(crate) fn replay_and_raise(
     raise_to(shared.shelf, seat, replayed);
 }
 
+/// The read that a session asks, if it asks one.
+pub(crate) trait Asked {
+    ghost read: { Option Operation };
+}
+
+impl Asked for Brand {
+    ghost read = { None };
+}
+
 // Takes the log, brings the replica up to its end while it is held, puts it back, and raises the completed tail to the replica's.
-// Where another session holds the log it answers `None`, and nothing has changed.
+// Where another session holds the log it answers `None`, and nothing has changed. A read is asked where the log is put back.
 #[inline(never)]
-fn try_follow_log(
+fn try_follow_log<A: Asked>(
     shelf: &Shelf<Value>,
     seat: &mut Seat<Value>,
     node: &mut NodeReplica,
@@ -349,10 +359,10 @@ fn try_follow_log(
 ) -> Option<()>
     requires own { seat.old.shelf ≡ shelf.now.id }
     requires there { 0 < shelf.now.places }
-    requires holds { Knows seat.old (λ k. HasReplica k node.old catalogue.now) }
+    requires holds { Knows seat.old (λ k. HasReplica k node.old catalogue.now × MayBegin A.read k) }
     ensures same { seat.new.shelf ≡ seat.old.shelf }
     ensures stays { IfNone result ((seat.new ≡ seat.old) × (node.new ≡ node.old)) }
-    ensures reached { IfSome result (λ _. SessionFollows seat.old seat.new node.old node.new) }
+    ensures reached { IfSome result (λ _. SessionFollows A.read seat.old seat.new node.old node.new) }
 {
     let Some(held) = shelf.try_take(seat, LEADER) else {
         return None;
@@ -366,51 +376,39 @@ fn try_follow_log(
     Some(())
 }
 
-// Brings the replica up to that completed tail, where it has not reached it. Where another session holds the log, which that takes, it
-// answers `None`, and nothing has changed.
+// Takes the replica of the caller's node, and brings it up to the tail that is completed then. A read is asked where that tail is loaded, or, if the
+// replica lacks something, where the log is put back. Where another session holds the replica, or the log, which a replica that lacks something
+// takes, it answers that place: the session holds nothing then, and has asked nothing. (The look itself is of no use here: what a caller says that
+// is asked may depend on it.)
 #[inline(always)]
-fn try_follow_if_behind(
-    shared: Shared<'_>,
+pub(crate) fn try_hold_ready<A: Asked, L>(
+    here: Here<'_>,
     seat: &mut Seat<Value>,
-    node: &mut NodeReplica,
-    done: u64,
-) -> Option<()>
-    requires own { seat.old.shelf ≡ shared.shelf.now.id }
-    requires there { 0 < shared.shelf.now.places }
-    requires holds { Knows seat.old (λ k. HasReplica k node.old shared.catalogue.now × (done ≤ k.progress.completed)) }
-    ensures same { seat.new.shelf ≡ seat.old.shelf }
-    ensures stays { IfNone result ((seat.new ≡ seat.old) × (node.new ≡ node.old)) }
-    ensures reached { IfSome result (λ _. SessionReaches done seat.old seat.new node.old node.new) }
-{
-    if ready(&node.replica, done) {
-        return Some(());
-    }
-    let Some(()) = try_follow_log(shared.shelf, seat, node, shared.catalogue) else {
-        return None;
-    };
-    Some(())
-}
-
-// Takes the replica of the caller's node, and brings it up to the tail that is completed now. Where another session holds the replica, or
-// the log, which a replica that lacks something takes, it answers that place: the session holds nothing then.
-#[inline(always)]
-pub(crate) fn try_hold_ready(here: Here<'_>, seat: &mut Seat<Value>) -> Result<Held<Value>, usize>
+    _look: &L,
+) -> Result<Held<Value>, usize>
     requires own { seat.old.shelf ≡ here.shared.shelf.now.id }
-    requires idle { Knows seat.old (λ k. IsFree here.caller k × IsOn here.shared k) }
+    requires idle { Knows seat.old (λ k. IsFree here.caller k × IsOn here.shared k × MayBegin A.read k) }
     ensures same { seat.new.shelf ≡ seat.old.shelf }
     ensures held { IfErr result (λ place. place < here.entry.shared.shelf.now.places) }
     ensures stays { IfErr result (λ _. Learns seat.old seat.new IsStill) }
     ensures place { IfOk result (λ h. held_place h ≡ 1 + here.entry.caller.node) }
     ensures there { IfOk result (λ h. held_place h < here.entry.shared.shelf.now.places) }
-    ensures ready { IfOk result (λ h. Learns seat.old seat.new (λ k after. HoldsReady k after (1 + here.entry.caller.node) h.value)) }
+    ensures ready { IfOk result (λ h. Learns seat.old seat.new (λ k after. HoldsReady A.read k after (1 + here.entry.caller.node) h.value)) }
 {
-    let Shared { shelf, .. } = here.shared;
-    let done = shelf.done(seat);
+    let Shared {
+        shelf,
+        catalogue,
+        ..
+    } = here.shared;
     let Some(mut held) = shelf.try_take(seat, 1 + here.caller.node) else {
         return Err(1 + here.caller.node);
     };
     let node = held.value.replica_mut();
-    let Some(()) = try_follow_if_behind(here.shared, seat, node, done) else {
+    let done = shelf.done::<Brand>(seat);
+    if ready(&node.replica, done) {
+        return Ok(held);
+    }
+    let Some(()) = try_follow_log::<A>(shelf, seat, node, catalogue) else {
         shelf.put::<Brand>(seat, held);
         return Err(LEADER);
     };

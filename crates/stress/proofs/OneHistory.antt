@@ -198,14 +198,14 @@ module _ (old new : SessionView) (t : AnsweredCall) (op : Operation) (asks : Ask
     noted = (op, ap (λ (n : SessionNote). n.answered) h.1, h.0.1.1);
   }
 
-  pub seen : (a : ReadAnswer) → ReadTells store_meaning new.progress old.progress.completed op a.point a.reply → new.note ≡ old.note → IsAsked old new (record t { said = told.Seen a })
-  seen a h note = record {
+  pub seen : (a : ReadAnswer) → ReadTells store_meaning new.progress old.progress.completed op a.point a.reply → new.note.answered ≡ old.note.answered → IsAsked old new (record t { said = told.Seen a })
+  seen a h noted = record {
     session = same;
     grown = grown;
     so = (op, asks, ((let low = h.1 in let done = well.completed in omega (arith, low, done)), h.2));
     behind = h.0;
     before = (h.1, (let low = h.1 in let done = well.completed in omega (arith, low, done)));
-    noted = ap (λ (n : SessionNote). n.answered) note;
+    noted = noted;
   }
 
   pub ended : Tells store_meaning new.progress old.session (length old.note.answered) (request_of old.progress op) Ended × (new.note ≡ note_ended old.note op) → IsAsked old new (record t { said = told.Ended })

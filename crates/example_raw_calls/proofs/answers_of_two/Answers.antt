@@ -1,10 +1,10 @@
-use Rattle.std.proofs.Common.{refl, sym, ap, ◌∙◌, subst, ◌∷◌, ◌++◌, []}
+use Rattle.std.proofs.Common.{append-nil, refl, sym, ap, ◌∙◌, subst, ◌∷◌, ◌++◌, []}
 use Rattle.loader.specs.StoreState.{StoreState}
 use Rattle.store_steps.specs.Views.{op_of}
 use Rattle.store_steps.specs.declared.values.Setup.{Setup}
 use Rattle.store.specs.Sessions.{fresh_session}
 use Rattle.host_calls.specs.Views.{AttachedView}
-use Rattle.example_calls.specs.Heard.{AreExplained, HasUpdated, HasUpdatedTwice, call_and_back}
+use Rattle.example_calls.specs.Heard.{AreExplained, HasUpdated, HasUpdatedTwice, call_and_back, two_calls}
 use Rattle.example_calls.specs.declared.heard.Heard.{Heard}
 use Rattle.example_calls.proofs.Export.{are_explained, noted_by}
 use Rattle.example_raw_calls.proofs.Two.{attached_both, detached_first, detached_second, its_own, last_of, some_then}
@@ -80,13 +80,13 @@ returns g c =
     let first = noted_by x w.between op heard.first w.once in
     let second = noted_by w.between m.0.session op heard.second w.again in
     let waits = second ∙ (λ k. first k ++ call_and_back (w.once.session k) op heard.second) in
-    let explained = are_explained t.store op heard (n.0.session ∷ m.0.session ∷ []) last.0 last.1 m.0.session n.0.session
-    1 0 refl refl x w (w.again.session ∙ w.once.session) waits p.session (noted_by y n.0.session op heard.polled p) in
+    let explained = are_explained t.store op [] heard (n.0.session ∷ m.0.session ∷ []) last.0 last.1 m.0.session n.0.session
+    1 0 refl refl x m.0.session w (w.again.session ∙ w.once.session) (waits ∙ sym (append-nil (two_calls 0 op heard.first heard.second))) p.session (noted_by y n.0.session op heard.polled p) in
     record {
       explained = record {
         catalogue = t.is.catalogue;
         says = t.is.says;
-        explained = subst (λ (z : Setup × StoreState). AreExplained z.0 op heard z.1)
+        explained = subst (λ (z : Setup × StoreState). AreExplained z.0 op [] heard z.1)
             (λ i. (record { config = t.is.config i; catalogue = t.is.offers i }, sym last.2 i)) explained;
       };
     }

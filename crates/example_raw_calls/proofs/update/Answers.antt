@@ -1,7 +1,6 @@
 use Rattle.std.proofs.Common.{◌≡◌, ◌∙◌}
 use Rattle.store.specs.declared.answers.Answer.{Answer}
 use Rattle.store_steps.specs.Views.{op_of}
-use Rattle.host_calls.specs.Calls.{Goes}
 use Rattle.example_raw_calls.specs.Raw.{WasUpdated}
 use Rattle.example_raw_calls.proofs.Called.{at_rest, is_over, so_answered, was_updated, works_on}
 use Rattle.example_raw_calls.proofs.update.Goals as goal

@@ -1,7 +1,8 @@
-use Rattle.std.proofs.Common.{refl, subst, ◌∙◌}
+use Rattle.std.proofs.Common.{refl, subst, sym, ◌∙◌}
 use Rattle.ownlock.proofs.Export.{one_known}
 use Rattle.store_steps.specs.Seen.{holds}
-use Rattle.store_steps.specs.Sights.{SessionLooks}
+use Rattle.store_steps.specs.Sights.{SessionLooks, heard_by}
+use Rattle.accounts.specs.Moves.{IsAtRest}
 use Rattle.store_steps.specs.Standing.{IsFree}
 use Rattle.store_steps.proofs.Looked.{sight_since, sights_since}
 use Rattle.store_steps.proofs.Taken.{free_on, shelf_on}
@@ -23,18 +24,20 @@ pub try_look-requires-clause-idle : goal.try_look-requires-clause-idle
 try_look-requires-clause-idle g c =
     let i = c.requires.idle in
     let m = c.loop.invariant.1 i.0 i.1 in
-    (m.0, m.1, (free_on c.args.here.caller i.0 m.0 m.2.session m.2.held m.2.extends i.2.0, shelf_on _ _ _ i.0 m.0 m.2.extends i.2.1))
+    (m.0, m.1, (free_on c.args.here.caller i.0 m.0 m.2.session m.2.held m.2.extends i.2.0, shelf_on _ _ _ i.0 m.0 m.2.extends i.2.1, subst IsAtRest (sym m.2.note) i.2.2))
 
 pub returns-in-Ok-clause-told : goal.returns-in-Ok-clause-told
 returns-in-Ok-clause-told g c k is =
     let m = c.loop.invariant.1 k is in
     let told = c.in-Ok.told in
-    let t = (subst (λ z. SessionLooks c.loop.seat c.try_look.new.seat (holds (g.L.Look.sees z c.try_look.new.look told)) (g.L.Look.point told)) c.loop.invariant.2 c.in-Ok.ensures.told) m.0 m.1 in
+    let t = (subst (λ z. SessionLooks c.loop.seat c.try_look.new.seat (heard_by g.L.Look.asks z (g.L.Look.replies told)) (holds (g.L.Look.sees z c.try_look.new.look told)) (g.L.Look.point told))
+    c.loop.invariant.2 c.in-Ok.ensures.told) m.0 m.1 in
+    let heard = heard_by g.L.Look.asks c.args.look.now (g.L.Look.replies told) in
     let sees = holds (g.L.Look.sees c.args.look.now c.try_look.new.look told) in (
       t.0,
       t.1,
-      sight_since k m.0 t.0 m.2 sees (g.L.Look.point told) t.2,
-      sights_since k m.0 t.0 m.2 sees (g.L.Look.point told) t.2.1.0 t.3,
+      sight_since heard k m.0 t.0 m.2 sees (g.L.Look.point told) t.2,
+      sights_since heard k m.0 t.0 m.2 sees (g.L.Look.point told) t.2.1.0 t.3,
     )
 
 pub loop-preserved : goal.loop-preserved

@@ -24,7 +24,7 @@ put-requires-clause-may c =
     let t = c.in-Some.ensures.taken i.0 i.1 in
     let b = took_log i.0 t.0 c.args.node.now x i.0.progress.catalogue i.2 t.1 in
     let d = c.done-completed.ensures.read t.0 t.2 in
-    let m = having_read t.0 d.0 c.done-completed.result (run_of c.done-completed.new.seat.sessions) in
+    let m = having_read t.0 d.0 t.0.note c.done-completed.result (run_of c.done-completed.new.seat.sessions) in
     (m, d.3, may_put_same m c.in-Some.held.place x i.0.held (held_log i.0 t.0 c.args.node.now x b d.0 d.1.0 d.1.1 c.done-completed.result _ d.4 c.in-Some.held.place c.in-Some.ensures.place) c.done-completed.new.seat.sessions d.3)
 
 pub returns-clause-found : goal.returns-clause-found
@@ -39,7 +39,7 @@ returns-clause-found c k is =
     let d = c.done-completed.ensures.read t.0 t.2 in
     let done = c.done-completed.result in
     let on = d.4 in
-    let m = having_read t.0 d.0 done (run_of c.done-completed.new.seat.sessions) in
+    let m = having_read t.0 d.0 t.0.note done (run_of c.done-completed.new.seat.sessions) in
     let held = held_log k t.0 n x b d.0 d.1.0 d.1.1 done _ on q at in
     let p = c.put.ensures.put m d.3 in
     let on' = adds_on m _ _ _ _ p.3 in (

@@ -1,7 +1,8 @@
 use Rattle.ownlock.proofs.Export.{stepped_by}
-use Rattle.std.proofs.Common.{◌∙◌, ap, refl, subst}
+use Rattle.std.proofs.Common.{sym, refl, subst}
 use Rattle.replica.specs.StoreMeaning.{store_meaning}
 use Rattle.accounts.specs.Accounts.{IsAllowed}
+use Rattle.accounts.specs.Moves.{IsAtRest}
 use Rattle.store_steps.proofs.PutBack.{took_last}
 use Rattle.store_steps.proofs.Handing.{allowed, free_so, has_posted_so, may_put, next_as, on_so, posts_so, taken, took_as}
 use Rattle.store_steps.proofs.TakenDesk.{is_at, is_desk}
@@ -16,15 +17,15 @@ pub post-requires : goal.post-requires
 post-requires c =
     let i = c.requires.has in
     let b = taken c.args.seat.now c.args.here c.args.held i.0 i.1 i.2 c.requires.place in
-    let may = allowed c.args.seat.now c.args.here c.args.held i.0 i.1 i.2 c.requires.place c.args.op.now c.requires.update in
-    record { own = (i.1, is_at c.args.here.caller i.0 i.1 c.args.held.place c.args.held.value b c.desk_mut.result.now c.desk_mut.ensures.desk, ap (λ n. n.pending) b.note ∙ i.3.pending, subst (λ z. IsAllowed store_meaning z c.args.op.now) b.extends.catalogue may) }
+    let may = allowed c.args.seat.now c.args.here c.args.held i.0 i.1 i.2 c.requires.place c.args.op.now c.requires.update i.3.rests in
+    record { own = (i.1, is_at c.args.here.caller i.0 i.1 c.args.held.place c.args.held.value b c.desk_mut.result.now c.desk_mut.ensures.desk, (subst IsAtRest (sym b.note) i.3.rests, subst (λ z. IsAllowed store_meaning z c.args.op.now) b.extends.catalogue may)) }
 
 pub settle-requires-clause-may : goal.settle-requires-clause-may
 settle-requires-clause-may c =
     let i = c.requires.has in (
       i.1,
       i.2.is,
-      may_put c.args.seat.now c.args.here c.args.held i.0 i.1 i.2 c.requires.place c.args.op.now c.requires.update c.desk_mut.result.now c.post.new.desk c.desk_mut.ensures.desk c.post.ensures.posted c.args.seat.now.sessions i.2.is,
+      may_put c.args.seat.now c.args.here c.args.held i.0 i.1 i.2 c.requires.place c.args.op.now c.requires.update i.3.rests c.desk_mut.result.now c.post.new.desk c.desk_mut.ensures.desk c.post.ensures.posted c.args.seat.now.sessions i.2.is,
       took_last c.args.here.caller i.0 i.1 c.args.held.place c.args.held.value (taken c.args.seat.now c.args.here c.args.held i.0 i.1 i.2 c.requires.place),
     )
 
@@ -36,14 +37,14 @@ returns-clause-kept c k t h alone =
     let on = s.2.1 in
     record {
       asked = _;
-      posted = has_posted_so c.args.seat.now c.args.here c.args.held k t h c.requires.place c.args.op.now c.requires.update x y c.desk_mut.ensures.desk c.post.ensures.posted c.args.seat.now.sessions h.is s.0 s.1.0 s.1.1 s.2.0 on;
-      posts = posts_so c.args.seat.now c.args.here c.args.held k t h c.requires.place c.args.op.now c.requires.update x y c.desk_mut.ensures.desk c.post.ensures.posted c.args.seat.now.sessions h.is s.0 s.1.0 s.1.1 s.2.0 on;
+      posted = has_posted_so c.args.seat.now c.args.here c.args.held k t h c.requires.place c.args.op.now c.requires.update alone.rests x y c.desk_mut.ensures.desk c.post.ensures.posted c.args.seat.now.sessions h.is s.0 s.1.0 s.1.1 s.2.0 on;
+      posts = posts_so c.args.seat.now c.args.here c.args.held k t h c.requires.place c.args.op.now c.requires.update alone.rests x y c.desk_mut.ensures.desk c.post.ensures.posted c.args.seat.now.sessions h.is s.0 s.1.0 s.1.1 s.2.0 on;
       put = (_, _, stepped_by t _ _ refl refl on);
       now = s.2.2.0;
       has = record {
         is = s.2.2.2;
-        free = free_so c.args.seat.now c.args.here c.args.held k t h c.requires.place c.args.op.now c.requires.update x y c.desk_mut.ensures.desk c.post.ensures.posted c.args.seat.now.sessions h.is s.0 s.1.0 s.1.1 s.2.0 on;
-        on = on_so c.args.seat.now c.args.here c.args.held k t h c.requires.place c.args.op.now c.requires.update x y c.desk_mut.ensures.desk c.post.ensures.posted c.args.seat.now.sessions h.is s.0 s.1.0 s.1.1 s.2.0 on;
+        free = free_so c.args.seat.now c.args.here c.args.held k t h c.requires.place c.args.op.now c.requires.update alone.rests x y c.desk_mut.ensures.desk c.post.ensures.posted c.args.seat.now.sessions h.is s.0 s.1.0 s.1.1 s.2.0 on;
+        on = on_so c.args.seat.now c.args.here c.args.held k t h c.requires.place c.args.op.now c.requires.update alone.rests x y c.desk_mut.ensures.desk c.post.ensures.posted c.args.seat.now.sessions h.is s.0 s.1.0 s.1.1 s.2.0 on;
         took = took_as _ s.2.2.0 _ _ _ _ c.settle.ensures.same.1 c.settle.ensures.same.2 s.2.2.1;
       };
       next = next_as s.2.0 s.2.2.0 _ _ _ _ c.settle.ensures.same.1 c.settle.ensures.same.2 s.2.2.3;

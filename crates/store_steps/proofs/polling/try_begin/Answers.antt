@@ -12,7 +12,7 @@ pub try_post_and_turn-requires-clause-idle : goal.try_post_and_turn-requires-cla
 try_post_and_turn-requires-clause-idle c =
     let i = c.requires.idle in
     let few = known_as c.args.seat.now (λ (k : SessionKnown). suc (length k.note.answered) < 2 ^ 64) c.requires.few i.known i.is in
-    (i.known, i.is, i.free, record { pending = i.pending; alone = i.batch; few = few }, on_known c.args.here.shared c.args.seat.now i.known i.is c.requires.on)
+    (i.known, i.is, i.free, record { rests = (i.pending, i.unread); alone = i.batch; few = few }, on_known c.args.here.shared c.args.seat.now i.known i.is c.requires.on)
 
 pub unreachable-requires : goal.unreachable-requires
 unreachable-requires c = subst FoundNoAnswer c.in-Some-Collects.field-0-is c.in-Some-Collects.ensures.fresh

@@ -1,6 +1,6 @@
-use Rattle.accounts.specs.Picks.{put_progress, put_note}
-use Rattle.store_steps.specs.Shelving.{session_noting, view_of}
+use Rattle.store_steps.proofs.Finished.{asks_there}
 use Rattle.store_steps.proofs.steps.try_follow_log.Given as goal
 
+-- a read is asked where the log is put back
 abbrev pub ghosts-put : goal.ghosts-put
-ghosts-put a = record { progress = put_progress a.seat.now.sessions (view_of a.held.value); note = put_note session_noting a.seat.now.sessions (view_of a.held.value) }
+ghosts-put g a = record { progress = λ l. l; note = asks_there g.A.Asked.read a.seat.now.sessions }

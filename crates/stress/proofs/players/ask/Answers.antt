@@ -2,6 +2,9 @@ use Rattle.std.proofs.Common.{◌≡◌, ◌∙◌, None, Some, refl, ap, sym, s
 use Rattle.text.specs.Digits.{field_bytes}
 use Rattle.oplog.specs.Operations.{Operation}
 use Rattle.readpath.specs.declared.reading.ReadAnswer.{ReadAnswer}
+use Rattle.std.specs.Prelude.{IfOk}
+use Rattle.accounts.specs.declared.sessions.SessionNote.{SessionNote}
+use Rattle.store.specs.Linear.{NotesRead}
 use Rattle.store.specs.Looks.{TellsSight, HasReply}
 use Rattle.store.specs.Sessions.{TellsUpdate}
 use Rattle.verifier.specs.declared.refusal.Mode.{Mode}
@@ -42,7 +45,8 @@ returns-clause-told g c =
           let tells = h.told (subst (λ a. asked_refusal catalogue a bytes ≡ None) is none) in
           let mine = subst (λ a. TellsSight (HasReply (operation_on a bytes)) (λ (r : ReadAnswer). r.point) old w.read.new.self w.read.result) (sym is) tells in
           let answer = subst (λ r. TellsSight (HasReply op) (λ (a : ReadAnswer). a.point) old w.read.new.self r) w.in-Ok.is mine in
-          rw (w.session-is, w.said-is) (seen old w.read.new.self t op asked h.session.same.1 h.session.grown h.session.well_formed w.in-Ok.answer answer.1 h.note)
+          let noted = subst (λ r. IfOk r (λ a. NotesRead old w.read.new.self (operation_on (asks.Run Read w.in-Run.program) bytes) (Some a))) w.in-Ok.is h.note in
+          rw (w.session-is, w.said-is) (seen old w.read.new.self t op asked h.session.same.1 h.session.grown h.session.well_formed w.in-Ok.answer answer.1 (ap (λ (n : SessionNote). n.answered) noted))
       | in-Install w ↦
           let h = w.install.ensures in
           let is : call.asked ≡ asks.Install w.in-Install.mode w.in-Install.arg_len = w.in-Install.is in

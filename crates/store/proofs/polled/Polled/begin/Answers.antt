@@ -33,7 +33,7 @@ try_begin-requires-clause-few c =
     let i = idle_at s.seat s.caller s.batch s.replies s.stage c.self.invariant.0 (ap (λ (z : SessionView). z.note.pending) c.self.view_is ∙ c.requires.idle) in
     let own = subst (λ z. IsOf c.args.store.now z) (sym c.self.view_is) c.requires.own in
     let config = ap (λ (z : SessionView). z.progress.config) (sym (seen_as s.seat i.known i.is)) ∙ own.config in
-    let may = may_ask i.known c.args.store.now.config config c.shared-shared.ensures.config i.pending i.batch i.within i.well_formed in
+    let may = may_ask i.known c.args.store.now.config config c.shared-shared.ensures.config (i.pending, i.unread) i.batch i.within i.well_formed in
     (i.known, i.is, may.few)
 
 pub invariant_of-self : goal.invariant_of-self

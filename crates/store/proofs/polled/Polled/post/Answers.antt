@@ -6,7 +6,7 @@ use Rattle.store.specs.Polled.{HasPostedFor}
 use Rattle.store_steps.specs.Views.{SessionView, session_view}
 use Rattle.store.specs.Sessions.{HasRoom, IsOf}
 use Rattle.store_steps.proofs.Export.{goes_seen, on_known}
-use Rattle.store_laws.specs.CallsMade.{GoneOn}
+use Rattle.store_laws.specs.Gone.{GoneOn}
 use Rattle.store.proofs.Gone.{gone_did}
 use Rattle.store.proofs.Linear.{adds_post, adds_still}
 use Rattle.store.proofs.Between.{goes_on, goes_still, idle_at, on_at, post_grown, post_session, post_told, post_well, posted_at, room_on, well_at}
@@ -21,7 +21,7 @@ try_post-requires-clause-idle c =
     let own = subst (λ z. IsOf c.args.store.now z) (sym c.self.view_is) c.requires.own in
     let shared = c.shared-shared in
     let on = on_at s.seat s.caller s.batch s.replies shared.result c.args.store.now s.stage c.self.invariant.0 own shared.ensures.places shared.ensures.nodes shared.ensures.catalogue in
-    (i.known, i.is, i.free, i.pending, on_known shared.result s.seat i.known i.is on)
+    (i.known, i.is, i.free, (i.pending, i.unread), on_known shared.result s.seat i.known i.is on)
 
 pub invariant_of-self : goal.invariant_of-self
 invariant_of-self c =

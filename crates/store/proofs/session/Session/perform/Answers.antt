@@ -22,7 +22,7 @@ ask_at_once-given-requires-clause-idle g c =
       k,
       i.is,
       i.free,
-      may_ask k c.args.store.now.config config c.shared-shared.ensures.config i.pending i.batch i.within i.well_formed,
+      may_ask k c.args.store.now.config config c.shared-shared.ensures.config (i.pending, i.unread) i.batch i.within i.well_formed,
       record {
         places_are = c.shared-shared.ensures.places ∙ ap (λ n. 1 + n + n) (sym c.shared-shared.ensures.nodes.0);
         few = subst (λ n. n ≤ MAX_NODES) (sym c.shared-shared.ensures.nodes.0) c.shared-shared.ensures.nodes.1;

@@ -5,7 +5,7 @@ use Rattle.store.specs.Opening.{AreLeft, AreOf, IsClosed, IsLogFor, closed_view,
 use Rattle.store.specs.Sessions.{StoreView}
 use Rattle.store_steps.specs.Shelving.{sessions_of, store_opening}
 use Rattle.store.proofs.Closing.{all_notes, are_left, is_closed, left_of, log_for, some_sessions}
-use Rattle.store.proofs.Explained.{closes_explained}
+use Rattle.store.proofs.Linear.{closes_explained}
 use Rattle.store.proofs.Joined.{back_holds_none, back_long}
 use Rattle.store.proofs.store.Store.close.Goals as goal
 
