@@ -2,6 +2,7 @@
 
 use example_sums::{append, append_both, open_two};
 use ownlock::OpenError;
+use std::marker::Brand;
 use std::test::Fail;
 
 #[test]
@@ -27,10 +28,10 @@ fn the_sum_follows_both_sessions(rt: HostRuntime) {
 #[test]
 fn the_completed_tail_rises_alone(rt: HostRuntime) {
     let (shelf, mut seat, mut other) = open_two(rt.alloc()).expect(&rt, "memory");
-    let before = shelf.done(&mut other);
+    let before = shelf.done::<Brand>(&mut other);
     append(&rt, &shelf, &mut seat, 7).expect(&rt, "memory");
     shelf.raise(&mut seat, 0);
-    let after = shelf.done(&mut other);
+    let after = shelf.done::<Brand>(&mut other);
     assert_eq!(rt; [before, after], [0, 1]);
 }
 

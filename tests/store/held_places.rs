@@ -78,7 +78,7 @@ fn ready_read<R: Wait>(
     caller: Caller,
 ) -> (u64, ReadAnswer) {
     shared.shelf.raise(&mut seat, 0);
-    let done = shared.shelf.done(&mut seat);
+    let done = shared.shelf.done::<Brand>(&mut seat);
     let mut question = Question {
         program: 1,
         argument: &ZERO,
