@@ -22,7 +22,7 @@ use Rattle.host_calls.specs.declared.handles.SessionHandle.{SessionHandle}
 use Rattle.host_calls.specs.Views.{AttachedView, IsSame}
 use Rattle.host_calls.specs.declared.handles.Answered.{Answered as AnsweredWords}
 use Rattle.host_calls.specs.declared.handles.Asked.{Asked}
-use Rattle.host_calls.specs.Calls.{Goes, TellsAttached, TellsCall, asks, status_of, written}
+use Rattle.host_calls.specs.Calls.{Asks, Goes, TellsAttached, TellsCall, asks, status_of, written}
 use Rattle.host_calls.specs.CallResults.{TellsNew, TellsOut, TellsPosting, TellsRefused, TellsUpdate, posted_as}
 use Rattle.example_calls.specs.Heard.{HasUpdated}
 use Rattle.example_calls.proofs.Export.{answered_as}
@@ -45,7 +45,7 @@ out_as : (s new : SessionView) (told : CallResult) (P : Type 0) (o : Pending) �
     → MatchOption s.note.pending P (λ z. TellsOut s new z told) → TellsOut s new o told
 out_as s new told P o is t = subst (λ z. MatchOption z P (λ o'. TellsOut s new o' told)) is t
 
-free_as : {A : Type 0} (x : Option A) (P : Type 0) (Q : A → Type 0) → x ≡ None → MatchOption x P Q → P
+pub free_as : {A : Type 0} (x : Option A) (P : Type 0) (Q : A → Type 0) → x ≡ None → MatchOption x P Q → P
 free_as x P Q is t = subst (λ z. MatchOption z P Q) is t
 
 module _ (op : Operation) (refused : Option StoreRefused) (old : SessionView) (free : old.note.pending ≡ None) where
@@ -161,24 +161,27 @@ module _ (op : Operation) (refused : Option StoreRefused) (old : SessionView) (f
 
 -- ---- by the words of the handle
 
-some_of : {A : Type 0} (x : Option A) (P : A → Type 0) → MatchOption x ⊥ P → (y : A) × (x ≡ Some y) × P y
+pub some_of : {A : Type 0} (x : Option A) (P : A → Type 0) → MatchOption x ⊥ P → (y : A) × (x ≡ Some y) × P y
 some_of None P t = absurd t
 some_of (Some y) P t = (y, refl, t)
 
 -- what a call tells of the session that stands there
-pub record Tells (bytes : List ℕ) (op : Operation) (refused : Option StoreRefused) (b : AttachedView) (before after : SessionHandle) : Type 0 where
+pub record Tells (asked : Asks) (b : AttachedView) (before after : SessionHandle) : Type 0 where
   pub told : CallResult
   pub answered : after.answered ≡ written before.answered told
   pub at : AttachedView
   pub has : after.own ≡ Some at
   pub same : IsSame b at
-  pub tells : TellsUpdate op refused b.session at.session told
+  pub tells : TellsCall asked b.session at.session told
 
-pub calls : (program : ℕ) (bytes : List ℕ) (b : AttachedView) (before after : SessionHandle)
-    → before.asked ≡ record { call = 0; program = program; mode = 0; argument = 0 } → before.own ≡ Some b
-    → Goes bytes before after
-    → Tells bytes (op_of program bytes) (early_refusal b.store.catalogue Update program bytes) b before after
-calls program bytes b before after asked has g =
+-- the words of a call of a program
+abbrev pub words : (call program : ℕ) → Asked
+words call program = record { call = call; program = program; mode = 0; argument = 0 }
+
+abbrev pub calls : (call program : ℕ) (bytes : List ℕ) (b : AttachedView) (before after : SessionHandle)
+    → before.asked ≡ words call program → before.own ≡ Some b → Goes bytes before after
+    → Tells (asks b.store (words call program) bytes) b before after
+calls call program bytes b before after asked has g =
     let t = subst (λ z. MatchOption z ((g.told ≡ NotOpen) × (after.own ≡ None)) (λ x. MatchOption after.own ⊥ (λ y. TellsAttached before.asked bytes x y g.told))) has g.tells in
     let s = some_of after.own (λ y. TellsAttached before.asked bytes b y g.told) t in
     record {
@@ -190,10 +193,10 @@ calls program bytes b before after asked has g =
       tells = subst (λ (z : Asked). TellsCall (asks b.store z bytes) b.session s.0.session g.told) asked s.2.tells;
     }
 
-same_then : (a b c : AttachedView) → IsSame a b → IsSame b c → IsSame a c
+pub same_then : (a b c : AttachedView) → IsSame a b → IsSame b c → IsSame a c
 same_then a b c f g = record { store = g.store ∙ f.store; place = g.place ∙ f.place; shelf = g.shelf ∙ f.shelf; session = g.session ∙ f.session }
 
-is_again : (told : CallResult) → (status_of told ≡ 1) ⊎ (status_of told ≡ 2) → (told ≡ Busy) ⊎ (told ≡ Again)
+pub is_again : (told : CallResult) → (status_of told ≡ 1) ⊎ (status_of told ≡ 2) → (told ≡ Busy) ⊎ (told ≡ Again)
 is_again Busy e = inl refl
 is_again Again e = inr refl
 is_again (Answered point reply) (inl e) = absurd (omega (arith, e))
@@ -211,11 +214,11 @@ is_again Allowed (inr e) = absurd (omega (arith, e))
 
 -- it goes on
 pub works_on : (a : AttachedView) (program : ℕ) (bytes : List ℕ) (before after : SessionHandle)
-    → a.session.note.pending ≡ None → before.asked ≡ record { call = 0; program = program; mode = 0; argument = 0 }
+    → a.session.note.pending ≡ None → before.asked ≡ words 0 program
     → IsWorking a (op_of program bytes) before → Goes bytes before after
     → (after.answered.status ≡ 1) ⊎ (after.answered.status ≡ 2) → IsWorking a (op_of program bytes) after
 works_on a program bytes before after free asked w g status =
-    let t = calls program bytes w.at before after asked w.has g in
+    let t = calls 0 program bytes w.at before after asked w.has g in
     let told : (status_of t.told ≡ 1) ⊎ (status_of t.told ≡ 2) = subst (λ (z : AnsweredWords). (z.status ≡ 1) ⊎ (z.status ≡ 2)) t.answered status in
     record {
       at = t.at;
@@ -226,18 +229,22 @@ works_on a program bytes before after free asked w g status =
 
 -- or is over
 pub is_over : (a : AttachedView) (program : ℕ) (bytes : List ℕ) (before after : SessionHandle)
-    → a.session.note.pending ≡ None → before.asked ≡ record { call = 0; program = program; mode = 0; argument = 0 }
+    → a.session.note.pending ≡ None → before.asked ≡ words 0 program
     → IsWorking a (op_of program bytes) before → Goes bytes before after
     → (after.answered.status ≢ 1) × (after.answered.status ≢ 2)
     → (b : AttachedView) × (after.own ≡ Some b) × IsSame a b × (b.session.note.pending ≡ None)
 is_over a program bytes before after free asked w g status =
-    let t = calls program bytes w.at before after asked w.has g in
+    let t = calls 0 program bytes w.at before after asked w.has g in
     let is : (told : CallResult) → t.told ≡ told → after.answered.status ≡ status_of told = λ told e. ap (λ (z : AnsweredWords). z.status) t.answered ∙ ap status_of e in (
       t.at,
       t.has,
       same_then a w.at t.at w.same t.same,
       rests_then (op_of program bytes) (early_refusal w.at.store.catalogue Update program bytes) a.session free w.at.session t.at.session t.told (λ e. status.0 (is Busy e)) (λ e. status.1 (is Again e)) w.under t.tells,
     )
+
+pub no_status : (now before : AnsweredWords) (told : CallResult) → now ≡ written before told → now.status ≡ 0
+    → 0 ≡ (written before told).status
+no_status now before told is zero = sym zero ∙ ap (λ (z : AnsweredWords). z.status) is
 
 module _ (a : AttachedView) (op : Operation) (refused : Option StoreRefused) (s new : SessionView) (free : a.session.note.pending ≡ None) (under : IsUnder a.session op s) (was : s.session ≡ a.session.session) (same : new.session ≡ a.session.session) where
   posts_allowed : (r : Option StoreRefused)
@@ -252,28 +259,28 @@ module _ (a : AttachedView) (op : Operation) (refused : Option StoreRefused) (s 
   not_allowed (Not is) t = posts_allowed refused (first op refused a.session free s new Allowed is t)
   not_allowed (Out o op_is seen way) t = out_as s new Allowed _ o (ap (λ (n : SessionNote). n.pending) way) t.1
 
-  by_told : (told : CallResult) (words : AnsweredWords) (before : AnsweredWords) → words ≡ written before told
-      → words.status ≡ 0 → TellsUpdate op refused s new told
-      → HasUpdated a.session new op (record { index = words.point; reply = words.reply })
-  by_told (Answered point reply) words before is zero t =
+  by_told : (told : CallResult) (now : AnsweredWords) (before : AnsweredWords) → now ≡ written before told
+      → now.status ≡ 0 → TellsUpdate op refused s new told
+      → HasUpdated a.session new op (record { index = now.point; reply = now.reply })
+  by_told (Answered point reply) now before is zero t =
       subst (λ (z : AnsweredWords). HasUpdated a.session new op (record { index = z.point; reply = z.reply })) (sym is)
       (has_updated op refused a.session free s new (Answered point reply) point reply under was same t refl)
-  by_told Allowed words before is zero t = absurd (not_allowed under t)
-  by_told Busy words before is zero t = absurd (let e = sym zero ∙ ap (λ (z : AnsweredWords). z.status) is in omega (arith, e))
-  by_told Again words before is zero t = absurd (let e = sym zero ∙ ap (λ (z : AnsweredWords). z.status) is in omega (arith, e))
-  by_told (Refused why) words before is zero t = absurd (let e = sym zero ∙ ap (λ (z : AnsweredWords). z.status) is in omega (arith, e))
-  by_told NotOpen words before is zero t = absurd (let e = sym zero ∙ ap (λ (z : AnsweredWords). z.status) is in omega (arith, e))
-  by_told IsOut words before is zero t = absurd (let e = sym zero ∙ ap (λ (z : AnsweredWords). z.status) is in omega (arith, e))
-  by_told NoWord words before is zero t = absurd (let e = sym zero ∙ ap (λ (z : AnsweredWords). z.status) is in omega (arith, e))
+  by_told Allowed now before is zero t = absurd (not_allowed under t)
+  by_told Busy now before is zero t = absurd (let e = no_status now before Busy is zero in omega (arith, e))
+  by_told Again now before is zero t = absurd (let e = no_status now before Again is zero in omega (arith, e))
+  by_told (Refused why) now before is zero t = absurd (let e = no_status now before (Refused why) is zero in omega (arith, e))
+  by_told NotOpen now before is zero t = absurd (let e = no_status now before NotOpen is zero in omega (arith, e))
+  by_told IsOut now before is zero t = absurd (let e = no_status now before IsOut is zero in omega (arith, e))
+  by_told NoWord now before is zero t = absurd (let e = no_status now before NoWord is zero in omega (arith, e))
 
 -- and has its answer
 pub was_updated : (a : AttachedView) (program : ℕ) (bytes : List ℕ) (before after : SessionHandle)
-    → a.session.note.pending ≡ None → before.asked ≡ record { call = 0; program = program; mode = 0; argument = 0 }
+    → a.session.note.pending ≡ None → before.asked ≡ words 0 program
     → IsWorking a (op_of program bytes) before → Goes bytes before after → after.answered.status ≡ 0
     → (b : AttachedView) → after.own ≡ Some b
     → HasUpdated a.session b.session (op_of program bytes) (record { index = after.answered.point; reply = after.answered.reply })
 was_updated a program bytes before after free asked w g zero b has =
-    let t = calls program bytes w.at before after asked w.has g in
+    let t = calls 0 program bytes w.at before after asked w.has g in
     let one : t.at ≡ b = same_Some t.at b (sym t.has ∙ has) in
     subst (λ (z : AttachedView). HasUpdated a.session z.session (op_of program bytes) (record { index = after.answered.point; reply = after.answered.reply })) one
     (by_told a (op_of program bytes) (early_refusal w.at.store.catalogue Update program bytes) w.at.session t.at.session free w.under w.same.session (t.same.session ∙ w.same.session) t.told after.answered before.answered t.answered zero t.tells)
