@@ -21,9 +21,8 @@ def reader():
     return module
 
 
-def is_left_out(function, source):
-    head = source.data[function.file][function.first : function.start]
-    return function.has_body and not function.in_trait and not function.in_cycle and not re.search(rb"\bconst\b", head)
+def is_const(function, source):
+    return re.search(rb"\bconst\b", source.data[function.file][function.first : function.start])
 
 
 def path_of(function, source):
@@ -45,15 +44,32 @@ def put_hole(folder, crate, path):
         it.write(f"pub {path[-1]}_spec : {{M : Type 1}} → statement M\n{path[-1]}_spec = ?\n")
 
 
-def leave_out(folder, crate, kept):
-    """Leaves the bodies of all functions of this copy out but those whose names end in one of these."""
+def spoil(folder, path, function):
+    """Has an answer in the proof of a function that is refused whatever the body is: so a check offers no answers for its goals.
+
+    It still tries all goals. To offer answers it would prepare the proof once more, which takes up to a quarter of a check.
+    """
+    proofs = f"{folder}/proofs/{'/'.join(path)}"
+    # (the proof of a function that calls itself is in another folder)
+    if os.path.isdir(proofs) or function.name not in function.body:
+        os.makedirs(proofs, exist_ok=True)
+    if os.path.isdir(proofs) and not os.path.exists(f"{proofs}/Proof.antt"):
+        with open(f"{proofs}/Answers.antt", "a", encoding="utf-8") as it:
+            it.write("\nno_offers : NoOffers\nno_offers = no_offers\n")
+
+
+def leave_out(folder, crate, kept, spoils):
+    """Leaves the bodies of all functions of this copy out but those whose names end in one of these; spoils the proofs of these, if that is asked for."""
     source = reader().Source(folder)
     source.read("src/lib.rt" if os.path.isfile(f"{folder}/src/lib.rt") else "src/main.rt")
     spans = {}
-    for function in (it for it in source.functions if is_left_out(it, source)):
+    for function in (it for it in source.functions if it.has_body and not it.in_trait and not it.in_cycle):
         path = path_of(function, source)
         name = "::".join([crate, *path])
-        if not any(name == it or name.endswith(f"::{it}") for it in kept):
+        if any(name == it or name.endswith(f"::{it}") for it in kept):
+            if spoils:
+                spoil(folder, path, function)
+        elif not is_const(function, source):
             put_hole(folder, crate, path)
             spans.setdefault(function.file, []).append((function.opens, function.end))
     for file, places in spans.items():
