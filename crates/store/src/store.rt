@@ -287,7 +287,7 @@ impl Store {
     }
 
     /// Ends the store, and gives its log, its catalogue and each node's replica, once all its sessions are back. One history explains all calls and
-    /// answers of its sessions (`explained`). Of their updates `linear` says it in few definitions.
+    /// answers of its sessions (`explained`). `linear` says it of updates and reads in fewer terms.
     ///
     /// # Errors
     ///
