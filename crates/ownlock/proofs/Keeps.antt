@@ -1,19 +1,19 @@
 -- Each step of a shelf keeps its rule.
-use Rattle.std.proofs.Common.{◌≡◌, ◌≢◌, ℕ, zero, suc, ◌+◌, ◌<◌, ◌≤◌, List, [], ◌∷◌, length, get_or, get_or-set_other, set, sym, refl, ap, ◌∙◌, subst, ⊎_elim, arith, Option, Some}
+use Rattle.std.proofs.Common.{◌≡◌, ◌≢◌, ℕ, zero, suc, ◌+◌, ◌<◌, ◌≤◌, List, [], ◌∷◌, length, get_or, get_or-set_other, set, sym, refl, ap, ◌∙◌, subst, ⊎_elim, arith, IfSome, Option, Some, None}
 use mathlib.Core.Logic.{dite}
 use mathlib.Core.Option as kernel
 use mathlib.Core.Option.{some-injective, some-ne-none}
 use native.Mathlib.Decide.{ℕ_discrete}
 use lib.ListN.{get_elem?}
 use lib.Seq.{set-get_or}
-use Rattle.atomic_table.specs.Table.{State, Me, keeps, stepped}
+use Rattle.atomic_table.specs.Table.{State, Me, Allows, keeps, step, stepped}
 use Rattle.atomic_table.proofs.Lists.{at_set, set_here, set_else, set_again}
 use Rattle.ownlock.specs.declared.known.Known.{Known}
 use Rattle.ownlock.specs.Rules.{Rules, Laws, leader}
 use Rattle.ownlock.specs.Words.{word_of, slot_of}
 use Rattle.ownlock.specs.Runs.{Runs}
 use Rattle.ownlock.specs.Seats.{At, Opened, Run, Continues, own_steps}
-use Rattle.ownlock.specs.Invariant.{SessionInvariant, HeldBySome, KnownBySome, LockInvariant, StepsAs}
+use Rattle.ownlock.specs.Invariant.{SessionInvariant, HeldBySome, KnownBySome, LockInvariant, StandsThere, StepsAs, stood}
 use Rattle.ownlock.proofs.Spread.{one_slot}
 use Rattle.ownlock.proofs.Run.{continues_on}
 use Rattle.ownlock.proofs.Fronts.{at_below}
@@ -31,7 +31,8 @@ pub one_place : (p q : ℕ) → word_of p ≡ word_of q → p ≡ q
 one_place p q e = omega (arith, e)
 
 -- a seat is one session at most
-pub one_session : {P N V : Type 0} (m : Me (Option V) (List (Known P N V))) (k k2 : Known P N V) → StepsAs m k → StepsAs m k2 → k ≡ k2
+pub one_session : {P N V : Type 0} (m : Me (Option V) (List (Known P N V))) (k k2 : Known P N V) → StepsAs m k
+    → StepsAs m k2 → k ≡ k2
 one_session {P} {N} {V} m k k2 e f = ap (λ (z : Me (Option V) (List (Known P N V))). get_or z.0 0 k) (sym e ∙ f)
 
 -- the table of a shelf, and one of its seats, as plain data
@@ -68,10 +69,13 @@ module _ {P N V : Type 0} (R : Rules P N V) (laws : Laws R) (opened : Opened P N
     pub tail_here : get_or words (word_of opened.places) 0 ≡ R.completed progress
     pub words_long : length words ≡ length s.words
     pub holder_else : (q : ℕ) → q ≢ p → holder q ≡ r.holder q
-    pub not_theirs : (j i : ℕ) (v : List K) (m : K) (a : ℕ) (u : ℕ × V) → j ≢ id → At j v s.views → At i m v → At a u m.held → u.0 ≢ p
+    pub not_theirs : (j i : ℕ) (v : List K) (m : K) (a : ℕ) (u : ℕ × V) → j ≢ id → At j v s.views → At i m v
+        → At a u m.held → u.0 ≢ p
     pub mine : SessionInvariant R progress notes run homes holder k'
-    pub free_here : p < opened.places → get_or words (word_of p) 0 ≡ 0 → (x : V) × At (slot_of p) (kernel.some (Some x)) homes × R.AgreesWith p progress notes x
-    pub busy_here : p < opened.places → get_or words (word_of p) 0 ≢ 0 → (a : ℕ) × (u : ℕ × V) × At a u k'.held × (u.0 ≡ p)
+    pub free_here : p < opened.places → get_or words (word_of p) 0 ≡ 0
+        → (x : V) × At (slot_of p) (kernel.some (Some x)) homes × R.AgreesWith p progress notes x
+    pub busy_here : p < opened.places → get_or words (word_of p) 0 ≢ 0
+        → (a : ℕ) × (u : ℕ × V) × At a u k'.held × (u.0 ≡ p)
     pub held_else : (a : ℕ) (u : ℕ × V) → At a u k.held → u.0 ≢ p → (b : ℕ) × At b u k'.held
 
   module _ (s : LockState P N V) (r : LockInvariant R opened s) (id p : ℕ) (k k' : K) (progress : P) (notes : List N) (words : List ℕ) (homes : SlotHomes V) (holder : ℕ → ℕ) (run : Run P N V) (g : Goes s r id p k k' progress notes words homes holder run) where
@@ -84,7 +88,8 @@ module _ {P N V : Type 0} (R : Rules P N V) (laws : Laws R) (opened : Opened P N
     owned : r.owner k.session ≡ id
     owned = (r.each id 0 (k ∷ []) k g.here refl).1
 
-    theirs : (j i : ℕ) (v : List K) (m : K) → j ≢ id → At j v s.views → At i m v → SessionInvariant R progress notes run homes holder m
+    theirs : (j i : ℕ) (v : List K) (m : K) → j ≢ id → At j v s.views → At i m v
+        → SessionInvariant R progress notes run homes holder m
     theirs j i v m other at_j at_i =
         let known = r.each j i v m at_j at_i in
         let fit = known.0 in
@@ -104,7 +109,8 @@ module _ {P N V : Type 0} (R : Rules P N V) (laws : Laws R) (opened : Opened P N
           ends = fit.ends;
         }
 
-    each_after : (j i : ℕ) (v : List K) (m : K) → At j v after → At i m v → SessionInvariant R progress notes run homes holder m × (r.owner m.session ≡ j)
+    each_after : (j i : ℕ) (v : List K) (m : K) → At j v after → At i m v
+        → SessionInvariant R progress notes run homes holder m × (r.owner m.session ≡ j)
     each_after j i v m at_j at_i = ⊎_elim
         (λ (t : (j ≡ id) × ((k' ∷ []) ≡ v)).
         let only = at_only k' m i (subst (λ (z : List K). At i m z) (sym t.1) at_i) in
@@ -112,7 +118,8 @@ module _ {P N V : Type 0} (R : Rules P N V) (laws : Laws R) (opened : Opened P N
         (λ (t : (j ≢ id) × At j v s.views). (theirs j i v m t.0 t.1 at_i, (r.each j i v m t.1 at_i).1))
         (at_set s.views id j (k' ∷ []) v at_j)
 
-    distinct_after : (j a b : ℕ) (v : List K) (x y : K) → At j v after → At a x v → At b y v → x.session ≡ y.session → a ≡ b
+    distinct_after : (j a b : ℕ) (v : List K) (x y : K) → At j v after → At a x v → At b y v → x.session ≡ y.session
+        → a ≡ b
     distinct_after j a b v x y at_j at_a at_b e = ⊎_elim
         (λ (t : (j ≡ id) × ((k' ∷ []) ≡ v)).
         let one = at_only k' x a (subst (λ (z : List K). At a x z) (sym t.1) at_a) in
@@ -121,7 +128,8 @@ module _ {P N V : Type 0} (R : Rules P N V) (laws : Laws R) (opened : Opened P N
         (λ (t : (j ≢ id) × At j v s.views). r.distinct j a b v x y t.1 at_a at_b e)
         (at_set s.views id j (k' ∷ []) v at_j)
 
-    free_after : (q : ℕ) → q < opened.places → get_or words (word_of q) 0 ≡ 0 → (x : V) × At (slot_of q) (kernel.some (Some x)) homes × R.AgreesWith q progress notes x
+    free_after : (q : ℕ) → q < opened.places → get_or words (word_of q) 0 ≡ 0
+        → (x : V) × At (slot_of q) (kernel.some (Some x)) homes × R.AgreesWith q progress notes x
     free_after q below is = dite (ℕ_discrete q p)
         (λ e. subst (λ z. (x : V) × At (slot_of z) (kernel.some (Some x)) homes × R.AgreesWith z progress notes x) (sym e) (g.free_here (subst (λ z. z < opened.places) e below) (subst (λ z. get_or words (word_of z) 0 ≡ 0) e is)))
         (λ ne. let was = r.free q below (sym (g.words_else q ne) ∙ is) in (was.0, g.homes_else (slot_of q) (λ e. ne (one_slot q p e)) ∙ was.1, g.others q was.0 ne was.2))
@@ -172,36 +180,54 @@ module _ {P N V : Type 0} (R : Rules P N V) (laws : Laws R) (opened : Opened P N
     }
 
   -- the seat that is the session k
-  pub mine_of : (s : LockState P N V) (r : LockInvariant R opened s) (id : ℕ) (k : K) → At id (k ∷ []) s.views → SessionInvariant R r.progress r.notes r.run s.homes r.holder k
+  pub mine_of : (s : LockState P N V) (r : LockInvariant R opened s) (id : ℕ) (k : K) → At id (k ∷ []) s.views
+      → SessionInvariant R r.progress r.notes r.run s.homes r.holder k
   mine_of s r id k at = (r.each id 0 (k ∷ []) k at refl).0
 
   -- no other session holds what is held by the session k
-  pub not_of_others : (s : LockState P N V) (r : LockInvariant R opened s) (id p : ℕ) (k : K) → At id (k ∷ []) s.views → r.holder p ≡ k.session
-      → (j i : ℕ) (v : List K) (m : K) (a : ℕ) (u : ℕ × V) → j ≢ id → At j v s.views → At i m v → At a u m.held → u.0 ≢ p
+  pub not_of_others : (s : LockState P N V) (r : LockInvariant R opened s) (id p : ℕ) (k : K) → At id (k ∷ []) s.views
+      → r.holder p ≡ k.session
+      → (j i : ℕ) (v : List K) (m : K) (a : ℕ) (u : ℕ × V) → j ≢ id → At j v s.views → At i m v → At a u m.held
+      → u.0 ≢ p
   not_of_others s r id p k at holds j i v m a u other at_j at_i at_a e =
       let known = r.each j i v m at_j at_i in
       let same : m.session ≡ k.session = sym (known.0.out a u at_a).0 ∙ (ap r.holder e ∙ holds) in
       other (sym known.1 ∙ (ap r.owner same ∙ (r.each id 0 (k ∷ []) k at refl).1))
 
   -- the word of a place, or that of the completed tail, is there
-  pub word_there : (s : LockState P N V) (r : LockInvariant R opened s) (p : ℕ) → p ≤ opened.places → word_of p < length s.words
+  pub word_there : (s : LockState P N V) (r : LockInvariant R opened s) (p : ℕ) → p ≤ opened.places
+      → word_of p < length s.words
   word_there s r p below = let long = r.wide in omega (arith, long, below)
 
   -- the words of two places are two
-  pub word_else : (words : List ℕ) (p q n : ℕ) → q ≢ p → get_or (set words (word_of p) n) (word_of q) 0 ≡ get_or words (word_of q) 0
+  pub word_else : (words : List ℕ) (p q n : ℕ) → q ≢ p
+      → get_or (set words (word_of p) n) (word_of q) 0 ≡ get_or words (word_of q) 0
   word_else words p q n ne = get_or-set_other words (word_of p) (word_of q) n 0 (λ e. ne (omega (arith, e)))
 
   -- a step at a place leaves the word of the completed tail as it is
-  pub tail_else : (s : LockState P N V) (r : LockInvariant R opened s) (p n : ℕ) → p < opened.places → get_or (set s.words (word_of p) n) (word_of opened.places) 0 ≡ R.completed r.progress
+  pub tail_else : (s : LockState P N V) (r : LockInvariant R opened s) (p n : ℕ) → p < opened.places
+      → get_or (set s.words (word_of p) n) (word_of opened.places) 0 ≡ R.completed r.progress
   tail_else s r p n below = word_else s.words p opened.places n (λ e. omega (arith, e, below)) ∙ r.tail
 
   -- a place whose slot the table has is one of those that the shelf was opened with, and its slot is there
-  pub place_there : (s : LockState P N V) (r : LockInvariant R opened s) (slots p : ℕ) → length s.homes ≡ slots → slot_of p < slots → p < opened.places
+  pub place_there : (s : LockState P N V) (r : LockInvariant R opened s) (slots p : ℕ) → length s.homes ≡ slots
+      → slot_of p < slots → p < opened.places
   place_there s r slots p long below = let placed = r.placed in omega (arith, long, below, placed)
 
-  pub slot_there : (s : LockState P N V) (r : LockInvariant R opened s) (p : ℕ) → p < opened.places → slot_of p < length s.homes
+  pub slot_there : (s : LockState P N V) (r : LockInvariant R opened s) (p : ℕ) → p < opened.places
+      → slot_of p < length s.homes
   slot_there s r p below = let placed = r.placed in omega (arith, below, placed)
 
   -- a step that changes nothing
-  pub unmoved : (s : LockState P N V) (r : LockInvariant R opened s) (id w : ℕ) (k : K) (c : List (ℕ × Option V)) → At id (k ∷ []) s.views → LockInvariant R opened (stepped s w (get_or s.words w 0) id c (k ∷ []) keeps)
-  unmoved s r id w k c at = subst (λ (z : List ℕ × List (List K)). LockInvariant R opened record { words = z.0; homes = s.homes; views = z.1 }) (λ i. (sym (set-get_or s.words w 0) i, sym (set_again s.views id (k ∷ []) at) i)) r
+  pub unmoved : (s : LockState P N V) (r : LockInvariant R opened s) (id w : ℕ) (v : List K) (c : List (ℕ × Option V))
+      → At id v s.views → LockInvariant R opened (stepped s w (get_or s.words w 0) id c v keeps)
+  unmoved s r id w v c at = subst (λ (z : List ℕ × List (List K)). LockInvariant R opened record { words = z.0; homes = s.homes; views = z.1 }) (λ i. (sym (set-get_or s.words w 0) i, sym (set_again s.views id v at) i)) r
+
+  -- a look at any word tells in which state the seat stands
+  pub stands_there : (may : Option (Opened P N)) → IfSome may (λ o. o ≡ opened) → (slots id w : ℕ) (m : LockSeat P N V)
+      → Allows (LockInvariant R opened) slots id m w (λ n. n) (stood R may (step slots w 0 0 kernel.none) m)
+  stands_there may is slots id w m s r long at _ = (m.0, keeps, tt, unmoved s r id w m.0 m.1 at, (refl, told may is))
+    where
+      told : (o : Option (Opened P N)) → IfSome o (λ o. o ≡ opened) → IfSome o (λ o. StandsThere R o m.0)
+      told None is = tt
+      told (Some o) is = subst (λ z. StandsThere R z m.0) (sym is) (s, r, (id, at))

@@ -125,7 +125,7 @@ module _ {P N V : Type 0} (R : Rules P N V) (laws : Laws R) (opened : Opened P N
               (λ _. (after, t.0, (r.progress, refl, (mine_of R laws opened s r id k at).possible.0, (r.notes, after_take s r id p k at inside may t.0 t.1 t.2), (r.run, ((mine_of R laws opened s r id k at).goes_on, (mine_of R laws opened s r id k at).own), refl)), refl)),
             ),
       ))
-      (λ miss. (k ∷ [], keeps, tt, unmoved R laws opened s r id (word_of p) k (map emptied k.held) at, λ k2 p2 sits same. ((λ _. refl), (λ hit. absurd (miss hit)))))
+      (λ miss. (k ∷ [], keeps, tt, unmoved R laws opened s r id (word_of p) (k ∷ []) (map emptied k.held) at, λ k2 p2 sits same. ((λ _. refl), (λ hit. absurd (miss hit)))))
 
   -- a try at the place p
   pub tries : (slots id p word : ℕ) (m : LockSeat P N V) (k : K) → word ≡ word_of p → StepsAs m k → slot_of p < slots → MayTake R p k

@@ -1,6 +1,6 @@
 -- What holds of the words, the slots and the seats between any two atomic steps, and what each step on a word tells.
 -- A place has one word, which is 0 while the place is free, and one slot. The completed tail has a word of its own.
-use Rattle.std.specs.Prelude.{◌≡◌, ◌≢◌, ℕ, suc, ◌<◌, List, [], ◌∷◌, ◌++◌, map, length, slice_index, Option, Some, None}
+use Rattle.std.specs.Prelude.{◌≡◌, ◌≢◌, ℕ, suc, ◌<◌, List, [], ◌∷◌, ◌++◌, map, length, slice_index, IfSome, Option, Some, None}
 use mathlib.Core.Option as kernel
 use Rattle.atomic_table.specs.Table.{State, Me, Step}
 use Rattle.ownlock.specs.declared.known.Known.{Known}
@@ -74,10 +74,13 @@ module _ {P N V : Type 0} (R : Rules P N V) where
     pub tail : slice_index s.words (completed_word opened.places) ≡ R.completed progress
     -- the slots between those of the places hold nothing
     pub gaps : HasGaps (kernel.some None) opened.places s.homes
-    pub free : (p : ℕ) → p < opened.places → slice_index s.words (word_of p) ≡ 0 → (x : V) × At (slot_of p) (kernel.some (Some x)) s.homes × R.AgreesWith p progress notes x
+    pub free : (p : ℕ) → p < opened.places → slice_index s.words (word_of p) ≡ 0
+        → (x : V) × At (slot_of p) (kernel.some (Some x)) s.homes × R.AgreesWith p progress notes x
     pub busy : (p : ℕ) → p < opened.places → slice_index s.words (word_of p) ≢ 0 → HeldBySome p s.views
-    pub each : (j i : ℕ) (v : View P N V) (k : Known P N V) → At j v s.views → At i k v → SessionInvariant progress notes run s.homes holder k × (owner k.session ≡ j)
-    pub distinct : (j a b : ℕ) (v : View P N V) (k m : Known P N V) → At j v s.views → At a k v → At b m v → k.session ≡ m.session → a ≡ b
+    pub each : (j i : ℕ) (v : View P N V) (k : Known P N V) → At j v s.views → At i k v
+        → SessionInvariant progress notes run s.homes holder k × (owner k.session ≡ j)
+    pub distinct : (j a b : ℕ) (v : View P N V) (k m : Known P N V) → At j v s.views → At a k v → At b m v
+        → k.session ≡ m.session → a ≡ b
     -- no session is left out
     pub all : (c : ℕ) → c < length opened.notes → KnownBySome c s.views
 
@@ -91,7 +94,8 @@ module _ {P N V : Type 0} (R : Rules P N V) where
       × ((run : Run P N V) × Adds k (Put p y) (grown progress) (noted k.note) run × StepsAs m' (left_with k p y (grown progress) (noted k.note) run))
 
   -- and once it has settled the value y at the place p, which it keeps
-  abbrev pub StepsSettling : (P → P) → (N → N) → Me (Option V) (View P N V) → ℕ → V → Me (Option V) (View P N V) → Type 0
+  abbrev pub StepsSettling : (P → P) → (N → N) → Me (Option V) (View P N V) → ℕ → V → Me (Option V) (View P N V)
+      → Type 0
   StepsSettling grown noted m p y m' = (k : Known P N V) → StepsAs m k
       → (progress : P) × MayFind R k progress × ((run : Run P N V) × OthersStepped k run
       × MayFind R (settled_with k p y (grown progress) (noted k.note) run) (grown progress) × StepsAs m' (settled_with k p y (grown progress) (noted k.note) run))
@@ -111,13 +115,24 @@ module _ {P N V : Type 0} (R : Rules P N V) where
   abbrev pub fronted : Step (Option V) → Me (Option V) (View P N V) → ℕ → Me (Option V) (View P N V) → Type 0
   fronted st m r m' = (k : Known P N V) (p : ℕ) → StepsAs m k → st.word ≡ word_of p → m' ≡ (k ∷ [], (slot_of p, None) ∷ map emptied (without p k.held))
 
+  -- there is such a state between two atomic steps, and some seat has this view there
+  abbrev pub StandsThere : Opened P N → View P N V → Type 0
+  StandsThere opened v = (s : State (Option V) (View P N V)) × LockInvariant opened s × ((j : ℕ) × At j v s.views)
+
+  -- a look at any word, of a shelf that may have been opened so: the seat is as it was, and stands in a state of the shelf
+  abbrev pub stood : Option (Opened P N) → Step (Option V) → Me (Option V) (View P N V) → ℕ
+      → Me (Option V) (View P N V) → Type 0
+  stood may st m r m' = (m' ≡ m) × IfSome may (λ opened. StandsThere opened m.0)
+
   -- the word of a held place, in whose slot the value y is, goes to 0
-  abbrev pub freed : (P → P) → (N → N) → Step (Option V) → Me (Option V) (View P N V) → ℕ → Me (Option V) (View P N V) → Type 0
+  abbrev pub freed : (P → P) → (N → N) → Step (Option V) → Me (Option V) (View P N V) → ℕ → Me (Option V) (View P N V)
+      → Type 0
   freed grown noted st m r m' = (k : Known P N V) (p : ℕ) (y : V) (out : List (ℕ × Option V)) → m ≡ (k ∷ [], (slot_of p, Some y) ∷ out) → st.word ≡ word_of p
       → (progress : P) × ((notes : List N) × Possible R k progress notes) × ((run : Run P N V) × Adds k (Put p y) (grown progress) (noted k.note) run × (m' ≡ (left_with k p y (grown progress) (noted k.note) run ∷ [], out)))
 
   -- the value y in the slot of a held place is put back and taken again in one step, at which the word stays as it is
-  abbrev pub settled : (P → P) → (N → N) → Step (Option V) → Me (Option V) (View P N V) → ℕ → Me (Option V) (View P N V) → Type 0
+  abbrev pub settled : (P → P) → (N → N) → Step (Option V) → Me (Option V) (View P N V) → ℕ
+      → Me (Option V) (View P N V) → Type 0
   settled grown noted st m r m' = (k : Known P N V) (p : ℕ) (y : V) (out : List (ℕ × Option V)) → m ≡ (k ∷ [], (slot_of p, Some y) ∷ out) → st.word ≡ word_of p
       → (progress : P) × ((notes : List N) × Possible R k progress notes) × ((run : Run P N V) × OthersStepped k run
       × ((notes : List N) × Possible R (settled_with k p y (grown progress) (noted k.note) run) (grown progress) notes)
@@ -125,14 +140,16 @@ module _ {P N V : Type 0} (R : Rules P N V) where
 
   -- the value y in the slot of a place that the first session of a seat holds is put back by it, and taken by the next, in one step at which the
   -- word stays as it is
-  abbrev pub handed_on : (P → P) → (N → N) → Step (Option V) → Me (Option V) (View P N V) → ℕ → Me (Option V) (View P N V) → Type 0
+  abbrev pub handed_on : (P → P) → (N → N) → Step (Option V) → Me (Option V) (View P N V) → ℕ
+      → Me (Option V) (View P N V) → Type 0
   handed_on grown noted st me n me' = (k m : Known P N V) (ms : View P N V) (p : ℕ) (y : V) → me ≡ (k ∷ m ∷ ms, (slot_of p, Some y) ∷ []) → st.word ≡ word_of p
       → (progress : P) × ((notes : List N) × Possible R k progress notes) × ((run : Run P N V) × OthersStepped k run × OthersStepped m (taken_by k (Put p y) (grown progress) (noted k.note) ∷ run)
       × ((notes : List N) × Possible R (holding m (grown progress) p y run) (grown progress) notes) × Later R m (grown progress)
       × (me' ≡ (handed k m ms p y (grown progress) (noted k.note) run, (slot_of p, Some y) ∷ [])))
 
   -- the word of the completed tail is read: the seat knows a progress with that completed tail, and that it has read this
-  abbrev pub done_read : (ℕ → N → N) → Step (Option V) → Me (Option V) (View P N V) → ℕ → Me (Option V) (View P N V) → Type 0
+  abbrev pub done_read : (ℕ → N → N) → Step (Option V) → Me (Option V) (View P N V) → ℕ → Me (Option V) (View P N V)
+      → Type 0
   done_read noted st m r m' = (k : Known P N V) → m.0 ≡ k ∷ [] → (progress : P) × ((notes : List N) × Possible R k progress notes) × (r ≡ R.completed progress)
       × ((run : Run P N V) × Adds k (Read r) progress (noted r k.note) run × (m' ≡ (having_read k progress (noted r k.note) r run ∷ [], m.1)))
 

@@ -25,3 +25,17 @@ impl<P, N> Change<P, N> for Brand {
 
     ghost note = { λ n. n };
 }
+
+/// What a shelf was opened with, for a look that tells of that shelf. Pass `Brand`, and pick it at the call.
+pub trait Start<P, N> {
+    ghost use Rattle.std.specs.Prelude.{Option};
+    ghost use Rattle.ownlock.specs.Seats.{Opened};
+
+    ghost opened: { Option (Opened P N) };
+}
+
+impl<P, N> Start<P, N> for Brand {
+    ghost use Rattle.std.specs.Prelude.{None};
+
+    ghost opened = { None };
+}

@@ -1,9 +1,9 @@
 // The rule of the table under a shelf, and what each step on a word tells.
 ghost use Rattle.std.specs.Prelude.{[], ◌++◌};
 ghost use Rattle.ownlock.specs.Seats.{all_sessions, opened_with};
-ghost use Rattle.ownlock.specs.Invariant.{LockInvariant, tried, fronted, freed, settled, handed_on, done_read, done_raised, first_of, others_of};
+ghost use Rattle.ownlock.specs.Invariant.{LockInvariant, tried, fronted, stood, freed, settled, handed_on, done_read, done_raised, first_of, others_of};
 
-use crate::change::{Ask, Change};
+use crate::change::{Ask, Change, Start};
 use crate::known::Known;
 use crate::shelved::Shelved;
 use atomic_table::{Join, Play, Seat, Shared, Split, TableRule};
@@ -39,6 +39,15 @@ pub struct OwnRetry;
 
 impl<V: Shelved> Play<Option<V>, View<V>> for OwnRetry {
     ghost then = { fronted V.rules };
+}
+
+// A look at any word: the seat stands in a state of the shelf.
+pub struct Stand<M> {
+    marker: PhantomData<M>,
+}
+
+impl<V: Shelved, M: Start<V::Progress, V::SessionNote>> Play<Option<V>, View<V>> for Stand<M> {
+    ghost then = { stood V.rules M.opened };
 }
 
 // The word of a held place is freed.

@@ -3,7 +3,7 @@ ghost use Rattle.std.specs.Prelude.{◌≡◌, ◌<◌, ◌++◌, length, replic
 ghost use Rattle.ownlock.specs.declared.known.Known.{Known};
 ghost use Rattle.ownlock.specs.Seats.{IsSession, IsSplit, HasSession, all_sessions, HoldsNone, opened_with};
 ghost use Rattle.ownlock.specs.Knowledge.{MayAsk, MayTake, MayPut, Takes, Puts, Settles, HandsOn, Reads, Raises, AllAgree, Closes};
-ghost use Rattle.ownlock.specs.Invariant.{others_of};
+ghost use Rattle.ownlock.specs.Invariant.{StandsThere, others_of};
 ghost use Rattle.ownlock.specs.Settling.{MaySettle, MayPassOn};
 ghost use Rattle.ownlock.specs.Held.{held_place};
 
@@ -13,11 +13,11 @@ use crate::rule::{JoinViews, LockRule, RaiseDone, ReadDone, SplitFirst, SplitOth
 use crate::seat::Seat;
 use crate::shelved::Shelved;
 use crate::spreading::{gather, slot_of, spread, unload};
-use crate::steps::{pass_on, put_and_take, release, try_once, wait_for};
+use crate::steps::{pass_on, put_and_take, release, stand_at, try_once, wait_for};
 use crate::words::{word_count, word_of};
 use atomic_table::{Refused, Table};
 use std::alloc::{AllocError, Global};
-use std::marker::Model;
+use std::marker::{Brand, Model};
 use std::sync::Wait;
 
 /// The place of the value that leads: nothing but its put adds to the history.
@@ -277,6 +277,17 @@ impl<V: Shelved> Shelf<V> {
         self.table
             .shared
             .join_seat::<JoinViews>(&mut seat.pass, other.into_pass());
+    }
+
+    /// For a proof: between two atomic steps there is now a state in which this seat stands, and the shelf's invariant, which
+    /// [`between_steps`](crate::between_steps) has in plain words, holds there. So no session stands in it twice. It reads a word, and changes nothing.
+    pub fn stand(&self, seat: &mut Seat<V>)
+        requires own { seat.old.shelf ≡ self.now.id }
+        ensures same { seat.new ≡ seat.old }
+        ensures state { StandsThere V.rules (opened_with (V.first_progress self.now.setup) (V.places self.now.setup) (V.first_notes self.now.setup)) seat.new.sessions }
+    {
+        let word = word_of(self.places);
+        stand_at::<V, Brand>(&self.table.shared, &mut seat.pass, word);
     }
 
     /// Takes the shelf and one seat that has every session, none of which holds a place, and gives the value of each place back.

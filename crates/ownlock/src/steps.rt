@@ -1,15 +1,15 @@
 // The atomic steps of the lock: a failed try, a won try, the value taken, the value put, the word freed, the completed tail read,
 // the completed tail raised.
-ghost use Rattle.std.specs.Prelude.{◌≡◌, Some, None};
+ghost use Rattle.std.specs.Prelude.{◌≡◌, ◌<◌, IfSome, Some, None};
 ghost use Rattle.ownlock.specs.Words.{HasPlace};
 ghost use Rattle.ownlock.specs.declared.known.Known.{Known};
 ghost use Rattle.ownlock.specs.Knowledge.{MayTake, MayPut};
-ghost use Rattle.ownlock.specs.Seats.{TookLast};
+ghost use Rattle.ownlock.specs.Seats.{TookLast, opened_with};
 ghost use Rattle.ownlock.specs.Settling.{MayPass};
-ghost use Rattle.ownlock.specs.Invariant.{StepsAs, StepsTaking, StepsPutting, StepsSettling, StepsHanding};
+ghost use Rattle.ownlock.specs.Invariant.{StandsThere, StepsAs, StepsTaking, StepsPutting, StepsSettling, StepsHanding};
 
-use crate::change::Change;
-use crate::rule::{Free, HandOn, OwnRetry, Pass, Settle, Steps, Try};
+use crate::change::{Change, Start};
+use crate::rule::{Free, HandOn, OwnRetry, Pass, Settle, Stand, Steps, Try};
 use crate::shelved::Shelved;
 use crate::spreading::slot_of;
 use crate::words::word_of;
@@ -114,4 +114,19 @@ pub(crate) fn pass_on<V: Shelved, M: Change<V::Progress, V::SessionNote>>(
     let found = steps.exchange(pass, slot_of(place), None);
     let Some(value) = found else { unreachable!() };
     value
+}
+
+// Looks at a word, which changes nothing, and tells in which state of the shelf the seat stands.
+pub(crate) fn stand_at<V: Shelved, M: Start<V::Progress, V::SessionNote>>(
+    steps: &Steps<V>,
+    pass: &mut Pass<V>,
+    word: usize,
+)
+    requires own { pass.old.table_id ≡ steps.now.table_id }
+    requires there { word < steps.now.table_id.words }
+    requires opened { IfSome M.opened (λ o. o ≡ opened_with (V.first_progress steps.now.key) (V.places steps.now.key) (V.first_notes steps.now.key)) }
+    ensures same { (pass.new.table_id ≡ pass.old.table_id) × (pass.new.me ≡ pass.old.me) }
+    ensures stands { IfSome M.opened (λ o. StandsThere V.rules o pass.new.me.0) }
+{
+    steps.load::<Stand<M>>(pass, word);
 }
