@@ -29,7 +29,8 @@ rounds_go k m (Waits j i after batch rounds turn) = gone_then k i m (rounds_go k
 rounds_go k m (Combines j i claiming after batch answered rounds turn combine) =
     gone_then k claiming m (gone_then k i claiming (rounds_go k i rounds) (gone_did turn.at.did)) (gone_did combine.did)
 
-pub update_goes : (k after : SessionKnown) (op : Operation) (reply : Reply) → UpdatesBy k after op reply → GoneOn k after
+pub update_goes : (k after : SessionKnown) (op : Operation) (reply : Reply) → UpdatesBy k after op reply
+    → GoneOn k after
 update_goes k after op reply u =
     let waited = u.completes.waited in
     gone_then k waited after (gone_then k u.asked waited (gone_did u.posts.at.did) (rounds_go u.asked waited u.completes.rounds)) (gone_did u.completes.collects.at.did)
@@ -39,11 +40,11 @@ visits_go k m (Stays j) = gone_self k
 visits_go k m (Visit j i after slot x visits at) = gone_then k i m (visits_go k i visits) (gone_did at.did)
 
 deed_goes : (k after : SessionKnown) → DeedBy k after → GoneOn k after
-deed_goes k after (Tries steps still did) = gone_did did
-deed_goes k after (Looks batch turn) = gone_did turn.at.did
-deed_goes k after (ClaimsIt batch turn) = gone_did turn.at.did
-deed_goes k after (Answers node batch kept noted answers) = gone_did answers.did
-deed_goes k after (Gives node batch kept hands) = gone_did hands.did
+deed_goes k after (Tries steps still did same) = gone_did did
+deed_goes k after (Looks batch alone turn same) = gone_did turn.at.did
+deed_goes k after (ClaimsIt batch alone turn notes) = gone_did turn.at.did
+deed_goes k after (Answers node batch kept noted answers ready) = gone_did answers.did
+deed_goes k after (Gives node batch kept ready hands none) = gone_did hands.did
 
 pub deeds_go : (k after : SessionKnown) → Deeds k after → GoneOn k after
 deeds_go k after (Rests j) = gone_self k

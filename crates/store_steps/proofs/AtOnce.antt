@@ -20,12 +20,13 @@ use Rattle.replica.specs.Views.{RepliesView}
 use Rattle.store_steps.specs.declared.desks.Turn.{Turn}
 use Rattle.store_steps.specs.declared.desks.Turn.TheVariants.{Collects, Combines, Waits}
 use Rattle.store_steps.specs.AtDesk.{IsTurn}
-use Rattle.store_steps.specs.AtOnce.{FoundNoAnswer, IsAlone, StillWaits}
+use Rattle.store_steps.specs.AtOnce.{FoundNoAnswer, InHolds, IsAlone, StillWaits}
 use Rattle.store_steps.specs.Combining.{HasAnswered, HasCombined}
 use Rattle.store_steps.specs.Lending.{desk_of, with_desk}
 use Rattle.store_steps.specs.Requests.{HasPosted, HasTurned}
 use Rattle.store_steps.specs.Standing.{IsFree, SessionKnown, StoreSeat}
 use Rattle.store_steps.specs.Updating.{Rounds, TurnsBy}
+use Rattle.store_steps.specs.Visits.{TakesNext}
 use Rattle.store_steps.proofs.Parts.{desk_put, has_desk}
 use Rattle.store_steps.proofs.Resumed.{Resumed}
 
@@ -82,11 +83,12 @@ pub record Waited (s : StoreSeat) (asked : K) (o : Pending) (batch : BatchView) 
   pub is : IsSession s now
   pub turned : HasTurned waited now o batch turn
   pub turns : TurnsBy waited now batch turn
+  pub held : InHolds asked now batch turn
 
 -- whoever asked, and had the first of these turns, has waited so, and had the second
 abbrev pub GoesOn : Caller → StoreSeat → BatchView → Turn → StoreSeat → BatchView → Turn → Type 0
 GoesOn caller s0 b0 turn0 s b turn =
-    (asked t0 : K) (o : Pending) → IsSession s0 t0 → IsFree caller asked → HasAsked asked o → HasTurned asked t0 o b0 turn0 → TurnsBy asked t0 b0 turn0 → Waited s asked o b turn
+    (asked t0 : K) (o : Pending) → IsSession s0 t0 → IsFree caller asked → HasAsked asked o → HasTurned asked t0 o b0 turn0 → TurnsBy asked t0 b0 turn0 → TakesNext asked asked t0 → Waited s asked o b turn
 
 -- who has the answers of its batch waits for its own still
 pub still_waits : (t f : K) (o : Pending) (b : BatchView) (kept : RepliesView) (m : K) → HasTurned m t o b Combines → HasAsked m o → HasAnswered t f b kept → StillWaits f o

@@ -110,7 +110,7 @@ module _ (old new : S) (caller : Caller) (i : IsIdle old caller) (few : suc (len
 
   pub begun_combining : HasTurned m after p.request b Combines → TurnsBy m after b Combines → HasBegun old new caller op b kept Claimed
   begun_combining h turns =
-      let deeds = one_deed m after (ClaimsIt b turns) in
+      let deeds = one_deed m after (ClaimsIt b alone turns h.turns.0) in
       let g = claims_gone DeedsGo (seat_of old m) new caller b kept m p.request asking after is h deeds in
       begun Claimed Went g.done g h.back.held deeds
 

@@ -222,14 +222,14 @@ module _ (old : List Member) (b : BatchView) (kept : RepliesView) (out : AreOut 
   held_waits learns =
       let v = out.polled 0 own at_own in
       let t = learns v.0 v.2.is in
-      first_waits Claimed (held_gone DeedsGo own.seat seat own.caller b now v.0 v.1 v.2 t.0 t.1 v.3 t.2 (one_deed v.0 t.0 (Tries t.2.tries t.2.nothing t.2.did)))
+      first_waits Claimed (held_gone DeedsGo own.seat seat own.caller b now v.0 v.1 v.2 t.0 t.1 v.3 t.2 (one_deed v.0 t.0 (Tries t.2.tries t.2.nothing t.2.did t.2.note)))
 
   -- the requests have run
   pub ran_waits : SessionAnswers own.caller.node own.seat seat b now → WaitsEach old set_first b now Ready
   ran_waits learns =
       let v = out.polled 0 own at_own in
       let t = learns v.0 v.2.is in
-      first_waits Ready (gone_busy own.seat seat own.caller b now StageReady (ran_gone DeedsGo own.seat seat own.caller b now v.0 v.1 v.2 t.0 t.1 t.2 (one_deed v.0 t.0 (Answers own.caller.node b now v.3.noted t.3))))
+      first_waits Ready (gone_busy own.seat seat own.caller b now StageReady (ran_gone DeedsGo own.seat seat own.caller b now v.0 v.1 v.2 t.0 t.1 t.2 (one_deed v.0 t.0 (Answers own.caller.node b now v.3.noted t.3 t.2.ready))))
 
 -- ---- the members collect
 
@@ -259,7 +259,7 @@ gives_each old new b c kept replies out g zero p q at_p at_q =
     let is = known_as new 0 e.after q at_q e.is in (
       d.1,
       d.2,
-      gone_then p.seat q.seat p.caller v.0 d.0 v.1 v.2 d.3 c kept Idle (Collected d.1) (Gives p.caller.node b kept d.4)
+      gone_then p.seat q.seat p.caller v.0 d.0 v.1 v.2 d.3 c kept Idle (Collected d.1) (Gives p.caller.node b kept v.3 d.4 d.3.note)
           (collects_gone DeedsGo (seat_of p.seat d.0) q.seat p.caller c kept d.0 v.1 (asking_still p.seat q.seat p.caller v.0 d.0 v.1 v.2 d.3) e.after d.1 is (ap (λ (n : SessionNote). n.batch) d.3.note) (any_batch d.0 e.after v.1 e.batch c d.1 e.turned)
           (d.0, Rests d.0, (e.batch, e.turns))),
     )

@@ -7,10 +7,8 @@ use Rattle.ownlock.specs.declared.known.ShelfStep.TheVariants.{Put, Read, Took}
 use Rattle.ownlock.specs.Seats.{tails_in, HasStepped}
 use Rattle.oplog.specs.declared.configuration.Sizes.{Sizes}
 use Rattle.oplog.specs.Sessions.{IsSessionOf}
-use Rattle.loader.specs.CatalogueView.{CatalogueView}
 use Rattle.combiner.specs.Desks.{BatchView}
 use Rattle.replica.specs.Views.{RepliesView}
-use Rattle.accounts.specs.declared.sessions.Progress.{Progress}
 use Rattle.accounts.specs.declared.sessions.SessionNote.{SessionNote}
 use Rattle.node.specs.declared.following.NodeReplica.{NodeReplica}
 use Rattle.store_steps.specs.declared.values.Value.{Value}

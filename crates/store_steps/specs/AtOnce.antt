@@ -13,7 +13,7 @@ use Rattle.accounts.specs.Moves.{IsAtRest}
 use Rattle.replica.specs.Views.{RepliesView}
 use Rattle.store_steps.specs.AtDesk.{IsReady}
 use Rattle.store_steps.specs.Combining.{HasCombined}
-use Rattle.store_steps.specs.Whole.{HandsOver}
+use Rattle.store_steps.specs.Whole.{AnswersBy, HandsOver}
 use Rattle.store_steps.specs.Knowing.{IsOn, Knows}
 use Rattle.store_steps.specs.Requests.{HasCompleted, HasPosted, HasTurned}
 use Rattle.store_steps.specs.Standing.{SessionKnown, StoreSeat, IsFree, Stands}
@@ -65,10 +65,31 @@ pub record GivesAndTurns (node : ℕ) (new : StoreSeat) (k : SessionKnown) (o : 
   pub is : IsSession new after
   pub turned : HasTurned combined after o batch turn
   pub turns : TurnsBy combined after batch turn
+  -- it had its desk again by the very step after it handed over
+  pub again : TakesNext combined combined after
 
 -- so it has, whichever request it waits for
-abbrev pub SessionGives : (node : ℕ) (old new : StoreSeat) → (given : BatchView) → (kept : RepliesView) → BatchView → Turn → Type 0
+abbrev pub SessionGives : (node : ℕ) (old new : StoreSeat) → (given : BatchView) → (kept : RepliesView) → BatchView
+    → Turn → Type 0
 SessionGives node old new given kept batch turn = (k : SessionKnown) (o : Pending) → IsSession old k → StillWaits k o → GivesAndTurns node new k o given kept batch turn
+
+-- What a session that has posted does in holds of its desk, up to this turn. In the hold of its post it has a turn; and where it combines a batch, it has
+-- a turn in the hold in which it hands over the answers: the very step after took the desk again.
+pub data InHolds (asked : SessionKnown) : (after : SessionKnown) → BatchView → Turn → Type 0 where
+  First : (after : SessionKnown) (batch : BatchView) (turn : Turn) → TurnsBy asked after batch turn
+      → TakesNext asked asked after → InHolds asked after batch turn
+  Looked : (m after : SessionKnown) (old batch : BatchView) (turn : Turn) → InHolds asked m old Waits
+      → TurnsBy m after batch turn → InHolds asked after batch turn
+  Gave : (m answered given after : SessionKnown) (node : ℕ) (claimed batch : BatchView) (kept : RepliesView) (turn : Turn) → InHolds asked m claimed Combines
+      → AnswersBy node m answered claimed kept → HandsOver node answered given claimed kept
+      → TurnsBy given after batch turn → TakesNext given given after → InHolds asked after batch turn
+
+-- a whole update of this operation so
+pub record UpdatesInHolds (k after : SessionKnown) (op : Operation) (reply : Reply) : Type 0 where
+  pub asked : SessionKnown
+  pub posts : PostsBy k asked op
+  pub batch : BatchView
+  pub holds : InHolds asked after batch (Collects reply)
 
 -- it has posted the operation, and has its answer
 pub record AsksAtOnce (new : StoreSeat) (k : SessionKnown) (op : Operation) (reply : Reply) : Type 0 where
@@ -79,3 +100,4 @@ pub record AsksAtOnce (new : StoreSeat) (k : SessionKnown) (op : Operation) (rep
   pub is : IsSession new after
   pub completed : HasCompleted asked after posted.request reply
   pub completes : CompletesBy asked after reply
+  pub held : UpdatesInHolds k after op reply

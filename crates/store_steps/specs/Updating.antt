@@ -1,5 +1,5 @@
 -- An update as what its session does on the shelf, from its post to its answer.
-use Rattle.std.specs.Prelude.{◌≡◌, ℕ, ◌<◌, List, Some}
+use Rattle.std.specs.Prelude.{◌≡◌, ℕ, ◌<◌, List, [], Some}
 use Rattle.ownlock.specs.declared.known.ShelfStep.{ShelfStep}
 use Rattle.oplog.specs.Operations.{Operation}
 use Rattle.oplog.specs.Sessions.{session}
@@ -12,7 +12,7 @@ use Rattle.store_steps.specs.declared.deeds.Deed.{Deed}
 use Rattle.store_steps.specs.declared.deeds.Deed.TheVariants.{Busy, Went, Collected}
 use Rattle.store_steps.specs.declared.desks.Turn.{Turn}
 use Rattle.store_steps.specs.declared.desks.Turn.TheVariants.{Collects, Combines as Claims, Waits as Idles}
-use Rattle.store_steps.specs.AtDesk.{IsTurn}
+use Rattle.store_steps.specs.AtDesk.{IsReady, IsTurn}
 use Rattle.store_steps.specs.Doing.{ADesk, ChangesNothing, Did, Part, takes_and_puts}
 use Rattle.store_steps.specs.Standing.{SessionKnown}
 use Rattle.store_steps.specs.Whole.{AnswersBy, CombinesBy, HandsOver}
@@ -43,7 +43,8 @@ pub record TurnsBy (k after : SessionKnown) (batch : BatchView) (turn : Turn) : 
 pub data Rounds : SessionKnown → SessionKnown → Type 0 where
   Begins : (k : SessionKnown) → Rounds k k
   Waits : (k m after : SessionKnown) (batch : BatchView) → Rounds k m → TurnsBy m after batch Idles → Rounds k after
-  Combines : (k m claimed after : SessionKnown) (batch answered : BatchView) → Rounds k m → TurnsBy m claimed batch Claims → CombinesBy claimed after batch answered → Rounds k after
+  Combines : (k m claimed after : SessionKnown) (batch answered : BatchView) → Rounds k m
+      → TurnsBy m claimed batch Claims → CombinesBy claimed after batch answered → Rounds k after
 
 -- the session made its rounds, and then collected this answer
 pub record CompletesBy (k after : SessionKnown) (reply : Reply) : Type 0 where
@@ -60,14 +61,20 @@ pub record UpdatesBy (k after : SessionKnown) (op : Operation) (reply : Reply) :
 
 -- ---- an update whose session waits for nobody
 
--- a deed of it that does not collect: a try in vain; a turn in vain; a turn at which it claims; the batch that it claimed is combined as far as
--- its answers; or the answers of a batch are handed over
+-- A deed of it that does not collect: a try in vain; a turn in vain; a turn at which it claims; the batch that it claimed is combined as far as
+-- its answers; or the answers of a batch are handed over. By the batch that the session notes they come in this order: it looks or claims where it has
+-- none, answers the one that it has claimed, hands over the one that has answers, and has none then.
 pub data DeedBy (k after : SessionKnown) : Type 0 where
-  Tries : (steps : List (ShelfStep Part)) → ChangesNothing steps → Did k after steps → DeedBy k after
-  Looks : (batch : BatchView) → TurnsBy k after batch Idles → DeedBy k after
-  ClaimsIt : (batch : BatchView) → TurnsBy k after batch Claims → DeedBy k after
-  Answers : (node : ℕ) (batch : BatchView) (kept : RepliesView) → k.note.batch ≡ unplaced batch.records → AnswersBy node k after batch kept → DeedBy k after
-  Gives : (node : ℕ) (batch : BatchView) (kept : RepliesView) → HandsOver node k after batch kept → DeedBy k after
+  Tries : (steps : List (ShelfStep Part)) → ChangesNothing steps → Did k after steps → after.note ≡ k.note
+      → DeedBy k after
+  Looks : (batch : BatchView) → k.note.batch ≡ [] → TurnsBy k after batch Idles → after.note ≡ k.note → DeedBy k after
+  ClaimsIt : (batch : BatchView) → k.note.batch ≡ [] → TurnsBy k after batch Claims
+      → after.note ≡ record k.note { batch = unplaced batch.records } → DeedBy k after
+  Answers : (node : ℕ) (batch : BatchView) (kept : RepliesView) → k.note.batch ≡ unplaced batch.records
+      → AnswersBy node k after batch kept
+      → IsReady after batch kept → DeedBy k after
+  Gives : (node : ℕ) (batch : BatchView) (kept : RepliesView) → IsReady k batch kept → HandsOver node k after batch kept
+      → after.note ≡ record k.note { batch = [] } → DeedBy k after
 
 -- so many of them, one after the other
 pub data Deeds : SessionKnown → SessionKnown → Type 0 where

@@ -4,7 +4,7 @@ use Rattle.combiner.specs.Desks.{BatchView}
 use Rattle.node.specs.Answering.{answered_batch}
 use Rattle.replica.specs.Views.{RepliesView}
 use Rattle.store_steps.specs.AtDesk.{IsReady}
-use Rattle.store_steps.specs.AtOnce.{IsAlone}
+use Rattle.store_steps.specs.AtOnce.{First, Gave, InHolds, IsAlone, Looked}
 use Rattle.store_steps.specs.Requests.{HasTurned}
 use Rattle.store_steps.specs.Standing.{IsFree}
 use Rattle.store_steps.specs.Updating.{Begins, Combines, TurnsBy, Waits}
@@ -17,7 +17,19 @@ use Rattle.store_steps.proofs.Tried.{combined_then}
 use Rattle.store_steps.proofs.at_once.ask_at_once.Goals as goal
 
 pub loop-init : goal.loop-init
-loop-init g c = (refl, λ asked t0 o is free w turned turns. record { waited = asked; resumed = resumed_first asked; rounds = Begins asked; now = t0; is = is; turned = turned; turns = turns })
+loop-init g c = (
+  refl,
+  λ asked t0 o is free w turned turns next. record {
+    waited = asked;
+    resumed = resumed_first asked;
+    rounds = Begins asked;
+    now = t0;
+    is = is;
+    turned = turned;
+    turns = turns;
+    held = First t0 c.post_and_turn-at.new.batch c.post_and_turn-at.result turns next;
+  },
+)
 
 pub returns-in-Collects-clause-asked : goal.returns-in-Collects-clause-asked
 returns-in-Collects-clause-asked g c k is =
@@ -25,7 +37,7 @@ returns-in-Collects-clause-asked g c k is =
     let e = one_known c.args.seat.now i.0 k i.1 is in
     let p = c.post_and_turn-at.ensures.turned k is in
     let free = free_back c.args.here.caller k p.asked (subst (λ z. IsFree c.args.here.caller z) e i.2) p.posted.back in
-    let n = c.loop.invariant.1 p.asked p.after p.posted.request p.is free (asks k p.asked c.args.op.now (subst IsAlone e i.3) p.posted) p.turned p.turns in
+    let n = c.loop.invariant.1 p.asked p.after p.posted.request p.is free (asks k p.asked c.args.op.now (subst IsAlone e i.3) p.posted) p.turned p.turns p.again in
     let b = c.loop.room.batch in
     record {
       asked = p.asked;
@@ -35,6 +47,7 @@ returns-in-Collects-clause-asked g c k is =
       is = n.is;
       completed = has_completed p.asked n.waited n.now p.posted.request b c.in-Collects.reply n.resumed (subst (λ z. HasTurned n.waited n.now p.posted.request b z) c.in-Collects.is n.turned);
       completes = record { waited = n.waited; rounds = n.rounds; batch = b; collects = subst (λ z. TurnsBy n.waited n.now b z) c.in-Collects.is n.turns };
+      held = record { asked = p.asked; posts = p.posts; batch = b; holds = subst (λ z. InHolds p.asked n.now b z) c.in-Collects.is n.held };
     }
 
 pub append_and_replay-requires-clause-claimed : goal.append_and_replay-requires-clause-claimed
@@ -43,7 +56,7 @@ append_and_replay-requires-clause-claimed g c =
     let p = c.post_and_turn-at.ensures.turned i.0 i.1 in
     let o = p.posted.request in
     let free = free_back c.args.here.caller i.0 p.asked i.2 p.posted.back in
-    let n = c.loop.invariant.1 p.asked p.after o p.is free (asks i.0 p.asked c.args.op.now i.3 p.posted) p.turned p.turns in
+    let n = c.loop.invariant.1 p.asked p.after o p.is free (asks i.0 p.asked c.args.op.now i.3 p.posted) p.turned p.turns p.again in
     let h = subst (λ z. HasTurned n.waited n.now o c.loop.room.batch z) c.in-Combines.is n.turned in
     (n.now, n.is, (free_back c.args.here.caller n.waited n.now (free_then c.args.here.caller p.asked n.waited free n.resumed) h.back, has_claimed n.waited n.now o c.loop.room.batch h, shelf_then _ _ _ n.waited n.now h.back.extends (shelf_then _ _ _ p.asked n.waited n.resumed.extends (shelf_then _ _ _ i.0 p.asked p.posted.back.extends i.4))))
 
@@ -54,7 +67,7 @@ hand_over_and_turn-at-requires-clause-ready g c =
     let o = p.posted.request in
     let w = asks i.0 p.asked c.args.op.now i.3 p.posted in
     let free = free_back c.args.here.caller i.0 p.asked i.2 p.posted.back in
-    let n = c.loop.invariant.1 p.asked p.after o p.is free w p.turned p.turns in
+    let n = c.loop.invariant.1 p.asked p.after o p.is free w p.turned p.turns p.again in
     let h = subst (λ z. HasTurned n.waited n.now o c.loop.room.batch z) c.in-Combines.is n.turned in
     let frees = free_back c.args.here.caller n.waited n.now (free_then c.args.here.caller p.asked n.waited free n.resumed) h.back in
     let on = shelf_then _ _ _ n.waited n.now h.back.extends (shelf_then _ _ _ p.asked n.waited n.resumed.extends (shelf_then _ _ _ i.0 p.asked p.posted.back.extends i.4)) in
@@ -74,8 +87,8 @@ hand_over_and_turn-at-requires-clause-ready g c =
 pub loop-preserved-in-Combines : goal.loop-preserved-in-Combines
 loop-preserved-in-Combines g c = (
   c.hand_over_and_turn-at.ensures.same ∙ (c.append_and_replay.ensures.same ∙ c.loop.invariant.0),
-  λ asked t0 o is free w turned turns.
-      let n = c.loop.invariant.1 asked t0 o is free w turned turns in
+  λ asked t0 o is free w turned turns next.
+      let n = c.loop.invariant.1 asked t0 o is free w turned turns next in
       let b = c.loop.room.batch in
       let kept = c.append_and_replay.new.replies in
       let h = subst (λ z. HasTurned n.waited n.now o b z) c.in-Combines.is n.turned in
@@ -92,6 +105,8 @@ loop-preserved-in-Combines g c = (
         is = r.is;
         turned = r.turned;
         turns = r.turns;
+        held = Gave n.now a.0 r.combined r.after c.args.here.caller.node b c.hand_over_and_turn-at.new.batch kept c.hand_over_and_turn-at.result
+            (subst (λ z. InHolds asked n.now b z) c.in-Combines.is n.held) a.3 last r.turns r.again;
       },
 )
 
@@ -102,7 +117,7 @@ turn-at-requires-clause-asked g c =
     let o = p.posted.request in
     let w = asks i.0 p.asked c.args.op.now i.3 p.posted in
     let free = free_back c.args.here.caller i.0 p.asked i.2 p.posted.back in
-    let n = c.loop.invariant.1 p.asked p.after o p.is free w p.turned p.turns in
+    let n = c.loop.invariant.1 p.asked p.after o p.is free w p.turned p.turns p.again in
     let h = subst (λ z. HasTurned n.waited n.now o c.loop.room.batch z) c.in-Waits.is n.turned in
     let r = resumed_waited c.args.here.caller p.asked n.waited n.now o c.loop.room.batch free n.resumed h in
     (n.now, o, n.is, free_then c.args.here.caller p.asked n.now free r, asked_by p.asked n.now o r.note w, shelf_then _ _ _ p.asked n.now r.extends (shelf_then _ _ _ i.0 p.asked p.posted.back.extends i.4))
@@ -110,8 +125,8 @@ turn-at-requires-clause-asked g c =
 pub loop-preserved : goal.loop-preserved
 loop-preserved g c = (
   c.turn-at.ensures.same ∙ c.loop.invariant.0,
-  λ asked t0 o is free w turned turns.
-      let n = c.loop.invariant.1 asked t0 o is free w turned turns in
+  λ asked t0 o is free w turned turns next.
+      let n = c.loop.invariant.1 asked t0 o is free w turned turns next in
       let h = subst (λ z. HasTurned n.waited n.now o c.loop.room.batch z) c.in-Waits.is n.turned in
       let r = resumed_waited c.args.here.caller asked n.waited n.now o c.loop.room.batch free n.resumed h in
       let t = c.turn-at.ensures.turned n.now o n.is (asked_by asked n.now o r.note w) in
@@ -123,5 +138,6 @@ loop-preserved g c = (
         is = t.1;
         turned = t.2;
         turns = t.3;
+        held = Looked n.now t.0 c.loop.room.batch c.turn-at.new.batch c.turn-at.result (subst (λ z. InHolds asked n.now c.loop.room.batch z) c.in-Waits.is n.held) t.3;
       },
 )

@@ -19,10 +19,10 @@ returns-in_default-clause-gone c =
     let e = c.in_default.ensures.stays in
     subst (λ z. HasGone DeedGoes c.args.seat.now c.try_hand_over.new.seat c.args.here.caller z c.args.replies.now c.args.stage.now Busy) (sym e.1)
     (subst (λ z. HasGone DeedGoes c.args.seat.now c.try_hand_over.new.seat c.args.here.caller c.args.batch.now c.args.replies.now z Busy) (sym c.requires.ready)
-    (stays_gone DeedGoes c.args.seat.now c.try_hand_over.new.seat c.args.here.caller c.args.batch.now c.args.replies.now v.0 v.1 v.2 e.0 Ready v (Tries [] Nothing (did_none v.0 v.0 refl))))
+    (stays_gone DeedGoes c.args.seat.now c.try_hand_over.new.seat c.args.here.caller c.args.batch.now c.args.replies.now v.0 v.1 v.2 e.0 Ready v (Tries [] Nothing (did_none v.0 v.0 refl) refl)))
 
 pub returns-clause-gone : goal.returns-clause-gone
 returns-clause-gone c =
     let v = c.requires.polled in
     let t = c.in-Some.ensures.handed v.0 v.2.is in
-    gave_gone DeedGoes c.args.seat.now c.try_hand_over.new.seat c.args.here.caller c.try_hand_over.new.batch c.args.replies.now v.0 v.1 v.2 t.0 t.1 t.2 (Gives c.args.here.caller.node c.args.batch.now c.args.replies.now t.3)
+    gave_gone DeedGoes c.args.seat.now c.try_hand_over.new.seat c.args.here.caller c.try_hand_over.new.batch c.args.replies.now v.0 v.1 v.2 t.0 t.1 t.2 (Gives c.args.here.caller.node c.args.batch.now c.args.replies.now v.3 t.3 t.2.note)

@@ -15,10 +15,10 @@ returns-in_default-clause-gone c =
     let v = c.requires.polled in
     let t = c.in_default.ensures.stays v.0 v.2.is in
     subst (λ z. HasGone DeedGoes c.args.seat.now c.try_combine.new.seat c.args.here.caller c.args.batch.now c.try_combine.new.replies z Busy) (sym c.requires.claimed)
-    (held_gone DeedGoes c.args.seat.now c.try_combine.new.seat c.args.here.caller c.args.batch.now c.try_combine.new.replies v.0 v.1 v.2 t.0 t.1 v.3 t.2 (Tries t.2.tries t.2.nothing t.2.did))
+    (held_gone DeedGoes c.args.seat.now c.try_combine.new.seat c.args.here.caller c.args.batch.now c.try_combine.new.replies v.0 v.1 v.2 t.0 t.1 v.3 t.2 (Tries t.2.tries t.2.nothing t.2.did t.2.note))
 
 pub returns-clause-gone : goal.returns-clause-gone
 returns-clause-gone c =
     let v = c.requires.polled in
     let t = c.in-Ok.ensures.combined v.0 v.2.is in
-    ran_gone DeedGoes c.args.seat.now c.try_combine.new.seat c.args.here.caller c.args.batch.now c.try_combine.new.replies v.0 v.1 v.2 t.0 t.1 t.2 (Answers c.args.here.caller.node c.args.batch.now c.try_combine.new.replies v.3.noted t.3)
+    ran_gone DeedGoes c.args.seat.now c.try_combine.new.seat c.args.here.caller c.args.batch.now c.try_combine.new.replies v.0 v.1 v.2 t.0 t.1 t.2 (Answers c.args.here.caller.node c.args.batch.now c.try_combine.new.replies v.3.noted t.3 t.2.ready)

@@ -18,7 +18,7 @@ pub returns-in-None-clause-gone : goal.returns-in-None-clause-gone
 returns-in-None-clause-gone c kept =
     let v = c.requires.polled in
     subst (λ z. HasGone DeedGoes c.args.seat.now c.try_turn.new.seat c.args.here.caller c.try_turn.new.batch kept z Busy) (sym c.requires.asked)
-    (stays_gone DeedGoes c.args.seat.now c.try_turn.new.seat c.args.here.caller c.try_turn.new.batch kept v.0 v.1 v.2 c.in-None.ensures.stays.0 Asked v (Tries [] Nothing (did_none v.0 v.0 refl)))
+    (stays_gone DeedGoes c.args.seat.now c.try_turn.new.seat c.args.here.caller c.try_turn.new.batch kept v.0 v.1 v.2 c.in-None.ensures.stays.0 Asked v (Tries [] Nothing (did_none v.0 v.0 refl) refl))
 
 pub returns-in-Some-Waits-clause-gone : goal.returns-in-Some-Waits-clause-gone
 returns-in-Some-Waits-clause-gone c kept =
@@ -27,7 +27,7 @@ returns-in-Some-Waits-clause-gone c kept =
     let t = c.in-Some-Waits.ensures.turned v.0 v.1 v.2.is (asked_of c.args.seat.now c.args.here.caller v.0 v.1 v.2 v.3) in
     let h = subst (λ z. HasTurned v.0 t.0 v.1 b z) c.in-Some-Waits.field-0-is t.2 in
     subst (λ z. HasGone DeedGoes c.args.seat.now c.try_turn.new.seat c.args.here.caller b kept z Busy) (sym c.requires.asked)
-    (waits_gone DeedGoes c.args.seat.now c.try_turn.new.seat c.args.here.caller b kept v.0 v.1 v.2 t.0 t.1 v.3 h (Looks b (subst (λ z. TurnsBy v.0 t.0 b z) c.in-Some-Waits.field-0-is t.3)))
+    (waits_gone DeedGoes c.args.seat.now c.try_turn.new.seat c.args.here.caller b kept v.0 v.1 v.2 t.0 t.1 v.3 h (Looks b v.3 (subst (λ z. TurnsBy v.0 t.0 b z) c.in-Some-Waits.field-0-is t.3) h.turns))
 
 pub returns-in-Some-Combines-clause-gone : goal.returns-in-Some-Combines-clause-gone
 returns-in-Some-Combines-clause-gone c kept =
@@ -35,7 +35,7 @@ returns-in-Some-Combines-clause-gone c kept =
     let b = c.try_turn.new.batch in
     let t = c.in-Some-Combines.ensures.turned v.0 v.1 v.2.is (asked_of c.args.seat.now c.args.here.caller v.0 v.1 v.2 v.3) in
     let h = subst (λ z. HasTurned v.0 t.0 v.1 b z) c.in-Some-Combines.field-0-is t.2 in
-    claims_gone DeedGoes c.args.seat.now c.try_turn.new.seat c.args.here.caller b kept v.0 v.1 v.2 t.0 t.1 h (ClaimsIt b (subst (λ z. TurnsBy v.0 t.0 b z) c.in-Some-Combines.field-0-is t.3))
+    claims_gone DeedGoes c.args.seat.now c.try_turn.new.seat c.args.here.caller b kept v.0 v.1 v.2 t.0 t.1 h (ClaimsIt b v.3 (subst (λ z. TurnsBy v.0 t.0 b z) c.in-Some-Combines.field-0-is t.3) h.turns.0)
 
 pub returns-in-Some-Collects-clause-gone : goal.returns-in-Some-Collects-clause-gone
 returns-in-Some-Collects-clause-gone c kept =

@@ -37,8 +37,8 @@ returns-in-Some-Waits-clause-gone c =
     let h = subst (λ z. HasTurned t.combined t.after v.1 b z) c.in-Some-Waits.field-0-is t.turned in
     let turns = subst (λ z. TurnsBy t.combined t.after b z) c.in-Some-Waits.field-0-is t.turns in
     let a = asking_still old new c.args.here.caller v.0 t.combined v.1 v.2 t.has in
-    gone_then old new c.args.here.caller v.0 t.combined v.1 v.2 t.has b c.args.replies.now Asked Busy (Gives c.args.here.caller.node c.args.batch.now c.args.replies.now t.gives)
-    (waits_gone DeedsGo (seat_of old t.combined) new c.args.here.caller b c.args.replies.now t.combined v.1 a t.after t.is (ap (λ n. n.batch) t.has.note) h (one_deed t.combined t.after (Looks b turns)))
+    gone_then old new c.args.here.caller v.0 t.combined v.1 v.2 t.has b c.args.replies.now Asked Busy (Gives c.args.here.caller.node c.args.batch.now c.args.replies.now v.3 t.gives t.has.note)
+    (waits_gone DeedsGo (seat_of old t.combined) new c.args.here.caller b c.args.replies.now t.combined v.1 a t.after t.is (ap (λ n. n.batch) t.has.note) h (one_deed t.combined t.after (Looks b (ap (λ n. n.batch) t.has.note) turns h.turns)))
 
 pub returns-in-Some-Combines-clause-gone : goal.returns-in-Some-Combines-clause-gone
 returns-in-Some-Combines-clause-gone c =
@@ -50,8 +50,8 @@ returns-in-Some-Combines-clause-gone c =
     let h = subst (λ z. HasTurned t.combined t.after v.1 b z) c.in-Some-Combines.field-0-is t.turned in
     let turns = subst (λ z. TurnsBy t.combined t.after b z) c.in-Some-Combines.field-0-is t.turns in
     let a = asking_still old new c.args.here.caller v.0 t.combined v.1 v.2 t.has in
-    gone_then old new c.args.here.caller v.0 t.combined v.1 v.2 t.has b c.args.replies.now Claimed Went (Gives c.args.here.caller.node c.args.batch.now c.args.replies.now t.gives)
-    (claims_gone DeedsGo (seat_of old t.combined) new c.args.here.caller b c.args.replies.now t.combined v.1 a t.after t.is h (one_deed t.combined t.after (ClaimsIt b turns)))
+    gone_then old new c.args.here.caller v.0 t.combined v.1 v.2 t.has b c.args.replies.now Claimed Went (Gives c.args.here.caller.node c.args.batch.now c.args.replies.now v.3 t.gives t.has.note)
+    (claims_gone DeedsGo (seat_of old t.combined) new c.args.here.caller b c.args.replies.now t.combined v.1 a t.after t.is h (one_deed t.combined t.after (ClaimsIt b (ap (λ n. n.batch) t.has.note) turns h.turns.0)))
 
 pub returns-in-Some-Collects-clause-gone : goal.returns-in-Some-Collects-clause-gone
 returns-in-Some-Collects-clause-gone c =
@@ -63,5 +63,5 @@ returns-in-Some-Collects-clause-gone c =
     let h = subst (λ z. HasTurned t.combined t.after v.1 b z) c.in-Some-Collects.field-0-is t.turned in
     let turns = subst (λ z. TurnsBy t.combined t.after b z) c.in-Some-Collects.field-0-is t.turns in
     let a = asking_still old new c.args.here.caller v.0 t.combined v.1 v.2 t.has in
-    gone_then old new c.args.here.caller v.0 t.combined v.1 v.2 t.has b c.args.replies.now Idle (Collected c.in-Some-Collects.reply) (Gives c.args.here.caller.node c.args.batch.now c.args.replies.now t.gives)
+    gone_then old new c.args.here.caller v.0 t.combined v.1 v.2 t.has b c.args.replies.now Idle (Collected c.in-Some-Collects.reply) (Gives c.args.here.caller.node c.args.batch.now c.args.replies.now v.3 t.gives t.has.note)
     (collects_gone DeedsGo (seat_of old t.combined) new c.args.here.caller b c.args.replies.now t.combined v.1 a t.after c.in-Some-Collects.reply t.is (ap (λ n. n.batch) t.has.note) h (t.combined, Rests t.combined, (b, turns)))

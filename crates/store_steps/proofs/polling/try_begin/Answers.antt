@@ -1,4 +1,4 @@
-use Rattle.std.proofs.Common.{suc, ◌<◌, ◌^◌, length, subst}
+use Rattle.std.proofs.Common.{suc, ◌<◌, ◌^◌, length, ap, ◌∙◌, subst}
 use Rattle.store_steps.specs.AtOnce.{FoundNoAnswer}
 use Rattle.store_steps.specs.Requests.{HasTurned}
 use Rattle.store_steps.specs.Standing.{SessionKnown}
@@ -25,7 +25,7 @@ returns-in-Some-Waits-clause-begun c kept =
     let b = c.try_post_and_turn.new.batch in
     let h = subst (λ z. HasTurned p.asked p.after p.posted.request b z) c.in-Some-Waits.field-0-is p.turned in
     let turns = subst (λ z. TurnsBy p.asked p.after b z) c.in-Some-Waits.field-0-is p.turns in
-    begun_waiting c.args.seat.now c.try_post_and_turn.new.seat c.args.here.caller i few p.asked p.after c.args.op.now p.posted p.posts p.is b kept h (one_deed p.asked p.after (Looks b turns))
+    begun_waiting c.args.seat.now c.try_post_and_turn.new.seat c.args.here.caller i few p.asked p.after c.args.op.now p.posted p.posts p.is b kept h (one_deed p.asked p.after (Looks b (ap (λ n. n.batch) p.posted.note ∙ i.batch) turns h.turns))
 
 pub returns-in-Some-Waits-clause-held : goal.returns-in-Some-Waits-clause-held
 returns-in-Some-Waits-clause-held c =
