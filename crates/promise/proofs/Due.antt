@@ -1,5 +1,5 @@
 -- A call that is due is taken, and calls are answered where the last steps settle.
-use Rattle.std.proofs.Common.{◌≡◌, ℕ, zero, suc, ◌<◌, Bool, true, List, [], ◌∷◌, take, Option, Some, None}
+use Rattle.std.proofs.Common.{◌≡◌, ℕ, zero, suc, ◌<◌, ◌≤◌, ◌&&◌, Bool, true, false, List, [], ◌∷◌, ◌++◌, length, take, Option, Some, None}
 use Rattle.std.proofs.Common.{refl, sym, ap, ◌∙◌, subst, arith}
 use Rattle.std.specs.Prelude.{cond, if◌then◌else◌, option_map, slice_get}
 use Rattle.std.specs.Option.{option_and_then}
@@ -14,33 +14,39 @@ use Rattle.oplog.specs.Logs.{Log}
 use Rattle.oplog.specs.Operations.{Operation}
 use Rattle.oplog.specs.History.{History}
 use Rattle.oplog.specs.Sessions.{session}
+use Rattle.oplog.specs.declared.configuration.Sizes.{Sizes}
 use Rattle.oplog.specs.declared.records.Op.TheVariants.{Run}
+use Rattle.oplog.specs.declared.records.Op.TheVariants as operations
 use Rattle.combiner.specs.declared.slots.Reply.TheVariants.{Placed, Ended}
 use Rattle.combiner.specs.declared.slots.Slot.{Slot}
 use Rattle.combiner.specs.declared.slots.Stage.{Stage}
 use Rattle.combiner.specs.declared.slots.Stage.TheVariants.{Empty, Posted, Claimed, Answered}
-use Rattle.combiner.specs.Slots.{is_empty, slot}
-use Rattle.combiner.specs.Desks.{DeskView, posted, with_slot}
-use Rattle.replica.specs.StoreMeaning.{call_of, is_operation}
+use Rattle.combiner.specs.declared.slots.Reply.{Reply}
+use Rattle.combiner.specs.Slots.{counted, is_empty, slot}
+use Rattle.combiner.specs.Desks.{Collection, DeskView, answer_in, posted, with_slot}
+use Rattle.replica.specs.StoreMeaning.{call_of, is_operation, store_meaning}
 use Rattle.replica.proofs.Export.{tests_offered}
+use Rattle.node.specs.Following.{may_answer}
 use Rattle.node.specs.declared.parts.NodeBatch.{NodeBatch}
 use Rattle.schedule.specs.declared.parts.BegunRead.{BegunRead}
 use Rattle.schedule.specs.declared.parts.Opening.{Opening}
 use Rattle.schedule.specs.declared.steps.Step.{Step}
-use Rattle.schedule.specs.declared.steps.Step.TheVariants.{Post, ReadBegin}
+use Rattle.readpath.specs.declared.reading.ReadAnswer.{ReadAnswer as ReadTold}
+use Rattle.schedule.specs.declared.steps.Step.TheVariants.{Collect, Install, Post, ReadAnswer, ReadBegin}
 use Rattle.schedule.specs.declared.steps.StepAnswer.{StepAnswer}
-use Rattle.schedule.specs.declared.steps.StepAnswer.TheVariants.{Done}
+use Rattle.schedule.specs.declared.steps.StepAnswer.TheVariants.{Back, Done, NotNow, ReadBack}
 use Rattle.schedule.specs.Headline.{TraceIsReadOff}
 use Rattle.schedule.specs.ReadOff.{read_off}
 use Rattle.schedule.specs.Stands.{NodeStands, StageStands, Stands}
 use Rattle.schedule.specs.Steps.{Part, is_free, is_idle, no_read, node_of, part_of, post, put_part, read_begin}
-use Rattle.schedule.specs.Steps.{session_of_slot, took, trace_of, with_call_or_back, with_read, world_after, world_of}
+use Rattle.schedule.specs.Steps.{Took, session_of_slot, took, trace_after, trace_of, with_call_or_back, with_event, with_read, world_after, world_of}
 use Rattle.schedule.specs.Taking.{WorldState, answer_of, answers_to, opened_store, step_answer}
-use Rattle.schedule.specs.Trace.{Call, IsIdle, Positions, Trace}
-use Rattle.schedule.specs.Worlds.{NodeView, WorldView, opened}
+use Rattle.schedule.specs.Trace.{Call, Event, IsIdle, Positions, Trace}
+use Rattle.schedule.specs.Trace as events
+use Rattle.schedule.specs.Worlds.{NodeView, WorldView, opened, own_of}
 use Rattle.schedule.proofs.Export.{opening_stands, run_stands}
-use Rattle.settlement.specs.Settling.{AllAnswered, EveryScheduleSettles}
-use Rattle.promise.specs.Answered.{IsDue, IsFree, SettlesLast, TakesCalls}
+use Rattle.settlement.specs.Settling.{AllAnswered, EveryScheduleSettles, settling_store}
+use Rattle.promise.specs.Answered.{AnswersSuit, IsAbsent, IsDue, IsFree, MayAnswer, Settles, TakesCalls, TakesNoneAbsent}
 
 -- ---- the steps before one
 
@@ -170,6 +176,87 @@ takes_due m w h positions t (ReadBegin n s program argument) x due =
     takes_step m w (ReadBegin n s program argument) y.node y.there (takes_read m s call w.log y.node y.slot_is may)
 takes_due m w h positions t step x due = absurd due
 
+-- ---- a step at a slot that the store hasn't
+
+get_outside : {A : Type 0} (l : List A) (i : ℕ) → length l ≤ i → slice_get l i ≡ None
+get_outside [] i far = refl
+get_outside (x ∷ xs) zero far = absurd (omega (arith, far))
+get_outside (x ∷ xs) (suc i) far = get_outside xs i (omega (arith, far))
+
+no_slot : (node : NodeView) (s : ℕ) → slice_get node.desk.slots s ≡ None → is_idle node s ≡ false
+no_slot node s none = ap (λ o. is_free o && no_read (slice_get node.reads s)) none
+
+posts_none : (m : Opening) (s : ℕ) (op : Operation) (g : Log) (node : NodeView) → slice_get node.desk.slots s ≡ None
+    → post m s op g node ≡ None
+posts_none m s op g node none =
+    let call = λ (d : DeskView). with_call_or_back (Call (session_of_slot node s) Update op) g (record node { desk = d }) in
+    ap (λ (b : Bool). cond (b && is_operation Update m.catalogue op) (option_map call (posted s op node.desk)) None) (no_slot node s none)
+
+-- the step is taken at no node
+none_at : (m : Opening) (step : Step) (g : Log) (node : NodeView) → length node.desk.slots ≡ m.config.slots
+    → length node.reads ≡ m.config.slots → IsAbsent m.config step → part_of m step g node ≡ None
+none_at m (Post n s program argument) g node slots reads far =
+    posts_none m s (Run (call_of program argument.items)) g node (get_outside node.desk.slots s (omega (arith, slots, far)))
+none_at m (Install n s mode arg_len bytes) g node slots reads far =
+    posts_none m s (operations.Install (record { mode = mode; arg_len = arg_len; bytes = bytes.items })) g node (get_outside node.desk.slots s (omega (arith, slots, far)))
+none_at m (Collect n s) g node slots reads far =
+    let none = get_outside node.desk.slots s (omega (arith, slots, far)) in
+    let own = λ (x : Slot). option_map (λ reply. record { reply = reply; desk = with_slot node.desk s (slot Empty (counted reply x.count)) }) (answer_in x.stage) in
+    ap (λ o. option_map (λ (c : Collection). with_call_or_back (events.Back (session_of_slot node s) (events.Updated c.reply)) g (record node { desk = c.desk })) (option_and_then own o)) none
+none_at m (ReadBegin n s program argument) g node slots reads far =
+    let none = get_outside node.desk.slots s (omega (arith, slots, far)) in
+    let call = call_of program argument.items in
+    ap (λ (b : Bool). cond (b && is_operation Read m.catalogue (Run call))
+    (Some (with_call_or_back (Call (session_of_slot node s) Read (Run call)) g (with_read node s (Some (record { call = call; seen = g.done })))))
+    None) (no_slot node s none)
+none_at m (ReadAnswer n s) g node slots reads far =
+    let none = get_outside node.reads s (omega (arith, reads, far)) in
+    let answers = λ (read : BegunRead).
+    cond (may_answer read.seen g.done (own_of node))
+    (option_map (λ e. with_call_or_back (events.Back (session_of_slot node s) (events.ReadBack (record { point = node.replica.tail; reply = e.reply }))) g (with_read node s None))
+    (store_meaning.read m.catalogue (Run read.call) node.replica.state))
+    None in
+    ap (λ (o : Option (Option BegunRead)). option_and_then answers (option_and_then (λ read. read) o)) none
+none_at m step g node slots reads far = absurd far
+
+none_taken : (m : Opening) (w : WorldView) (h : History) (positions : Positions) (t : Trace) (step : Step)
+    → Stands m w h positions t → IsAbsent m.config step → step_answer (took m w step) ≡ NotNow
+none_taken m w h positions t step x far = by (slice_get w.nodes (node_of step)) refl
+  where
+    by : (o : Option NodeView) → slice_get w.nodes (node_of step) ≡ o → step_answer (took m w step) ≡ NotNow
+    by None is = ap (λ o. step_answer (option_and_then (λ k. option_map (put_part w (node_of step)) (part_of m step w.log k)) o)) is
+    by (Some node) is =
+        let desk = (x.nodes (node_of step) node is).desk in
+        ap (λ o. step_answer (option_and_then (λ k. option_map (put_part w (node_of step)) (part_of m step w.log k)) o)) is
+        ∙ ap (λ o. step_answer (option_map (put_part w (node_of step)) o)) (none_at m step w.log node desk.slots desk.reads far)
+
+-- ---- what a step is answered
+
+nothing_more : {A : Type 0} (x : A) → x ∷ [] ≡ [] → ⊥
+nothing_more x e = let long = ap length e in absurd (omega (arith, long))
+
+suits_back : (c : Sizes) (reply : Reply) (e : Event) (step : Step)
+    → e ∷ [] ≡ read_off c (step ∷ []) (Back reply ∷ []) → MayAnswer (Back reply) step
+suits_back c reply e (Collect n s) is = tt
+suits_back c reply e step is = absurd (nothing_more e is)
+
+suits_read : (c : Sizes) (answer : ReadTold) (e : Event) (step : Step)
+    → e ∷ [] ≡ read_off c (step ∷ []) (ReadBack answer ∷ []) → MayAnswer (ReadBack answer) step
+suits_read c answer e (ReadAnswer n s) is = tt
+suits_read c answer e step is = absurd (nothing_more e is)
+
+-- what is read off a step is the event that it is
+suits_there : (c : Sizes) (step : Step) (o : Option Took)
+    → trace_after [] o ≡ read_off c (step ∷ []) (step_answer o ∷ []) → MayAnswer (step_answer o) step
+suits_there c step None is = tt
+suits_there c step (Some r) is = by r.event is
+  where
+    by : (e : Option Event) → with_event [] e ≡ read_off c (step ∷ []) (answer_of e ∷ []) → MayAnswer (answer_of e) step
+    by None is = tt
+    by (Some (events.Call x mode op)) is = tt
+    by (Some (events.Back x (events.Updated reply))) is = suits_back c reply (events.Back x (events.Updated reply)) step is
+    by (Some (events.Back x (events.ReadBack answer))) is = suits_read c answer (events.Back x (events.ReadBack answer)) step is
+
 -- ---- all steps of a new store
 
 module _ (reads_off : TraceIsReadOff) (m : Opening) (whole : IsCatalogue m.catalogue) where
@@ -188,12 +275,40 @@ module _ (reads_off : TraceIsReadOff) (m : Opening) (whole : IsCatalogue m.catal
       let due_there : IsDue m.config m.catalogue t step = subst (λ (z : Trace). IsDue m.config m.catalogue z step) is due in
       answer_at m (opened m) steps i step at ∙ ap Some (takes_due m w stood.0 stood.1 t step stood.2 due_there)
 
-  pub settles_last : EveryScheduleSettles → AreSizes m.config → (steps : List Step)
-      → SettlesLast m.config steps (answers_to m (opened m) steps)
+  -- from the opening on, after these steps
+  stood : (before : List Step) → (h : History) × (positions : Positions)
+      × Stands m (world_of m (opened m) before) h positions (trace_of m (opened m) [] before)
+  stood before = run_stands m before (opened m) [] [] [] (opening_stands m whole)
+
+  pub takes_none : (steps : List Step) → TakesNoneAbsent m.config steps (answers_to m (opened m) steps)
+  takes_none steps i step at absent =
+      let before : List Step = take i steps in
+      let s = stood before in
+      answer_at m (opened m) steps i step at
+      ∙ ap Some (none_taken m (world_of m (opened m) before) s.0 s.1 (trace_of m (opened m) [] before) step s.2 absent)
+
+  pub suits : (steps : List Step) → AnswersSuit steps (answers_to m (opened m) steps)
+  suits steps i step answer at is =
+      let before : List Step = take i steps in
+      let w : WorldView = world_of m (opened m) before in
+      let s = stood before in
+      let own = reads_off m w s.0 s.1 (trace_of m (opened m) [] before) [] (step ∷ []) s.2 in
+      let same = same_Some _ _ (sym (answer_at m (opened m) steps i step at) ∙ is) in
+      subst (λ (z : StepAnswer). MayAnswer z step) same (suits_there m.config step (took m w step) own)
+
+  settles_last : EveryScheduleSettles → AreSizes m.config → (steps before : List Step)
+      → steps ≡ before ++ settling_store m.config
+      → AllAnswered (read_off m.config steps (answers_to m (opened m) steps))
   settles_last settles config steps before is =
       let answered = (settles m before config whole).answered in
       let there = subst (λ (xs : List Step). AllAnswered (trace_of m (opened m) [] xs)) (sym is) answered in
       subst AllAnswered (trace_is steps) there
+
+  pub settles_each : EveryScheduleSettles → AreSizes m.config → (steps : List Step)
+      → Settles m.config steps (answers_to m (opened m) steps)
+  settles_each settles config steps k before is =
+      subst (λ (z : List StepAnswer). AllAnswered (read_off m.config (take k steps) z)) (sym (answers_before m (opened m) steps k))
+      (settles_last settles config (take k steps) before is)
 
 -- what the steps of a new store answer
 pub opened_answers : (m : Opening) (old : WorldState) (steps : List Step) (answers : List StepAnswer)

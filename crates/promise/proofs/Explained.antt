@@ -1,5 +1,5 @@
 -- What explains a trace by the functions explains it by the relations.
-use Rattle.std.proofs.Common.{◌≡◌, ℕ, List, [], length, append-nil, take, Some, sym, ap, ◌∙◌, subst, true, arith}
+use Rattle.std.proofs.Common.{◌≡◌, ℕ, ◌≤◌, List, [], length, append-nil, take, Some, sym, ap, ◌∙◌, subst, true, arith}
 use Rattle.verifier.specs.declared.refusal.Mode.{Mode}
 use Rattle.verifier.specs.declared.refusal.Mode.TheVariants.{Update}
 use Rattle.machine.specs.Soundness.{TypableProgramsRun}
@@ -22,7 +22,7 @@ use Rattle.promise.specs.Linearized.{Explains, IsLinearized, IsRight}
 use Rattle.promise.specs.Operations.{After}
 use Rattle.promise.proofs.Effects.{read_replies_at, replies_at, state_is}
 
-module _ (always : TypableProgramsRun) (m : Opening) (h : History) (positions : Positions) (t : Trace) (whole : IsCatalogue m.catalogue) (x : SchedExplains m h positions t) where
+module _ (always : TypableProgramsRun) (m : Opening) (h : History) (positions : Positions) (t : Trace) (whole : IsCatalogue m.catalogue) (x : SchedExplains m h positions t) (few : length h ≤ m.config.limit) where
   abbrev c : CatalogueView
   c = m.catalogue
 
@@ -50,6 +50,7 @@ module _ (always : TypableProgramsRun) (m : Opening) (h : History) (positions : 
       let k : ℕ = length h in
       let after = state_is always c whole h x.updates k (omega arith) in
       record {
+        within = few;
         effects = (state_after store_meaning c h k, subst (λ (z : History). After c z (state_after store_meaning c h k)) all after);
         each_placed = x.each_placed;
         calls = λ i call r at placed. x.calls i call r at placed;
@@ -69,7 +70,9 @@ pub steps_linearized : TypableProgramsRun
 steps_linearized always m old new steps answers opened stands told =
     let t : Trace = read_off m.config steps answers in
     let is : old.opening ≡ m = ap (λ (s : WorldState). s.opening) opened in
-    let e = told.whole (opened ∙ ap opened_store (sym is)) in
-    let there = subst (λ (z : Opening). SchedExplains new.opening e.0 e.1 (read_off z.config steps answers)) is e.2.explains in
+    let e = told.goes_on [] [] [] stands in
+    let here = e.3.explains in
+    let there = subst (λ (z : Opening). SchedExplains new.opening e.0 e.1 (read_off z.config steps answers)) is here in
     let x : SchedExplains m e.0 e.1 t = subst (λ (z : Opening). SchedExplains z e.0 e.1 t) (told.opening ∙ is) there in
-    (e.0, e.1, explains always m e.0 e.1 t (subst (λ (z : Opening). IsCatalogue z.catalogue) is stands.catalogue) x)
+    let few = subst (λ (z : Opening). length e.0 ≤ z.config.limit) (told.opening ∙ is) e.2.log.within in
+    (e.0, e.1, explains always m e.0 e.1 t (subst (λ (z : Opening). IsCatalogue z.catalogue) is stands.catalogue) x few)

@@ -1,14 +1,14 @@
--- Which calls a store takes, and when it has answered all. A store that takes no call does not meet this.
-use Rattle.std.specs.Prelude.{◌≡◌, ℕ, ◌<◌, List, ◌++◌, take, Some, slice_get}
+-- Which calls a store takes, how it answers, and when it has answered all. A store that takes no call does not meet this.
+use Rattle.std.specs.Prelude.{◌≡◌, ℕ, ◌<◌, ◌≤◌, List, ◌++◌, take, Some, slice_get}
 use Rattle.verifier.specs.declared.refusal.Mode.TheVariants.{Update, Read}
 use Rattle.loader.specs.CatalogueView.{CatalogueView}
 use Rattle.oplog.specs.declared.configuration.Sizes.{Sizes}
 use Rattle.oplog.specs.Sessions.{session}
 use Rattle.replica.specs.StoreMeaning.{IsOffered, call_of}
 use Rattle.schedule.specs.declared.steps.Step.{Step}
-use Rattle.schedule.specs.declared.steps.Step.TheVariants.{Post, ReadBegin}
+use Rattle.schedule.specs.declared.steps.Step.TheVariants.{Collect, Install, Post, ReadAnswer, ReadBegin}
 use Rattle.schedule.specs.declared.steps.StepAnswer.{StepAnswer}
-use Rattle.schedule.specs.declared.steps.StepAnswer.TheVariants.{Done}
+use Rattle.schedule.specs.declared.steps.StepAnswer.TheVariants.{Back, Done, NotNow, ReadBack}
 use Rattle.schedule.specs.ReadOff.{read_off}
 use Rattle.schedule.specs.Trace.{IsIdle, Trace}
 use Rattle.settlement.specs.Settling.{AllAnswered, settling_store}
@@ -31,7 +31,37 @@ TakesCalls sizes c steps answers =
     (i : ℕ) (step : Step) → slice_get steps i ≡ Some step
     → IsDue sizes c (read_off sizes (take i steps) (take i answers)) step → slice_get answers i ≡ Some Done
 
--- if the last steps are those by which each node in turn settles, each call has its answer
-abbrev pub SettlesLast : Sizes → List Step → List StepAnswer → Type 0
-SettlesLast sizes steps answers =
-    (before : List Step) → steps ≡ before ++ settling_store sizes → AllAnswered (read_off sizes steps answers)
+-- the slot that the step names is none of the store's
+abbrev pub IsAbsent : Sizes → Step → Type 0
+IsAbsent sizes (Post node slot program argument) = sizes.slots ≤ slot
+IsAbsent sizes (Install node slot mode arg_len bytes) = sizes.slots ≤ slot
+IsAbsent sizes (Collect node slot) = sizes.slots ≤ slot
+IsAbsent sizes (ReadBegin node slot program argument) = sizes.slots ≤ slot
+IsAbsent sizes (ReadAnswer node slot) = sizes.slots ≤ slot
+IsAbsent sizes step = ⊥
+
+-- no step at such a slot is taken
+abbrev pub TakesNoneAbsent : Sizes → List Step → List StepAnswer → Type 0
+TakesNoneAbsent sizes steps answers =
+    (i : ℕ) (step : Step) → slice_get steps i ≡ Some step → IsAbsent sizes step → slice_get answers i ≡ Some NotNow
+
+-- a step may be answered so: the answer to an update where one collects it, and that to a read where one asks for it
+abbrev pub MayAnswer : StepAnswer → Step → Type 0
+MayAnswer (Back reply) (Collect node slot) = Unit {0}
+MayAnswer (Back reply) step = ⊥
+MayAnswer (ReadBack answer) (ReadAnswer node slot) = Unit {0}
+MayAnswer (ReadBack answer) step = ⊥
+MayAnswer Done step = Unit {0}
+MayAnswer NotNow step = Unit {0}
+
+-- each step is answered by what it may be answered by
+abbrev pub AnswersSuit : List Step → List StepAnswer → Type 0
+AnswersSuit steps answers =
+    (i : ℕ) (step : Step) (answer : StepAnswer) → slice_get steps i ≡ Some step → slice_get answers i ≡ Some answer
+    → MayAnswer answer step
+
+-- wherever the steps by which each node in turn settles have gone through, each call before their end has its answer there
+abbrev pub Settles : Sizes → List Step → List StepAnswer → Type 0
+Settles sizes steps answers =
+    (k : ℕ) (before : List Step) → take k steps ≡ before ++ settling_store sizes
+    → AllAnswered (read_off sizes (take k steps) (take k answers))

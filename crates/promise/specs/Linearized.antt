@@ -26,7 +26,8 @@ IsRight c limit history positions call op (Updated Ended) =
 
 -- This list of operations explains the trace. For each operation `positions` has which event of the trace is its call.
 pub record Explains (c : CatalogueView) (limit : ℕ) (history : History) (positions : Positions) (t : Trace) : Type 0 where
-  -- the operations take effect, one after another
+  -- the list is no longer than it may be, and its operations, those of calls without an answer too, take effect one after another
+  pub within : length history ≤ limit
   pub effects : (state : StoreState) × After c history state
   -- each operation is that of one update call, by its session, and no call has two
   pub each_placed : length positions ≡ length history

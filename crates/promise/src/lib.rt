@@ -5,8 +5,9 @@
 //! What operations do is a relation (`Operations`): a call is a run of its program, as RFC 9669 has it. `Linearized` is what it is that a list
 //! explains a trace, `Answered` which calls are taken and when all are answered. Neither the verifier's rules nor the parts of a store are cited.
 //!
-//! What this does not say: which programs are accepted or may be installed (`verify` of `verifier`); when any other step is taken, such as
-//! an install, or a call of a program that was installed (`World::step` of `schedule`). A store that takes no install would meet it.
+//! What this does not say: which programs are accepted or may be installed (`verify` of `verifier`); that there is memory; when any other step
+//! is taken, such as an install, or a call of a program that was installed, and what the steps inside a node do (`World::step` of `schedule`).
+//! A store that takes no install, or keeps one set of maps for all its nodes, would meet it.
 #![tactic(auto)]
 
 mod programs;

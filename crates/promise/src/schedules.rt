@@ -5,7 +5,7 @@ ghost use Rattle.loader.specs.CatalogueView.{with_places};
 ghost use Rattle.oplog.specs.Limits.{IsConfig, sizes_in};
 ghost use Rattle.oplog.specs.declared.configuration.OpenError.TheVariants.{OtherState, OutOfLimits};
 ghost use Rattle.schedule.specs.ReadOff.{read_off};
-ghost use Rattle.promise.specs.Answered.{SettlesLast, TakesCalls};
+ghost use Rattle.promise.specs.Answered.{AnswersSuit, Settles, TakesCalls, TakesNoneAbsent};
 ghost use Rattle.promise.specs.Linearized.{IsLinearized};
 
 use loader::Catalogue;
@@ -14,8 +14,8 @@ use schedule::{Step, StepAnswer, World, run_steps};
 use std::alloc::Global;
 
 /// Opens a store, and takes these steps one after another, each if it may be taken then. One list of operations explains all calls and
-/// answers. A call of a program of the catalogue is taken, at each slot whose session waits for no answer. If the last steps are those of
-/// [`settling_store`](settlement::settling_store), each call has its answer.
+/// answers. A call of a program of the catalogue is taken, at each slot whose session waits for no answer. Wherever the steps of
+/// [`settling_store`](settlement::settling_store) have gone through, each call has its answer.
 ///
 /// # Errors
 ///
@@ -49,10 +49,13 @@ pub fn run_schedule(
 ) -> Result<Vec<StepAnswer>, OpenError>
     ensures limits { IfErr result (λ e. (e ≡ OutOfLimits) ↔ (IsConfig config → ⊥)) }
     ensures other { IfErr result (λ e. e ≢ OtherState) }
+    ensures opens { IfOk result (λ _. IsConfig config) }
     ensures answered { IfOk result (λ a. length a.items ≡ length steps.now) }
     ensures linearized { IfOk result (λ a. IsLinearized (with_places catalogue config.spare) config.limit (read_off (sizes_in config) steps.now a.items)) }
     ensures taken { IfOk result (λ a. TakesCalls (sizes_in config) (with_places catalogue config.spare) steps.now a.items) }
-    ensures settled { IfOk result (λ a. SettlesLast (sizes_in config) steps.now a.items) }
+    ensures absent { IfOk result (λ a. TakesNoneAbsent (sizes_in config) steps.now a.items) }
+    ensures suits { IfOk result (λ a. AnswersSuit steps.now a.items) }
+    ensures settled { IfOk result (λ a. Settles (sizes_in config) steps.now a.items) }
 {
     machine::laws::typable_programs_run();
     schedule::every_schedule();

@@ -4,8 +4,8 @@ use Rattle.oplog.specs.Limits.{AreSizes, sizes_in}
 use Rattle.schedule.specs.declared.parts.Opening.{Opening}
 use Rattle.schedule.specs.Taking.{WorldState}
 use Rattle.schedule.specs.Worlds.{opening_of}
-use Rattle.promise.specs.Answered.{SettlesLast, TakesCalls}
-use Rattle.promise.proofs.Due.{opened_answers, settles_last, takes_calls}
+use Rattle.promise.specs.Answered.{AnswersSuit, Settles, TakesCalls, TakesNoneAbsent}
+use Rattle.promise.proofs.Due.{opened_answers, settles_each, suits, takes_calls, takes_none}
 use Rattle.promise.proofs.Explained.{steps_linearized}
 use Rattle.promise.proofs.schedules.run_schedule.Goals as goal
 
@@ -28,5 +28,8 @@ returns-in-Ok c =
       answered = told.answered;
       linearized = steps_linearized c.typable_programs_run.ensures m old _ steps _ w.opened w.stands told;
       taken = subst (TakesCalls m.config m.catalogue steps) answers (takes_calls reads_off m whole steps);
-      settled = subst (SettlesLast m.config steps) answers (settles_last reads_off m whole settles sizes steps);
+      opens = w.within;
+      absent = subst (TakesNoneAbsent m.config steps) answers (takes_none reads_off m whole steps);
+      suits = subst (AnswersSuit steps) answers (suits reads_off m whole steps);
+      settled = subst (Settles m.config steps) answers (settles_each reads_off m whole settles sizes steps);
     }
