@@ -1,6 +1,6 @@
 -- What two sessions were told is what their calls added, which one list of operations explains.
-use Rattle.std.proofs.Common.{◌≡◌, ◌<◌, ◌≤◌, ℕ, [], ◌∷◌, ◌++◌, length, Result, Ok, Err, refl, sym, ap, ◌∙◌, subst, arith, Option, Some, None, List}
-use Rattle.std.specs.Prelude.{IfOk, IfSome}
+use Rattle.std.proofs.Common.{◌≡◌, ◌+◌, ◌<◌, ◌≤◌, ℕ, [], ◌∷◌, ◌++◌, length, Result, Ok, Err, refl, sym, ap, ◌∙◌, subst, arith, Option, Some, None, List}
+use Rattle.std.specs.Prelude.{IfOk, IfSome, slice_get}
 use Rattle.std.specs.Result.{result_ok}
 use Rattle.std.proofs.lemmas.List.{map-append}
 use Rattle.std.proofs.lemmas.Option.{same_Some}
@@ -16,12 +16,14 @@ use Rattle.accounts.proofs.Export.{whole_note}
 use Rattle.accounts.specs.declared.sessions.Pending.{Pending}
 use Rattle.accounts.specs.declared.sessions.SessionEvent.TheVariants.{UpdateBack, UpdateCall}
 use Rattle.verifier.specs.declared.refusal.Mode.TheVariants.{Update}
+use Rattle.verifier.proofs.Export.{behind}
 use Rattle.readpath.specs.declared.reading.ReadAnswer.{ReadAnswer}
 use Rattle.schedule.specs.Trace.{Back, Call, Trace, Updated}
 use Rattle.store_steps.specs.Views.{SessionView}
 use Rattle.store_laws.specs.RunEvents.{event_of, events_of_session, own_trace}
 use Rattle.store.specs.Explained.{ClosesExplained}
-use Rattle.store.specs.Linear.{Adds, AddsAnswer, AddsPost, AddsRead, AddsUpdate, own_events}
+use Rattle.store.specs.InOrder.{CallsInOrder}
+use Rattle.store.specs.Linear.{Adds, AddsAnswer, AddsPost, AddsRead, AddsUpdate, AreExplained as StandExplained, own_events}
 use Rattle.store.specs.Looks.{HasReply, IsRefused, TellsSight}
 use Rattle.store.specs.Opening.{ClosedView, last_state, setup_of}
 use Rattle.store.specs.Sessions.{StoreView, TellsUpdate, said}
@@ -131,6 +133,20 @@ read_told old new op None r early adds told result value =
     subst (λ z. IfSome z (λ a. HasRead old new op a)) (sym value) (by_read old new op r (adds refl) (told refl))
 read_told old new op (Some e) r early adds told result value =
     subst (λ z. IfSome z (λ a. HasRead old new op a)) (sym (value ∙ ap result_ok (early e refl).0)) tt
+
+-- ---- one session, and then another
+
+pub in_turn : CallsInOrder → (store : StoreView) (fresh one other later : SessionView) (op : Operation) (a b : Answer)
+    → Adds fresh one (call_and_back fresh.session op a) → StandExplained store (one ∷ other ∷ [])
+    → Adds other later (call_and_back other.session op b) → StandExplained store (one ∷ later ∷ []) → a.index < b.index
+in_turn law store fresh one other later op a b first before second after =
+    let own = own_events fresh in
+    let told = Updated (Placed a.index a.reply) in
+    let has = ap (λ l. slice_get l (length own + 1)) first.own
+    ∙ (behind own (call_and_back fresh.session op a) 1 ∙ ap (λ x. Some (Back x told)) (sym first.same)) in
+    let comes : a.index + 1 ≤ b.index =
+    law store one other later (length own + 1) told Update op (Updated (Placed b.index b.reply)) has before second after in
+    omega (arith, comes)
 
 -- ---- the closed store
 

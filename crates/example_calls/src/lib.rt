@@ -1,6 +1,7 @@
 //! What two sessions of a store were answered, and in which order, by the contracts of the crate `store` alone: one list of operations explains
 //! their calls, whatever else they did. The first session waits for its answers, and the second one polls. Each call says what it adds to the
-//! calls and answers of its session (`adds`), and `close` that one list explains those of all (`linear`).
+//! calls and answers of its session (`adds`), and `close` that one list explains those of all (`linear`). And `stand` says it while the store is open:
+//! so who calls by one session when another has returned knows which came first (`update_in_turn`).
 #![tactic(auto)]
 
 ghost use Rattle.std.specs.Prelude.{◌≡◌, ◌<◌, ◌≤◌, [], ◌∷◌, IfSome, None, Some, vec_capacity};
@@ -16,8 +17,10 @@ ghost use Rattle.replica.specs.StoreMeaning.{store_meaning};
 ghost use Rattle.example_calls.specs.Heard.{AllAreExplained, HasRead, HasUpdated, HasUpdatedTwice, call_and_back, two_calls, two_of};
 
 mod heard;
+mod in_turn;
 
 pub use heard::{Heard, Programs};
+pub use in_turn::update_in_turn;
 use std::alloc::Global;
 use std::sync::Wait;
 use store::{Answer, Catalogue, Closed, Config, Polled, ReadAnswer, Session, Store, StoreRefused};
@@ -32,7 +35,7 @@ pub const CONFIG: Config = Config {
 };
 
 // An update that is answered.
-fn update<R: Wait>(
+pub(crate) fn update<R: Wait>(
     rt: &R,
     store: &Store,
     session: &mut Session,

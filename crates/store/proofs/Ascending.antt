@@ -41,7 +41,8 @@ pub record Checked (config : Sizes) (sessions : List SessionView) (node n lowest
   pub ascend : (i j : ℕ) (s t : SessionView) → i < j → j < n → At i s sessions → At j t sessions → s.session < t.session
   pub under : (j : ℕ) (s : SessionView) → j < n → At j s sessions → s.session < session config node lowest
   -- the last of them has the slot before
-  pub last : 0 < lowest → (j : ℕ) × (s : SessionView) × (j < n) × At j s sessions × (s.session + 1 ≡ session config node lowest)
+  pub last : 0 < lowest
+      → (j : ℕ) × (s : SessionView) × (j < n) × At j s sessions × (s.session + 1 ≡ session config node lowest)
   pub reach : n ≤ lowest
   pub within : lowest ≤ config.slots
 
@@ -60,7 +61,8 @@ module _ (config : Sizes) (sessions : List SessionView) (node : ℕ) where
     within = omega arith;
   }
 
-  pub one_checked : (n lowest : ℕ) (s : SessionView) (caller : Caller) → Checked config sessions node n lowest → At n s sessions → HasSlot config s caller → caller.node ≡ node → lowest ≤ caller.slot
+  pub one_checked : (n lowest : ℕ) (s : SessionView) (caller : Caller) → Checked config sessions node n lowest
+      → At n s sessions → HasSlot config s caller → caller.node ≡ node → lowest ≤ caller.slot
       → Checked config sessions node (n + 1) (caller.slot + 1)
   one_checked n lowest s caller c at has same up = record {
     slots = slots;
@@ -90,7 +92,8 @@ module _ (config : Sizes) (sessions : List SessionView) (node : ℕ) where
       slots j t lt there = ⊎_elim (λ below. c.slots j t below there)
           (λ e. (caller.slot, has.within, ap (λ (z : SessionView). z.session) (here j t e there) ∙ is)) (below_or_at j n lt)
 
-      ascend : (i j : ℕ) (t u : SessionView) → i < j → j < n + 1 → At i t sessions → At j u sessions → t.session < u.session
+      ascend : (i j : ℕ) (t u : SessionView) → i < j → j < n + 1 → At i t sessions → At j u sessions
+          → t.session < u.session
       ascend i j t u less lt there then = ⊎_elim (λ below. c.ascend i j t u less below there then)
           (λ e. subst (λ (z : SessionView). t.session < z.session) (sym (here j u e then)) (rises base t.session is (c.under i t (omega (arith, less, e)) there))) (below_or_at j n lt)
 
@@ -104,7 +107,8 @@ module _ (config : Sizes) (sessions : List SessionView) (node : ℕ) where
           top : (base : ℕ) → s.session ≡ base + caller.slot → s.session < base + (caller.slot + 1)
           top base e = omega (arith, e)
 
-  pub all_checked : (n lowest : ℕ) → Checked config sessions node n lowest → n ≡ length sessions → 0 < length sessions → AreAscending config sessions
+  pub all_checked : (n lowest : ℕ) → Checked config sessions node n lowest → n ≡ length sessions → 0 < length sessions
+      → AreAscending config sessions
   all_checked n lowest c all some = record {
     node = node;
     some = some;
@@ -113,7 +117,9 @@ module _ (config : Sizes) (sessions : List SessionView) (node : ℕ) where
   }
 
   -- one of another node than the first, or of a lower slot than the next one may have
-  pub are_no_neighbours : (n lowest : ℕ) (s t : SessionView) (first caller : Caller) → Checked config sessions node n lowest → At 0 s sessions → HasSlot config s first → first.node ≡ node → At n t sessions → HasSlot config t caller
+  pub are_no_neighbours : (n lowest : ℕ) (s t : SessionView) (first caller : Caller)
+      → Checked config sessions node n lowest → At 0 s sessions → HasSlot config s first → first.node ≡ node
+      → At n t sessions → HasSlot config t caller
       → (caller.node ≡ node → lowest ≤ caller.slot → ⊥) → AreAscending config sessions → ⊥
   are_no_neighbours n lowest s t first caller c at_s has_s of at_t has_t differs are =
       let a = are.slots 0 s at_s in
@@ -141,7 +147,8 @@ module _ {A : Type 0} where
   at_read (y ∷ xs) (suc n) x lt is = at_read xs n x (omega (arith, lt)) is
 
   -- the first that is taken out
-  pub first_out : (xs rest : List A) (x : A) → 0 < length xs → x ≡ slice_index_or xs 0 x → rest ≡ remove xs 0 → xs ≡ x ∷ rest
+  pub first_out : (xs rest : List A) (x : A) → 0 < length xs → x ≡ slice_index_or xs 0 x → rest ≡ remove xs 0
+      → xs ≡ x ∷ rest
   first_out [] rest x some is left = absurd (omega (arith, some))
   first_out (y ∷ xs) rest x some is left = λ i. sym is i ∷ sym left i
 
@@ -162,7 +169,8 @@ more_views [] m = refl
 more_views (n ∷ ms) m = ap (λ z. session_view n.seat ∷ z) (more_views ms m)
 
 -- a seat of one session is seen as that session
-pub seat_seen : (seat : StoreSeat) (s : SessionView) → seat.shelf ≡ s.shelf → seat.sessions ≡ known_of s ∷ [] → session_view seat ≡ s
+pub seat_seen : (seat : StoreSeat) (s : SessionView) → seat.shelf ≡ s.shelf → seat.sessions ≡ known_of s ∷ []
+    → session_view seat ≡ s
 seat_seen seat s shelf known = λ i. session_view (record { shelf = shelf i; sessions = known i })
 
 -- ---- into the pipeline
@@ -176,14 +184,17 @@ pub record AreIdleMembers (ms : List Member) (rooms : List InstalledView) : Type
 pub no_members : AreIdleMembers [] []
 no_members = record { idle = λ j m at. absurd (at_none j m at); count = refl; rooms_are = λ j m r at there. absurd (at_none j m at) }
 
-pub more_members : (ms : List Member) (rooms : List InstalledView) (m : Member) (room : InstalledView) → AreIdleMembers ms rooms → IsIdle m.seat m.caller → HasRoom room m.seat → AreIdleMembers (ms ++ m ∷ []) (rooms ++ room ∷ [])
+pub more_members : (ms : List Member) (rooms : List InstalledView) (m : Member) (room : InstalledView)
+    → AreIdleMembers ms rooms → IsIdle m.seat m.caller → HasRoom room m.seat
+    → AreIdleMembers (ms ++ m ∷ []) (rooms ++ room ∷ [])
 more_members ms rooms m room a idle has = record {
   idle = λ j n at. ⊎_elim (λ h. a.idle j n h) (λ e. subst (λ (z : Member). IsIdle z.seat z.caller) (sym e.1) idle) (at_last ms m j n at);
   count = let long = length-append ms (m ∷ []) in let wide = length-append rooms (room ∷ []) in let same = a.count in omega (arith, long, wide, same);
   rooms_are = rooms_are;
 }
   where
-    rooms_are : (j : ℕ) (n : Member) (r : InstalledView) → At j n (ms ++ m ∷ []) → At j r (rooms ++ room ∷ []) → HasRoom r n.seat
+    rooms_are : (j : ℕ) (n : Member) (r : InstalledView) → At j n (ms ++ m ∷ []) → At j r (rooms ++ room ∷ [])
+        → HasRoom r n.seat
     rooms_are j n r at there = ⊎_elim (λ h. ⊎_elim (λ g. a.rooms_are j n r h g) (λ f. let below = at_below ms j n h in let same = a.count in let e = f.0 in absurd (omega (arith, below, same, e))) (at_last rooms room j r there))
         (λ e. ⊎_elim (λ g. let below = at_below rooms j r g in let same = a.count in let f = e.0 in absurd (omega (arith, below, same, f))) (λ f. subst (λ (z : InstalledView × Member). HasRoom z.0 z.1.seat) (λ i. (sym f.1 i, sym e.1 i)) has) (at_last rooms room j r there)) (at_last ms m j n at)
 
@@ -192,11 +203,13 @@ pub record Joining (all : List SessionView) (ms : List Member) (rooms : List Ins
   pub split : views_of ms ++ rest ≡ all
   pub members : AreIdleMembers ms rooms
 
-pub joining_first : (all : List SessionView) (ms : List Member) (rooms : List InstalledView) → ms ≡ [] → rooms ≡ [] → Joining all ms rooms all
+pub joining_first : (all : List SessionView) (ms : List Member) (rooms : List InstalledView) → ms ≡ [] → rooms ≡ []
+    → Joining all ms rooms all
 joining_first all ms rooms none empty = subst (λ (z : List Member × List InstalledView). Joining all z.0 z.1 all) (λ i. (sym none i, sym empty i)) (record { split = refl; members = no_members })
 
 pub joining_more : (all : List SessionView) (ms : List Member) (rooms : List InstalledView) (before rest : List SessionView) (s : SessionView) (seat : StoreSeat) (caller : Caller) (room : InstalledView) → Joining all ms rooms before → before ≡ s ∷ rest → seat.shelf ≡ s.shelf → seat.sessions ≡ known_of s ∷ []
-    → IsIdle seat caller → HasRoom room seat → Joining all (ms ++ record { seat = seat; caller = caller } ∷ []) (rooms ++ room ∷ []) rest
+    → IsIdle seat caller → HasRoom room seat
+    → Joining all (ms ++ record { seat = seat; caller = caller } ∷ []) (rooms ++ room ∷ []) rest
 joining_more all ms rooms before rest s seat caller room g is shelf known idle has = record {
   split = ap (λ z. z ++ rest) (more_views ms (record { seat = seat; caller = caller }) ∙ ap (λ z. views_of ms ++ z ∷ []) (seat_seen seat s shelf known)) ∙ (append_assoc (views_of ms) (s ∷ []) rest ∙ (ap (λ z. views_of ms ++ z) (sym is) ∙ g.split));
   members = more_members ms rooms (record { seat = seat; caller = caller }) room g.members idle has;
@@ -204,11 +217,14 @@ joining_more all ms rooms before rest s seat caller room g is shelf known idle h
 
 -- ---- the sessions in the pipeline
 
-pub has_slot : (store : StoreView) (s : SessionView) (caller : Caller) → IsOf store s → s.session ≡ session s.progress.config caller.node caller.slot → caller.slot < s.progress.config.slots → HasSlot store.config s caller
+pub has_slot : (store : StoreView) (s : SessionView) (caller : Caller) → IsOf store s
+    → s.session ≡ session s.progress.config caller.node caller.slot → caller.slot < s.progress.config.slots
+    → HasSlot store.config s caller
 has_slot store s caller of own within = record { own = own ∙ ap (λ z. session z caller.node caller.slot) of.config; within = subst (λ (z : Sizes). caller.slot < z.slots) of.config within }
 
 -- a member's session is that of its slot
-pub member_slot : (store : StoreView) (m : Member) → IsIdle m.seat m.caller → IsOf store (session_view m.seat) → HasSlot store.config (session_view m.seat) m.caller
+pub member_slot : (store : StoreView) (m : Member) → IsIdle m.seat m.caller → IsOf store (session_view m.seat)
+    → HasSlot store.config (session_view m.seat) m.caller
 member_slot store m i of =
     let seen = seen_as m.seat i.known i.is in
     has_slot store (session_view m.seat) m.caller of (ap (λ (z : SessionView). z.session) seen ∙ (i.free.own ∙ ap (λ (z : SessionView). session z.progress.config m.caller.node m.caller.slot) (sym seen)))
@@ -252,7 +268,8 @@ pub record Leaving (all out : List SessionView) (ms : List Member) (rooms : List
   pub split : out ++ views_of ms ≡ all
   pub members : AreIdleMembers ms rooms
 
-pub leaving_first : (ms : List Member) (rooms : List InstalledView) (out : List SessionView) → AreJoined ms rooms → out ≡ [] → Leaving (views_of ms) out ms rooms
+pub leaving_first : (ms : List Member) (rooms : List InstalledView) (out : List SessionView) → AreJoined ms rooms
+    → out ≡ [] → Leaving (views_of ms) out ms rooms
 leaving_first ms rooms out j none = record { split = ap (λ z. z ++ views_of ms) none; members = record { idle = j.idle; count = j.count; rooms_are = j.rooms_are } }
 
 pub leaving_more : (all before out : List SessionView) (m : Member) (ms : List Member) (room : InstalledView) (rooms : List InstalledView) (s : SessionView) → Leaving all before (m ∷ ms) (room ∷ rooms) → s ≡ session_view m.seat → out ≡ before ++ s ∷ [] → Leaving all out ms rooms

@@ -91,7 +91,9 @@ module _ (store : StoreView) (shared : Shared) (is : IsShared store shared) (ms 
     asked_ascend i j f g lt a b = joined.ascend i j f g lt (a.0, among i a.0 a.1, a.2) (b.0, among j b.0 b.1, b.2)
 
 -- the sessions of a store's first members
-pub shared_of : (store : StoreView) (shared : Shared) → shared.shelf.now.id ≡ store.id → shared.shelf.now.places ≡ 1 + store.config.nodes + store.config.nodes → (shared.nodes ≡ store.config.nodes) × (store.config.nodes ≤ MAX_NODES) → AreSizes store.config
+pub shared_of : (store : StoreView) (shared : Shared) → shared.shelf.now.id ≡ store.id
+    → shared.shelf.now.places ≡ 1 + store.config.nodes + store.config.nodes
+    → (shared.nodes ≡ store.config.nodes) × (store.config.nodes ≤ MAX_NODES) → AreSizes store.config
     → shared.catalogue.now ≡ store.catalogue → IsShared store shared
 shared_of store shared shelf places nodes config catalogue = record { shelf = shelf; places = places; nodes = nodes; config = config; catalogue = catalogue }
 
@@ -108,7 +110,9 @@ pub record HasUpdated (store : StoreView) (j : ℕ) (m n : Member) (op : Operati
   pub goes : LooksAndUpdates (session_view m.seat) (session_view n.seat) op (said reply)
   pub alone : 0 < j → LooksPostsCollects (session_view m.seat) (session_view n.seat) op (said reply)
 
-pub has_updated : (store : StoreView) (m n : Member) (op : Operation) (reply : Reply) (new : List Member) (j : ℕ) → At j n new → spot_of n ≡ spot_of m → (i : IsIdle m.seat m.caller) → IsOf store (session_view m.seat) → AsksFor new j i.known op reply → HasUpdated store j m n op reply
+pub has_updated : (store : StoreView) (m n : Member) (op : Operation) (reply : Reply) (new : List Member) (j : ℕ)
+    → At j n new → spot_of n ≡ spot_of m → (i : IsIdle m.seat m.caller) → IsOf store (session_view m.seat)
+    → AsksFor new j i.known op reply → HasUpdated store j m n op reply
 has_updated store m n op reply new j at spot i own a = record {
   caller = ap (λ z. z.0) spot;
   idle = subst (λ c. IsIdle n.seat c) (sym (ap (λ z. z.0) spot)) (is_idle k f op reply v m.seat n.seat m.caller i refl there);
@@ -154,7 +158,8 @@ module _ {A : Type 0} where
   at_taken (suc n) (x ∷ xs) (suc j) a at = at_taken n xs j a at
 
   -- an element is of the beginning, or stands where it stood
-  pub at_replaced : (n : ℕ) (new xs : List A) (j : ℕ) (a : A) → length new ≡ n → n ≤ length xs → At j a (new ++ drop n xs) → ((j < n) × At j a new) ⊎ ((n ≤ j) × At j a xs)
+  pub at_replaced : (n : ℕ) (new xs : List A) (j : ℕ) (a : A) → length new ≡ n → n ≤ length xs
+      → At j a (new ++ drop n xs) → ((j < n) × At j a new) ⊎ ((n ≤ j) × At j a xs)
   at_replaced zero [] xs j a long fits at = inr (omega arith, at)
   at_replaced zero (y ∷ new) xs j a long fits at = absurd (omega (arith, long))
   at_replaced (suc n) [] xs j a long fits at = absurd (omega (arith, long))
@@ -162,7 +167,8 @@ module _ {A : Type 0} where
   at_replaced (suc n) (y ∷ new) (x ∷ xs) zero a long fits at = inl (omega arith, at)
   at_replaced (suc n) (y ∷ new) (x ∷ xs) (suc j) a long fits at = ⊎_elim (λ h. let lt = h.0 in inl (omega (arith, lt), h.1)) (λ h. let le = h.0 in inr (omega (arith, le), h.1)) (at_replaced n new xs j a (omega (arith, long)) (omega (arith, fits)) at)
 
-  pub stays_behind : (n : ℕ) (new xs : List A) (j : ℕ) (a : A) → length new ≡ n → n ≤ j → At j a xs → At j a (new ++ drop n xs)
+  pub stays_behind : (n : ℕ) (new xs : List A) (j : ℕ) (a : A) → length new ≡ n → n ≤ j → At j a xs
+      → At j a (new ++ drop n xs)
   stays_behind zero [] xs j a long le at = at
   stays_behind zero (y ∷ new) xs j a long le at = absurd (omega (arith, long))
   stays_behind (suc n) [] xs j a long le at = absurd (omega (arith, long))
@@ -192,7 +198,8 @@ reply_back (Placed i reply) = refl
 reply_back Ended = refl
 
 -- who says that there is an answer has been placed
-placed_of : (replies : List Reply) (i : ℕ) (a : Answer) → At i (Ok a) (map said replies) → At i (Placed a.index a.reply) replies
+placed_of : (replies : List Reply) (i : ℕ) (a : Answer) → At i (Ok a) (map said replies)
+    → At i (Placed a.index a.reply) replies
 placed_of replies i a at =
     let r = at_mapped said replies i (Ok a) at in
     subst (λ z. At i z replies) (sym (reply_back r.0) ∙ ap reply_in (sym r.2)) r.1
@@ -206,7 +213,8 @@ other_said [] = []
 other_said (x ∷ xs) = xs
 
 -- one more reply is said
-pub said_more : (n : ℕ) (xs : List Said) (rs : List Reply) (d : Reply) → length xs ≡ length rs → n < length rs → take n xs ≡ take n (map said rs)
+pub said_more : (n : ℕ) (xs : List Said) (rs : List Reply) (d : Reply) → length xs ≡ length rs → n < length rs
+    → take n xs ≡ take n (map said rs)
     → take (suc n) (slice_set xs n (said (slice_index_or rs n d))) ≡ take (suc n) (map said rs)
 said_more n xs [] d long lt is = absurd (omega (arith, lt))
 said_more n [] (r ∷ rs) d long lt is = absurd (omega (arith, long))
@@ -220,7 +228,8 @@ said_long (y ∷ xs) zero x = refl
 said_long (y ∷ xs) (suc n) x = ap suc (said_long xs n x)
 
 -- all are said
-pub said_all : (n : ℕ) (xs : List Said) (rs : List Reply) → length xs ≡ length rs → n ≡ length rs → take n xs ≡ take n (map said rs) → xs ≡ map said rs
+pub said_all : (n : ℕ) (xs : List Said) (rs : List Reply) → length xs ≡ length rs → n ≡ length rs
+    → take n xs ≡ take n (map said rs) → xs ≡ map said rs
 said_all zero [] [] long all is = refl
 said_all zero [] (r ∷ rs) long all is = absurd (omega (arith, all))
 said_all zero (x ∷ xs) rs long all is = absurd (omega (arith, all, long))
@@ -234,7 +243,8 @@ are_in_order replies up i j a b lt at there = up i j a.index b.index a.reply b.r
 -- ---- the whole call
 
 -- who does nothing goes on
-pub stays_on : (store : StoreView) (ms : List Member) (rooms : List InstalledView) → AreJoined ms rooms → AreOf store (views_of ms) → EachGoesOn store (views_of ms) (views_of ms)
+pub stays_on : (store : StoreView) (ms : List Member) (rooms : List InstalledView) → AreJoined ms rooms
+    → AreOf store (views_of ms) → EachGoesOn store (views_of ms) (views_of ms)
 stays_on store ms rooms joined own = (refl, λ j s t at there. subst (SessionGoesOn store s) (at_one (views_of ms) j s t at there) (here j s at))
   where
     here : (j : ℕ) (s : SessionView) → At j s (views_of ms) → SessionGoesOn store s s
@@ -278,7 +288,8 @@ module _ (store : StoreView) (ms : List Member) (rooms : List InstalledView) (jo
   caller_kept : (j : ℕ) (o : Member) → At j o now → (m : Member) × At j m ms × (o.caller ≡ m.caller) × ((session_view o.seat).session ≡ (session_view m.seat).session)
   caller_kept j o at = let w = origin j o at in let k = kept w.0 w.2 in (w.0, w.1, k.0, k.1)
     where
-      kept : (m : Member) → (WasAsked j m o ⊎ ((n ≤ j) × (o ≡ m))) → (o.caller ≡ m.caller) × ((session_view o.seat).session ≡ (session_view m.seat).session)
+      kept : (m : Member) → (WasAsked j m o ⊎ ((n ≤ j) × (o ≡ m)))
+          → (o.caller ≡ m.caller) × ((session_view o.seat).session ≡ (session_view m.seat).session)
       kept m w = ⊎_elim (λ a. (a.updated.caller, a.updated.session)) (λ e. (ap (λ (z : Member). z.caller) e.1, ap (λ (z : Member). (session_view z.seat).session) e.1)) w
 
   pub still_joined : AreJoined now rooms
@@ -317,7 +328,8 @@ module _ (store : StoreView) (ms : List Member) (rooms : List InstalledView) (jo
   )
 
   -- a session of a call's number was asked
-  asked_for : (j : ℕ) (m o : Member) (q : Question) → At j q calls → (WasAsked j m o ⊎ ((n ≤ j) × (o ≡ m))) → (reply : Reply) × At j reply replies × HasUpdated store j m o (asked_op q) reply
+  asked_for : (j : ℕ) (m o : Member) (q : Question) → At j q calls → (WasAsked j m o ⊎ ((n ≤ j) × (o ≡ m)))
+      → (reply : Reply) × At j reply replies × HasUpdated store j m o (asked_op q) reply
   asked_for j m o q at_q w = ⊎_elim (λ a. (a.reply, a.at_reply, subst (λ z. HasUpdated store j m o (asked_op z) a.reply) (at_one calls j a.q q a.at_q at_q) a.updated)) (λ e. let below = at_below calls j q at_q in let far = e.0 in absurd (omega (arith, below, far, count))) w
 
   pub tells_each : TellsEach (views_of ms) (views_of now) calls (map said replies)

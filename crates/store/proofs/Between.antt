@@ -37,22 +37,26 @@ K = SessionKnown
 abbrev S : Type 0
 S = StoreSeat
 
-own_on : (store : StoreView) (old new : SessionView) → Extends old.progress new.progress → new.shelf ≡ old.shelf → IsOf store old → IsOf store new
+own_on : (store : StoreView) (old new : SessionView) → Extends old.progress new.progress → new.shelf ≡ old.shelf
+    → IsOf store old → IsOf store new
 own_on store old new grown same own = record { shelf = same ∙ own.shelf; config = sym grown.config ∙ own.config; catalogue = sym grown.catalogue ∙ own.catalogue }
 
 -- a session that is as it was goes on
-pub goes_still : (store : StoreView) (old new : SessionView) → new ≡ old → IsOf store old → IsWellFormed store_meaning old.progress → SessionGoesOn store old new
+pub goes_still : (store : StoreView) (old new : SessionView) → new ≡ old → IsOf store old
+    → IsWellFormed store_meaning old.progress → SessionGoesOn store old new
 goes_still store old new same own well =
     subst (SessionGoesOn store old) (sym same) (record { own = own; same = (refl, refl); grown = store_laws.extends_self old.progress; well_formed = well; gone = gone_self (known_of old) })
 
 -- so does one that has learned; its user saw it as `was`
-pub goes_on : (store : StoreView) (old was new : SessionView) → old ≡ was → IsOf store was → new.shelf ≡ old.shelf → new.session ≡ old.session → Extends old.progress new.progress → IsWellFormed store_meaning new.progress
+pub goes_on : (store : StoreView) (old was new : SessionView) → old ≡ was → IsOf store was → new.shelf ≡ old.shelf
+    → new.session ≡ old.session → Extends old.progress new.progress → IsWellFormed store_meaning new.progress
     → GoneOn (known_of old) (known_of new) → SessionGoesOn store was new
 goes_on store old was new seen own shelf session grown well gone =
     subst (λ z. SessionGoesOn store z new) seen (record { own = own_on store old new grown shelf (subst (IsOf store) (sym seen) own); same = (shelf, session); grown = grown; well_formed = well; gone = gone })
 
 -- after two calls, too
-pub goes_then : (store : StoreView) (old mid new : SessionView) → SessionGoesOn store old mid → SessionGoesOn store mid new → SessionGoesOn store old new
+pub goes_then : (store : StoreView) (old mid new : SessionView) → SessionGoesOn store old mid
+    → SessionGoesOn store mid new → SessionGoesOn store old new
 goes_then store old mid new a b = record {
   own = b.own;
   same = (b.same.0 ∙ a.same.0, b.same.1 ∙ a.same.1);
@@ -62,8 +66,10 @@ goes_then store old mid new a b = record {
 }
 
 -- the shelf and the catalogue of a session's store are these
-pub on_store : (s : S) (k : K) → IsSession s k → (shared : Shared) (store : StoreView) → IsOf store (session_view s) → shared.shelf.now.places ≡ 1 + store.config.nodes + store.config.nodes
-    → (shared.nodes ≡ store.config.nodes) × (store.config.nodes ≤ MAX_NODES) → shared.catalogue.now ≡ store.catalogue → IsOn shared k
+pub on_store : (s : S) (k : K) → IsSession s k → (shared : Shared) (store : StoreView) → IsOf store (session_view s)
+    → shared.shelf.now.places ≡ 1 + store.config.nodes + store.config.nodes
+    → (shared.nodes ≡ store.config.nodes) × (store.config.nodes ≤ MAX_NODES) → shared.catalogue.now ≡ store.catalogue
+    → IsOn shared k
 on_store s k is shared store own places nodes same =
     let seen = seen_as s k is in record {
       places_are = places ∙ ap (λ n. 1 + n + n) (sym nodes.0);
@@ -80,38 +86,46 @@ module _ (s : S) (caller : Caller) where
 
   module _ (b : BatchView) (kept : RepliesView) where
     -- where nothing is out the session is idle
-    pub idle_at : (stage : Stage) → IsPolled s caller b kept stage → (session_view s).note.pending ≡ None → IsIdle s caller
+    pub idle_at : (stage : Stage) → IsPolled s caller b kept stage → (session_view s).note.pending ≡ None
+        → IsIdle s caller
     idle_at Idle v none = v
     idle_at Asked v none = absurd (asks_no v.0 v.1 v.2 none)
     idle_at Claimed v none = absurd (asks_no v.0 v.1 v.2 none)
     idle_at Ready v none = absurd (asks_no v.0 v.1 v.2 none)
 
-    pub idle_stage : (stage : Stage) → IsPolled s caller b kept stage → (session_view s).note.pending ≡ None → stage ≡ Idle
+    pub idle_stage : (stage : Stage) → IsPolled s caller b kept stage → (session_view s).note.pending ≡ None
+        → stage ≡ Idle
     idle_stage Idle v none = refl
     idle_stage Asked v none = absurd (asks_no v.0 v.1 v.2 none)
     idle_stage Claimed v none = absurd (asks_no v.0 v.1 v.2 none)
     idle_stage Ready v none = absurd (asks_no v.0 v.1 v.2 none)
 
-    pub out_at : (stage : Stage) → IsPolled s caller b kept stage → (o : Pending) → (session_view s).note.pending ≡ Some o → IsOut stage
+    pub out_at : (stage : Stage) → IsPolled s caller b kept stage → (o : Pending)
+        → (session_view s).note.pending ≡ Some o → IsOut stage
     out_at Idle v o is = absurd (none-some o (sym (ap (λ (z : SessionView). z.note.pending) (seen_as s v.known v.is) ∙ v.pending) ∙ is))
     out_at Asked v o is = tt
     out_at Claimed v o is = tt
     out_at Ready v o is = tt
 
-    pub known_at : (stage : Stage) → IsPolled s caller b kept stage → (k : K) × IsSession s k × IsWellFormed store_meaning k.progress × (k.held ≡ [])
+    pub known_at : (stage : Stage) → IsPolled s caller b kept stage
+        → (k : K) × IsSession s k × IsWellFormed store_meaning k.progress × (k.held ≡ [])
     known_at Idle v = (v.known, v.is, v.well_formed, v.free.held)
     known_at Asked v = (v.0, v.2.is, v.2.well_formed, v.2.free.held)
     known_at Claimed v = (v.0, v.2.is, v.2.well_formed, v.2.free.held)
     known_at Ready v = (v.0, v.2.is, v.2.well_formed, v.2.free.held)
 
-    pub well_at : (stage : Stage) → IsPolled s caller b kept stage → IsWellFormed store_meaning (session_view s).progress
+    pub well_at : (stage : Stage) → IsPolled s caller b kept stage
+        → IsWellFormed store_meaning (session_view s).progress
     well_at stage v = let k = known_at stage v in subst (λ (z : SessionView). IsWellFormed store_meaning z.progress) (sym (seen_as s k.0 k.1)) k.2
 
-    pub on_at : (shared : Shared) (store : StoreView) (stage : Stage) → IsPolled s caller b kept stage → IsOf store (session_view s) → shared.shelf.now.places ≡ 1 + store.config.nodes + store.config.nodes
-        → (shared.nodes ≡ store.config.nodes) × (store.config.nodes ≤ MAX_NODES) → shared.catalogue.now ≡ store.catalogue → Knows s (IsOn shared)
+    pub on_at : (shared : Shared) (store : StoreView) (stage : Stage) → IsPolled s caller b kept stage
+        → IsOf store (session_view s) → shared.shelf.now.places ≡ 1 + store.config.nodes + store.config.nodes
+        → (shared.nodes ≡ store.config.nodes) × (store.config.nodes ≤ MAX_NODES)
+        → shared.catalogue.now ≡ store.catalogue → Knows s (IsOn shared)
     on_at shared store stage v own places nodes same = let k = known_at stage v in (k.0, k.1, on_store s k.0 k.1 shared store own places nodes same)
 
-pub room_on : (old new : S) (room : InstalledView) → Extends (session_view old).progress (session_view new).progress → HasRoom room old → HasRoom room new
+pub room_on : (old new : S) (room : InstalledView) → Extends (session_view old).progress (session_view new).progress
+    → HasRoom room old → HasRoom room new
 room_on old new room grown h = (h.0 ∙ ap (λ (x : CatalogueView). x.shapes) grown.catalogue, h.1 ∙ ap (λ (x : CatalogueView). x.long) grown.catalogue, h.2)
 
 -- ---- a post
@@ -168,7 +182,8 @@ pub record StaysIdle (old new : S) (caller : Caller) : Type 0 where
 module _ (old new : S) (caller : Caller) (i : IsIdle old caller) (m : K) (is : IsSession new m) where
   -- with this note
   pub stays_with : (noted : SessionNote → SessionNote) → ((n : SessionNote) → n.begun ≡ None → Rests n (noted n))
-      → m.session ≡ i.known.session → m.held ≡ [] → m.note ≡ noted i.known.note → Extends i.known.progress m.progress → IsWellFormed store_meaning m.progress → GoneOn i.known m → StaysIdle old new caller
+      → m.session ≡ i.known.session → m.held ≡ [] → m.note ≡ noted i.known.note → Extends i.known.progress m.progress
+      → IsWellFormed store_meaning m.progress → GoneOn i.known m → StaysIdle old new caller
   stays_with noted rests session held note extends well gone = let r = rests i.known.note i.unread in record {
     idle = record {
       known = m;
@@ -187,7 +202,9 @@ module _ (old new : S) (caller : Caller) (i : IsIdle old caller) (m : K) (is : I
     gone = goes_seen GoneOn old new (session_view old) i.known m i.is i.free.held refl is held gone;
   }
 
-  pub stays_idle : m.session ≡ i.known.session → m.held ≡ [] → m.note ≡ i.known.note → Extends i.known.progress m.progress → IsWellFormed store_meaning m.progress → GoneOn i.known m → StaysIdle old new caller
+  pub stays_idle : m.session ≡ i.known.session → m.held ≡ [] → m.note ≡ i.known.note
+      → Extends i.known.progress m.progress → IsWellFormed store_meaning m.progress → GoneOn i.known m
+      → StaysIdle old new caller
   stays_idle session held note extends well gone = stays_with (λ n. n) (λ n unread. (refl, unread, refl, refl)) session held note extends well gone
 
 -- ---- several deeds

@@ -53,7 +53,8 @@ log_at l ns (Desk d) a = let it = session_laws.agrees 0 l ns (view_of (Desk d)) 
     other : (m n : ℕ) → 0 ≡ 1 + m + n → ⊥
     other m n e = omega (arith, e)
 
-replica_at : (l : L) (ns : List SessionNote) (i : ℕ) (v : Value) → i < l.config.nodes → store_rules.AgreesWith (suc i) l ns v → (n : Box NodeReplica) × (v ≡ Replica n) × ReplicaFits l n.value
+replica_at : (l : L) (ns : List SessionNote) (i : ℕ) (v : Value) → i < l.config.nodes
+    → store_rules.AgreesWith (suc i) l ns v → (n : Box NodeReplica) × (v ≡ Replica n) × ReplicaFits l n.value
 replica_at l ns i (Replica n) lt a = (n, refl, ((session_laws.agrees (suc i) l ns (view_of (Replica n)) a.0).3, a.1.0))
 replica_at l ns i (Log g) lt a = absurd (other i (session_laws.agrees (suc i) l ns (view_of (Log g)) a.0).0)
   where
@@ -71,7 +72,9 @@ pub record AreReplicas (l : L) (n : ℕ) (values : List (Option Value)) : Type 0
   pub many : length nodes ≡ n
   pub fit : (i : ℕ) (m : Box NodeReplica) → At i m nodes → ReplicaFits l m.value
 
-first_replicas : (l : L) (n : ℕ) (values : List (Option Value)) → ((i : ℕ) → i < n → (m : Box NodeReplica) × At i (Some (Replica m)) values × ReplicaFits l m.value) → AreReplicas l n (take n values)
+first_replicas : (l : L) (n : ℕ) (values : List (Option Value))
+    → ((i : ℕ) → i < n → (m : Box NodeReplica) × At i (Some (Replica m)) values × ReplicaFits l m.value)
+    → AreReplicas l n (take n values)
 first_replicas l zero values h = record { nodes = []; values_are = refl; many = refl; fit = λ i m at. absurd (at_none i m at) }
 first_replicas l (suc n) [] h = let f = h 0 (omega arith) in absurd (at_none 0 (Some (Replica f.0)) f.1)
 first_replicas l (suc n) (v ∷ vs) h =
@@ -79,7 +82,9 @@ first_replicas l (suc n) (v ∷ vs) h =
     let r = first_replicas l n vs (λ i lt. h (suc i) (omega (arith, lt))) in
     record { nodes = f.0 ∷ r.nodes; values_are = λ i. some-injective v (Some (Replica f.0)) f.1 i ∷ r.values_are i; many = ap suc r.many; fit = by f.0 f.2 r.nodes r.fit }
   where
-    by : (m : Box NodeReplica) → ReplicaFits l m.value → (ms : List (Box NodeReplica)) → ((i : ℕ) (x : Box NodeReplica) → At i x ms → ReplicaFits l x.value) → (i : ℕ) (x : Box NodeReplica) → At i x (m ∷ ms) → ReplicaFits l x.value
+    by : (m : Box NodeReplica) → ReplicaFits l m.value → (ms : List (Box NodeReplica))
+        → ((i : ℕ) (x : Box NodeReplica) → At i x ms → ReplicaFits l x.value) → (i : ℕ) (x : Box NodeReplica)
+        → At i x (m ∷ ms) → ReplicaFits l x.value
     by m first ms rest zero x at = subst (λ (z : Box NodeReplica). ReplicaFits l z.value) (some-injective m x at) first
     by m first ms rest (suc i) x at = rest i x at
 
@@ -93,7 +98,9 @@ pub record IsLeft (l : L) (n : ℕ) (values : List (Option Value)) : Type 0 wher
   pub log_sizes : HasLogSizes l.config l.catalogue log.value
   pub fit : (i : ℕ) (m : Box NodeReplica) → At i m nodes → ReplicaFits l m.value
 
-left : (l : L) (ns : List SessionNote) (values : List (Option Value)) → length values ≡ 1 + l.config.nodes + l.config.nodes → AllAgree store_rules l ns values → IsLeft l l.config.nodes (take (suc l.config.nodes) values)
+left : (l : L) (ns : List SessionNote) (values : List (Option Value))
+    → length values ≡ 1 + l.config.nodes + l.config.nodes → AllAgree store_rules l ns values
+    → IsLeft l l.config.nodes (take (suc l.config.nodes) values)
 left l ns [] long all = absurd (none l.config.nodes long)
   where
     none : (n : ℕ) → 0 ≡ 1 + n + n → ⊥
@@ -118,7 +125,8 @@ left l ns (v ∷ vs) long all =
         let n = replica_at l ns i one.0 lt one.2 in
         (n.0, subst (λ z. At i (Some z) vs) n.1 one.1, n.2)
 
-pub is_left : (l : L) (ns : List SessionNote) (values : List (Option Value)) (n : ℕ) → l.config.nodes ≡ n → length values ≡ 1 + n + n → AllAgree store_rules l ns values → IsLeft l n (take (1 + n) values)
+pub is_left : (l : L) (ns : List SessionNote) (values : List (Option Value)) (n : ℕ) → l.config.nodes ≡ n
+    → length values ≡ 1 + n + n → AllAgree store_rules l ns values → IsLeft l n (take (1 + n) values)
 is_left l ns values n same long all = subst (λ z. IsLeft l z (take (1 + z) values)) same (subst (λ z. IsLeft l l.config.nodes (take z values)) (one_more l.config.nodes) (left l ns values (subst (λ z. length values ≡ 1 + z + z) (sym same) long) all))
   where
     one_more : (n : ℕ) → suc n ≡ 1 + n
@@ -133,7 +141,8 @@ many_seen : (ms : List (Box NodeReplica)) → length (replicas_in (replica_slots
 many_seen [] = refl
 many_seen (m ∷ ms) = ap suc (many_seen ms)
 
-seen_is : (ms : List (Box NodeReplica)) (i : ℕ) (r : ReplicaView) → At i r (replicas_in (replica_slots ms)) → (m : Box NodeReplica) × At i m ms × (m.value.replica ≡ r)
+seen_is : (ms : List (Box NodeReplica)) (i : ℕ) (r : ReplicaView) → At i r (replicas_in (replica_slots ms))
+    → (m : Box NodeReplica) × At i m ms × (m.value.replica ≡ r)
 seen_is [] i r at = absurd (at_none i r at)
 seen_is (m ∷ ms) zero r at = (m, refl, some-injective m.value.replica r at)
 seen_is (m ∷ ms) (suc i) r at = seen_is ms i r at
@@ -166,7 +175,8 @@ module _ (store : StoreView) (sessions : List SessionView) (view : List SessionK
   pub catalogue_is : l.catalogue ≡ store.catalogue
   catalogue_is = let s = at_there sessions 0 some in sym (mine 0 s.0 s.1).0.catalogue ∙ (own 0 s.0 s.1).catalogue
 
-  pub left_of : length slots ≡ 1 + store.config.nodes + store.config.nodes → IsLeft l store.config.nodes (take (1 + store.config.nodes) slots)
+  pub left_of : length slots ≡ 1 + store.config.nodes + store.config.nodes
+      → IsLeft l store.config.nodes (take (1 + store.config.nodes) slots)
   left_of long = is_left l a.1 slots store.config.nodes (ap (λ (z : Sizes). z.nodes) config_is) long a.5
 
   is_back : (c : ℕ) → c < length opened.notes → (j : ℕ) × (s : SessionView) × At j s sessions × (s.session ≡ c)
@@ -175,7 +185,8 @@ module _ (store : StoreView) (sessions : List SessionView) (view : List SessionK
       let b = back_is sessions q.0 q.1 (subst (λ z. At q.0 q.1 z) known q.2) in
       (b.0, b.1, b.2, sym (ap (λ (z : SessionKnown). z.session) b.3) ∙ q.3)
 
-  author_of : (i : ℕ) (r : Record) → At i r l.history → (j : ℕ) × (s : SessionView) × At j s sessions × (r.author ≡ s.session)
+  author_of : (i : ℕ) (r : Record) → At i r l.history
+      → (j : ℕ) × (s : SessionView) × At j s sessions × (r.author ≡ s.session)
   author_of i r at =
       let low = (ends store_meaning l a.1 a.2).1 i r at in
       let all = a.3 in
@@ -185,7 +196,8 @@ module _ (store : StoreView) (sessions : List SessionView) (view : List SessionK
   well : IsWellFormed store_meaning l
   well = record { allowed = a.2.allowed; completed = a.2.completed; limit = a.2.limit }
 
-  pub log_for : (values : List (Option Value)) → IsLeft l store.config.nodes values → IsLogFor store.catalogue (log_in values)
+  pub log_for : (values : List (Option Value)) → IsLeft l store.config.nodes values
+      → IsLogFor store.catalogue (log_in values)
   log_for values p =
       subst (λ z. IsLogFor z (log_in values)) catalogue_is
       (subst (λ z. IsLogFor l.catalogue (log_in z)) (sym p.values_are) (is_log_for l p.log.value p.log_is well p.log_sizes.2))
@@ -193,7 +205,9 @@ module _ (store : StoreView) (sessions : List SessionView) (view : List SessionK
   known_by : (j : ℕ) (s : SessionView) → At j s sessions → (i : ℕ) × At i (known_of s) view
   known_by j s at = let h = back_has sessions j s at in (h.0, subst (λ z. At h.0 (known_of s) z) (sym known) h.1)
 
-  pub is_closed : opened ≡ store_opening (record { config = store.config; catalogue = store.catalogue }) → (values : List (Option Value)) → IsLeft l store.config.nodes values → IsClosed store sessions (closed_view store.catalogue values)
+  pub is_closed : opened ≡ store_opening (record { config = store.config; catalogue = store.catalogue })
+      → (values : List (Option Value)) → IsLeft l store.config.nodes values
+      → IsClosed store sessions (closed_view store.catalogue values)
   is_closed opens values p = subst (λ z. IsClosed store sessions (closed_view store.catalogue z)) (sym p.values_are) (record {
     progress = l;
     of = (config_is, catalogue_is);

@@ -19,7 +19,8 @@ pub record Filled (shapes : List Shape) (read : Result Checked InstallRefusal) (
   pub was_read : read ≡ Ok program
   pub first : slice_get room.programs 0 ≡ Some program
 
-pub filled : (shapes : List Shape) (places long : ℕ) (read : Result Checked InstallRefusal) (room : InstalledView) → IsOk read → room ≡ after_install read (no_programs shapes places long) → Filled shapes read room
+pub filled : (shapes : List Shape) (places long : ℕ) (read : Result Checked InstallRefusal) (room : InstalledView)
+    → IsOk read → room ≡ after_install read (no_programs shapes places long) → Filled shapes read room
 filled shapes places long (Ok c) room ok is = record { program = c; was_read = refl; first = ap (λ (r : InstalledView). slice_get r.programs 0) is }
 filled shapes places long (Err e) room ok is = absurd (false≢true ok)
 
@@ -31,5 +32,6 @@ module _ (shapes : List Shape) (long maps : ℕ) (new : NewProgram) (few : lengt
   by_size b = cond b (reading_within maps (installed_program shapes new.mode new.arg_len new.bytes)) (Some TooLarge)
 
   -- of a program that was read and is accepted, and of one that is not
-  pub refused_within : (c : Checked) → installed_program shapes new.mode new.arg_len new.bytes ≡ Ok c → within_refusal shapes long maps new ≡ outside_refusal maps c.program
+  pub refused_within : (c : Checked) → installed_program shapes new.mode new.arg_len new.bytes ≡ Ok c
+      → within_refusal shapes long maps new ≡ outside_refusal maps c.program
   refused_within c is = ap by_size small ∙ ap (reading_within maps) is

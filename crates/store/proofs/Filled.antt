@@ -23,7 +23,8 @@ pub record Grown (old : List (Option Value)) (n : ℕ) (P : ℕ → Value → Ty
   pub kept : AreKept old values
   pub filled : AreFilled (length old) n P values
 
-pub grown : (old values new : List (Option Value)) (n : ℕ) (v : Value) (P : ℕ → Value → Type 0) → new ≡ values ++ Some v ∷ [] → Grown old n P values → P n v → Grown old (n + 1) P new
+pub grown : (old values new : List (Option Value)) (n : ℕ) (v : Value) (P : ℕ → Value → Type 0)
+    → new ≡ values ++ Some v ∷ [] → Grown old n P values → P n v → Grown old (n + 1) P new
 grown old values new n v P is g p = subst (λ z. Grown old (n + 1) P z) (sym is) (record { count = longer; kept = λ q a at. at_front values (Some v ∷ []) q a (g.kept q a at); filled = filled })
   where
     longer : length (values ++ Some v ∷ []) ≡ length old + (n + 1)
@@ -43,9 +44,13 @@ grown old values new n v P is g p = subst (λ z. Grown old (n + 1) P z) (sym is)
 
 -- ---- all values
 
-pub shelved : (config : Sizes) (c : CatalogueView) (none first second third : List (Option Value)) (log : Value) → none ≡ [] → first ≡ none ++ Some log ∷ [] → IsOpenedLog c config.window config.limit log
-    → length second ≡ length first + config.nodes → AreKept first second → AreFilled (length first) config.nodes (λ i v. IsOpenedReplica c config.window v) second
-    → length third ≡ length second + config.nodes → AreKept second third → AreFilled (length second) config.nodes (λ i v. IsOpenedDesk config.slots i v) third → AreShelved config c third
+pub shelved : (config : Sizes) (c : CatalogueView) (none first second third : List (Option Value)) (log : Value)
+    → none ≡ [] → first ≡ none ++ Some log ∷ [] → IsOpenedLog c config.window config.limit log
+    → length second ≡ length first + config.nodes → AreKept first second
+    → AreFilled (length first) config.nodes (λ i v. IsOpenedReplica c config.window v) second
+    → length third ≡ length second + config.nodes → AreKept second third
+    → AreFilled (length second) config.nodes (λ i v. IsOpenedDesk config.slots i v) third
+    → AreShelved config c third
 shelved config c none first second third log empty is opened long kept replicas longer kept2 desks = record {
   count = omega (arith, one, long, longer);
   log = (log, kept2 0 (Some log) (kept 0 (Some log) (subst (λ z. At 0 (Some log) z) (sym alone) refl)), opened);
@@ -76,7 +81,9 @@ desk_opens config c node (Replica n) lt is = absurd is
 one_more : (i : ℕ) → 1 + i ≡ suc i
 one_more i = omega arith
 
-pub places_agree : (config : Sizes) (c : CatalogueView) (values : List (Option Value)) → IsCatalogue c → AreShelved config c values → AllAgree store_rules (first_progress config c) (replicate (sessions_of config) fresh_note) values
+pub places_agree : (config : Sizes) (c : CatalogueView) (values : List (Option Value)) → IsCatalogue c
+    → AreShelved config c values
+    → AllAgree store_rules (first_progress config c) (replicate (sessions_of config) fresh_note) values
 places_agree config c values whole s p lt = by_place p lt (cases_lt p 1) (cases_lt p (1 + config.nodes))
   where
     by_place : (p : ℕ) → p < length values → (p < 1) ⊎ (1 ≤ p) → (p < 1 + config.nodes) ⊎ (1 + config.nodes ≤ p)

@@ -22,7 +22,8 @@ K = SessionKnown
 
 -- ---- by the last one
 
-pub is_last : (ms : List Member) (caller : Caller) (q : Member) → length ms < 16 → At (length ms - 1) q ms → q.caller.node ≡ caller.node → q.caller.slot < caller.slot → Follows ms caller
+pub is_last : (ms : List Member) (caller : Caller) (q : Member) → length ms < 16 → At (length ms - 1) q ms
+    → q.caller.node ≡ caller.node → q.caller.slot < caller.slot → Follows ms caller
 is_last ms caller q few at node slot = record {
   room = few;
   last = λ m there. let e = at_one ms (length ms - 1) m q there at in (ap (λ (z : Member). z.caller.node) e ∙ node, subst (λ (z : Member). z.caller.slot < caller.slot) (sym e) slot);
@@ -52,11 +53,14 @@ module _ (store : StoreView) (ms : List Member) (rooms : List InstalledView) (jo
         let f = follows.last q at in
         less (m.caller.node * store.config.slots) (a.own ∙ ap (λ z. session store.config z q.caller.slot) f.0) b.own f.1
       where
-        less : (base : ℕ) → (session_view q.seat).session ≡ base + q.caller.slot → (session_view m.seat).session ≡ base + m.caller.slot → q.caller.slot < m.caller.slot → (session_view q.seat).session < (session_view m.seat).session
+        less : (base : ℕ) → (session_view q.seat).session ≡ base + q.caller.slot
+            → (session_view m.seat).session ≡ base + m.caller.slot → q.caller.slot < m.caller.slot
+            → (session_view q.seat).session < (session_view m.seat).session
         less base a b lt = omega (arith, a, b, lt)
 
     -- and so is each other one
-    all_below : (j : ℕ) (p : Member) (f : K) → At j p ms → IsSession p.seat f → f.session < (session_view m.seat).session
+    all_below : (j : ℕ) (p : Member) (f : K) → At j p ms → IsSession p.seat f
+        → f.session < (session_view m.seat).session
     all_below j p f at is =
         let q = last_of j p at in
         let below = at_below ms j p at in
@@ -70,7 +74,8 @@ module _ (store : StoreView) (ms : List Member) (rooms : List InstalledView) (jo
         apart : (a b : ℕ) → a ≤ b → (a < b) ⊎ (a ≡ b)
         apart a b le = ⊎_elim (λ lt. inl lt) (λ not. inr (omega (arith, le, not))) (cases_lt a b)
 
-        here : j ≡ length ms - 1 → (q : Member) → At (length ms - 1) q ms → (session_view q.seat).session < (session_view m.seat).session → f.session < (session_view m.seat).session
+        here : j ≡ length ms - 1 → (q : Member) → At (length ms - 1) q ms
+            → (session_view q.seat).session < (session_view m.seat).session → f.session < (session_view m.seat).session
         here same q there top =
             let e : p ≡ q = at_one ms (length ms - 1) p q (subst (λ z. At z p ms) same at) there in
             let seen = ap (λ (z : SessionView). z.session) (seen_as p.seat f is) in
@@ -89,13 +94,16 @@ module _ (store : StoreView) (ms : List Member) (rooms : List InstalledView) (jo
           ascend = λ i j f g lt a b. ascend i j f g lt a.0 b.0 (at_last ms m i a.0 a.1) (at_last ms m j b.0 b.1) a.2 b.2;
         }
       where
-        near : (i j : ℕ) (p q : Member) → (At i p ms ⊎ ((i ≡ length ms) × (p ≡ m))) → (At j q ms ⊎ ((j ≡ length ms) × (q ≡ m))) → p.caller.node ≡ q.caller.node
+        near : (i j : ℕ) (p q : Member) → (At i p ms ⊎ ((i ≡ length ms) × (p ≡ m)))
+            → (At j q ms ⊎ ((j ≡ length ms) × (q ≡ m))) → p.caller.node ≡ q.caller.node
         near i j p q (inl a) (inl b) = joined.near i j p q a b
         near i j p q (inl a) (inr b) = node_of i p a ∙ ap (λ (z : Member). z.caller.node) (sym b.1)
         near i j p q (inr a) (inl b) = ap (λ (z : Member). z.caller.node) a.1 ∙ sym (node_of j q b)
         near i j p q (inr a) (inr b) = ap (λ (z : Member). z.caller.node) (a.1 ∙ sym b.1)
 
-        ascend : (i j : ℕ) (f g : K) → i < j → (p q : Member) → (At i p ms ⊎ ((i ≡ length ms) × (p ≡ m))) → (At j q ms ⊎ ((j ≡ length ms) × (q ≡ m))) → IsSession p.seat f → IsSession q.seat g → f.session < g.session
+        ascend : (i j : ℕ) (f g : K) → i < j → (p q : Member) → (At i p ms ⊎ ((i ≡ length ms) × (p ≡ m)))
+            → (At j q ms ⊎ ((j ≡ length ms) × (q ≡ m))) → IsSession p.seat f → IsSession q.seat g
+            → f.session < g.session
         ascend i j f g lt p q (inl a) (inl b) x y = joined.ascend i j f g lt (p, a, x) (q, b, y)
         ascend i j f g lt p q (inl a) (inr b) x y =
             let low = all_below i p f a x in
@@ -106,7 +114,8 @@ module _ (store : StoreView) (ms : List Member) (rooms : List InstalledView) (jo
         ascend i j f g lt p q (inr a) (inr b) x y = let e = a.0 in let h = b.0 in absurd (omega (arith, lt, e, h))
 
   -- a session that may follow has such a slot
-  pub may_follow : (s : SessionView) (caller : Caller) → HasSlot store.config s caller → MayFollow store.config (views_of ms) s → Follows ms caller
+  pub may_follow : (s : SessionView) (caller : Caller) → HasSlot store.config s caller
+      → MayFollow store.config (views_of ms) s → Follows ms caller
   may_follow s caller slot may = record {
     room = let room = may.room in let long = length-map ms (λ (z : Member). session_view z.seat) in omega (arith, room, long);
     last = λ q at.
@@ -129,7 +138,8 @@ pub record LastOut (ms : List Member) (rooms : List InstalledView) (m : Member) 
   pub idle : IsIdle m.seat m.caller
   pub has : HasRoom room m.seat
 
-pub last_out : (ms : List Member) (rooms : List InstalledView) (m : Member) (room : InstalledView) → AreJoined (ms ++ m ∷ []) (rooms ++ room ∷ []) → LastOut ms rooms m room
+pub last_out : (ms : List Member) (rooms : List InstalledView) (m : Member) (room : InstalledView)
+    → AreJoined (ms ++ m ∷ []) (rooms ++ room ∷ []) → LastOut ms rooms m room
 last_out ms rooms m room j = record {
   joined = record {
     idle = λ i p at. j.idle i p (at_front ms (m ∷ []) i p at);
@@ -154,7 +164,8 @@ last_out ms rooms m room j = record {
 
 -- ---- by the same slot
 
-pub follows_too : (store : StoreView) (s : SessionView) (a b : Caller) (ms : List Member) → HasSlot store.config s a → HasSlot store.config s b → Follows ms a → Follows ms b
+pub follows_too : (store : StoreView) (s : SessionView) (a b : Caller) (ms : List Member) → HasSlot store.config s a
+    → HasSlot store.config s b → Follows ms a → Follows ms b
 follows_too store s a b ms x y f =
     let e = caller_is store.config.slots a.node b.node a.slot b.slot x.within y.within (sym x.own ∙ y.own) in
     record { room = f.room; last = λ m at. let l = f.last m at in (l.0 ∙ e.0, subst (λ z. m.caller.slot < z) e.1 l.1) }

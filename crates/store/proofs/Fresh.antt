@@ -39,15 +39,18 @@ module _ (config : Sizes) (c : CatalogueView) where
   left_hold_none a (suc n) zero k at = ap (λ (z : SessionKnown). z.held) (sym (some-injective (fresh_known config c a) k at))
   left_hold_none a (suc n) (suc i) k at = left_hold_none (suc a) n i k at
 
-  pub idle_seats : (id : ShelfId) (total a : ℕ) (seat : S) (sessions : List SessionView) → Seated id total a seat sessions → HoldsNone seat.sessions
+  pub idle_seats : (id : ShelfId) (total a : ℕ) (seat : S) (sessions : List SessionView)
+      → Seated id total a seat sessions → HoldsNone seat.sessions
   idle_seats id total a seat sessions s = subst HoldsNone (sym s.seats) (left_hold_none a s.left)
 
   -- another seat is there
-  pub next_seat : (id : ShelfId) (total a : ℕ) (seat : S) (sessions : List SessionView) → a < total → Seated id total a seat sessions
+  pub next_seat : (id : ShelfId) (total a : ℕ) (seat : S) (sessions : List SessionView) → a < total
+      → Seated id total a seat sessions
       → (n : ℕ) × (suc a + n ≡ total) × (seat.sessions ≡ fresh_known config c a ∷ left_from (suc a) n)
   next_seat id total a seat sessions lt s = by s.left s.count s.seats
     where
-      by : (n : ℕ) → a + n ≡ total → seat.sessions ≡ left_from a n → (n : ℕ) × (suc a + n ≡ total) × (seat.sessions ≡ fresh_known config c a ∷ left_from (suc a) n)
+      by : (n : ℕ) → a + n ≡ total → seat.sessions ≡ left_from a n
+          → (n : ℕ) × (suc a + n ≡ total) × (seat.sessions ≡ fresh_known config c a ∷ left_from (suc a) n)
       by zero count is = absurd (omega (arith, count, lt))
       by (suc n) count is = (n, omega (arith, count), is)
 
@@ -55,7 +58,9 @@ module _ (config : Sizes) (c : CatalogueView) where
   inside : (a node slot slots nodes : ℕ) → a ≡ node * slots + slot → a < nodes * slots → node < nodes
   inside a node slot slots nodes is lt = ⊎_elim (λ h. h) (λ (far : nodes ≤ node). let low : nodes * slots ≤ node * slots = mul-le-mul_right slots far in absurd (omega (arith, is, lt, low))) (cases_lt node nodes)
 
-  pub starts_idle : (seat : S) (caller : Caller) (a : ℕ) → seat.sessions ≡ fresh_known config c a ∷ [] → a < sessions_of config → a ≡ caller.node * config.slots + caller.slot → caller.slot < config.slots → IsIdle seat caller
+  pub starts_idle : (seat : S) (caller : Caller) (a : ℕ) → seat.sessions ≡ fresh_known config c a ∷ []
+      → a < sessions_of config → a ≡ caller.node * config.slots + caller.slot → caller.slot < config.slots
+      → IsIdle seat caller
   starts_idle seat caller a is lt own within = record {
     known = fresh_known config c a;
     is = is;
@@ -67,7 +72,8 @@ module _ (config : Sizes) (c : CatalogueView) where
     within = omega arith;
   }
 
-  fresh_more : (id : ShelfId) (a n : ℕ) → fresh_sessions id config c a (suc n) ≡ fresh_sessions id config c a n ++ fresh_session id config c (a + n) ∷ []
+  fresh_more : (id : ShelfId) (a n : ℕ)
+      → fresh_sessions id config c a (suc n) ≡ fresh_sessions id config c a n ++ fresh_session id config c (a + n) ∷ []
   fresh_more id a zero = ap (λ z. fresh_session id config c z ∷ []) (same a)
     where
       same : (a : ℕ) → a ≡ a + 0
@@ -98,10 +104,12 @@ module _ (config : Sizes) (c : CatalogueView) where
       zero_plus : (a : ℕ) → a ≡ 0 + a
       zero_plus a = omega arith
 
-      fresh_view : (own : S) → own.sessions ≡ fresh_known config c a ∷ [] → own.shelf ≡ id → session_view own ≡ fresh_session id config c a
+      fresh_view : (own : S) → own.sessions ≡ fresh_known config c a ∷ [] → own.shelf ≡ id
+          → session_view own ≡ fresh_session id config c a
       fresh_view own known shelf = λ i. session_view (record { shelf = shelf i; sessions = known i })
 
-  pub fresh_of : (store : StoreView) (a n : ℕ) → store.config ≡ config → store.catalogue ≡ c → AreOf store (fresh_sessions store.id config c a n)
+  pub fresh_of : (store : StoreView) (a n : ℕ) → store.config ≡ config → store.catalogue ≡ c
+      → AreOf store (fresh_sessions store.id config c a n)
   fresh_of store a zero is same i s at = absurd (at_none i s at)
   fresh_of store a (suc n) is same zero s at = let e = some-injective (fresh_session store.id config c a) s at in subst (λ (z : SessionView). IsOf store z) e (record { shelf = refl; config = sym is; catalogue = sym same })
   fresh_of store a (suc n) is same (suc i) s at = fresh_of store (suc a) n is same i s at

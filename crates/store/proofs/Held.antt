@@ -22,7 +22,8 @@ seen_whole f none = λ i. record f { held = sym none i }
 abbrev pub HoldNothing : List Member → Type 0
 HoldNothing ms = (j : ℕ) (m : Member) → At j m ms → (k : K) × IsSession m.seat k × (k.held ≡ [])
 
-seen_at : (ms : List Member) (j : ℕ) (m : Member) (k : K) → At j m ms → IsSession m.seat k → k.held ≡ [] → known_at (views_of ms) j ≡ session_at ms j
+seen_at : (ms : List Member) (j : ℕ) (m : Member) (k : K) → At j m ms → IsSession m.seat k → k.held ≡ []
+    → known_at (views_of ms) j ≡ session_at ms j
 seen_at [] j m k at is none = absurd (at_none j m at)
 seen_at (n ∷ ms) zero m k at is none = seen_whole (first_in n.seat.sessions) (ap (λ (z : K). z.held) (ap (λ (z : Member). first_in z.seat.sessions) (some-injective n m at) ∙ ap first_in is) ∙ none)
 seen_at (n ∷ ms) (suc j) m k at is none = seen_at ms j m k at is none

@@ -38,12 +38,14 @@ back_long [] = refl
 back_long (s ∷ ss) = let long = back_long ss in let more = length-append (known_back ss) (known_of s ∷ []) in omega (arith, long, more)
 
 -- each session is among them, and no others are
-pub back_has : (ss : List SessionView) (a : ℕ) (s : SessionView) → At a s ss → (i : ℕ) × At i (known_of s) (known_back ss)
+pub back_has : (ss : List SessionView) (a : ℕ) (s : SessionView) → At a s ss
+    → (i : ℕ) × At i (known_of s) (known_back ss)
 back_has [] a s at = absurd (at_none a s at)
 back_has (t ∷ ss) zero s at = (length (known_back ss), subst (λ (z : SessionView). At (length (known_back ss)) (known_of z) (known_back ss ++ known_of t ∷ [])) (some-injective t s at) (last_place (known_back ss) (known_of t)))
 back_has (t ∷ ss) (suc a) s at = let h = back_has ss a s at in (h.0, at_front (known_back ss) (known_of t ∷ []) h.0 (known_of s) h.1)
 
-pub back_is : (ss : List SessionView) (i : ℕ) (k : SessionKnown) → At i k (known_back ss) → (a : ℕ) × (s : SessionView) × At a s ss × (k ≡ known_of s)
+pub back_is : (ss : List SessionView) (i : ℕ) (k : SessionKnown) → At i k (known_back ss)
+    → (a : ℕ) × (s : SessionView) × At a s ss × (k ≡ known_of s)
 back_is [] i k at = absurd (at_none i k at)
 back_is (s ∷ ss) i k at =
     ⊎_elim (λ h. let t = back_is ss i k h in (suc t.0, t.1, t.2, t.3)) (λ t. (0, s, refl, only (known_of s) k t.0 t.2)) (at_joined (known_back ss) (known_of s ∷ []) i k at)
@@ -59,7 +61,8 @@ pub record Gathered (id : ShelfId) (all rest : List SessionView) (t : S) : Type 
   pub idle : AreIdle popped
 
 -- a session that waits for nothing, by its seat
-idle_is : (t : S) (caller : Caller) (s : SessionView) → t.sessions ≡ known_of s ∷ [] → IsIdle t caller → s.note.pending ≡ None
+idle_is : (t : S) (caller : Caller) (s : SessionView) → t.sessions ≡ known_of s ∷ [] → IsIdle t caller
+    → s.note.pending ≡ None
 idle_is t caller s known i = ap (λ (z : List SessionKnown). pending_in z) (sym known ∙ i.is) ∙ i.pending
   where
     pending_in : List SessionKnown → Option Pending
@@ -70,11 +73,13 @@ idle_more : (s : SessionView) (ss : List SessionView) → s.note.pending ≡ Non
 idle_more s ss first others zero t at = subst (λ (z : SessionView). z.note.pending ≡ None) (some-injective s t at) first
 idle_more s ss first others (suc a) t at = others a t at
 
-pub gathers_first : (id : ShelfId) (all rest : List SessionView) (s : SessionView) (t : S) (caller : Caller) → all ≡ rest ++ s ∷ [] → t.shelf ≡ id → t.sessions ≡ known_of s ∷ [] → IsIdle t caller → Gathered id all rest t
+pub gathers_first : (id : ShelfId) (all rest : List SessionView) (s : SessionView) (t : S) (caller : Caller)
+    → all ≡ rest ++ s ∷ [] → t.shelf ≡ id → t.sessions ≡ known_of s ∷ [] → IsIdle t caller → Gathered id all rest t
 gathers_first id all rest s t caller is shelf known idle =
     record { shelf = shelf; popped = s ∷ []; split = is; joined = known; idle = idle_more s [] (idle_is t caller s known idle) (λ a z at. absurd (at_none a z at)) }
 
-pub gathers_more : (id : ShelfId) (all before rest : List SessionView) (s : SessionView) (t u n : S) (caller : Caller) → Gathered id all before t → before ≡ rest ++ s ∷ [] → u.sessions ≡ known_of s ∷ [] → IsIdle u caller
+pub gathers_more : (id : ShelfId) (all before rest : List SessionView) (s : SessionView) (t u n : S) (caller : Caller)
+    → Gathered id all before t → before ≡ rest ++ s ∷ [] → u.sessions ≡ known_of s ∷ [] → IsIdle u caller
     → n.shelf ≡ t.shelf → n.sessions ≡ t.sessions ++ u.sessions → Gathered id all rest n
 gathers_more id all before rest s t u n caller g is known idle same joined = record {
   shelf = same ∙ g.shelf;
@@ -85,19 +90,22 @@ gathers_more id all before rest s t u n caller g is known idle same joined = rec
 }
 
 -- the session that is taken next is one of the store
-pub next_of : (store : StoreView) (id : ShelfId) (all before rest : List SessionView) (s : SessionView) (t : S) → AreOf store all → Gathered id all before t → before ≡ rest ++ s ∷ [] → s.shelf ≡ store.id
+pub next_of : (store : StoreView) (id : ShelfId) (all before rest : List SessionView) (s : SessionView) (t : S)
+    → AreOf store all → Gathered id all before t → before ≡ rest ++ s ∷ [] → s.shelf ≡ store.id
 next_of store id all before rest s t own g is =
     let at : At (length rest) s before = subst (λ z. At (length rest) s z) (sym is) (last_place rest s) in
     (own (length rest) s (subst (λ z. At (length rest) s z) (sym g.split) (at_front before g.popped (length rest) s at))).shelf
 
-pub first_of : (store : StoreView) (all rest : List SessionView) (s : SessionView) → AreOf store all → all ≡ rest ++ s ∷ [] → s.shelf ≡ store.id
+pub first_of : (store : StoreView) (all rest : List SessionView) (s : SessionView) → AreOf store all
+    → all ≡ rest ++ s ∷ [] → s.shelf ≡ store.id
 first_of store all rest s own is = (own (length rest) s (subst (λ z. At (length rest) s z) (sym is) (last_place rest s))).shelf
 
 pub one_holds_none : (v : List SessionKnown) (s : SessionView) → v ≡ known_of s ∷ [] → HoldsNone v
 one_holds_none v s is a k at = ap (λ (z : SessionKnown). z.held) (only (known_of s) k a (subst (λ z. At a k z) is at))
 
 -- all are joined
-pub all_joined : (id : ShelfId) (all rest : List SessionView) (t : S) → rest ≡ [] → Gathered id all rest t → (t.shelf ≡ id) × (t.sessions ≡ known_back all) × AreIdle all
+pub all_joined : (id : ShelfId) (all rest : List SessionView) (t : S) → rest ≡ [] → Gathered id all rest t
+    → (t.shelf ≡ id) × (t.sessions ≡ known_back all) × AreIdle all
 all_joined id all rest t none g =
     let is : all ≡ g.popped = g.split ∙ ap (λ z. z ++ g.popped) none in
     (g.shelf, g.joined ∙ ap known_back (sym is), subst AreIdle (sym is) g.idle)

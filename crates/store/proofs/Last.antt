@@ -13,7 +13,8 @@ use Rattle.store.specs.Opening.{IsLogFor}
 use Rattle.store_steps.specs.Shelving.{log_value}
 use Rattle.store_steps.proofs.Export.{at_drop}
 
-after_both : (c : CatalogueView) (state : StoreState) (first rest : History) → after store_meaning c state (first ++ rest) ≡ after store_meaning c (after store_meaning c state first) rest
+after_both : (c : CatalogueView) (state : StoreState) (first rest : History)
+    → after store_meaning c state (first ++ rest) ≡ after store_meaning c (after store_meaning c state first) rest
 after_both c state [] rest = refl
 after_both c state (r ∷ rs) rest = after_both c (left_by (store_meaning.update c r.op state) state) rs rest
 

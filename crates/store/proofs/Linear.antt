@@ -1,17 +1,25 @@
 -- What a call adds, by what it tells; and the history of a closed store linearizes what its sessions did.
-use Rattle.std.proofs.Common.{◌≡◌, ◌++◌, List, [], ◌∷◌, append-nil, append_assoc, map, refl, sym, ap, ◌∙◌, subst, Option, Some, None, Result, Ok, Err}
+use Rattle.std.proofs.Common.{◌≡◌, ℕ, zero, suc, ◌≤◌, ◌++◌, length, List, [], ◌∷◌, append-nil, append_assoc, map, refl, sym, ap, ◌∙◌, subst, Option, Some, None, Result, Ok, Err}
 use Rattle.std.specs.Prelude.{MatchOption}
 use Rattle.std.proofs.lemmas.List.{map-append}
 use Rattle.std.proofs.lemmas.List.Elements.{All-weaker}
-use Rattle.ownlock.specs.Seats.{At, own_steps}
+use mathlib.Core.Option.{some-injective}
+use mathlib.Core.Option as kernel
+use Rattle.ownlock.specs.Invariant.{StandsThere}
+use Rattle.ownlock.specs.Runs.{Runs}
+use Rattle.ownlock.specs.Seats.{At, Continues, EndsWithOwn, own_steps}
+use Rattle.ownlock.proofs.Export.{between}
 use Rattle.verifier.specs.declared.refusal.Mode.TheVariants.{Read, Update}
 use Rattle.machine.specs.Soundness.{TypableProgramsRun}
-use Rattle.loader.specs.CatalogueView.{IsCatalogue}
+use Rattle.loader.specs.CatalogueView.{CatalogueView, IsCatalogue}
+use Rattle.oplog.specs.declared.configuration.Sizes.{Sizes}
 use Rattle.oplog.specs.Operations.{Operation}
 use Rattle.combiner.specs.declared.slots.Reply.{Reply}
 use Rattle.combiner.specs.declared.slots.Reply.TheVariants.{Ended, Placed}
 use Rattle.replica.specs.declared.refusals.StoreRefused.{StoreRefused}
+use Rattle.accounts.specs.declared.sessions.Progress.{Progress}
 use Rattle.accounts.specs.Moves.{answered_with, posted_with}
+use Rattle.accounts.proofs.Export.{at_none}
 use Rattle.accounts.specs.Told.{read_with, updated_with}
 use Rattle.readpath.specs.declared.reading.ReadAnswer.{ReadAnswer}
 use Rattle.accounts.specs.declared.sessions.Pending.{Pending}
@@ -19,16 +27,17 @@ use Rattle.accounts.specs.declared.sessions.SessionEvent.TheVariants.{ReadBack a
 use Rattle.accounts.specs.declared.sessions.SessionNote.{SessionNote}
 use Rattle.schedule.specs.Trace.{Back, Call, ReadBack, Trace, Updated, caller}
 use Rattle.store_steps.specs.Asking.{asked_op}
-use Rattle.store_steps.specs.Shelving.{places_of, sessions_of}
+use Rattle.store_steps.specs.Shelving.{places_of, sessions_of, store_opening, store_rules}
 use Rattle.store_steps.specs.Stages.{IsOnItsWay}
+use Rattle.store_steps.specs.Standing.{SessionKnown}
 use Rattle.store_steps.specs.Views.{SessionView, known_of}
 use Rattle.store_laws.specs.Gone.{GoneOn}
-use Rattle.store_laws.specs.RunEvents.{event_of, opening_of, own_trace, trace_of}
+use Rattle.store_laws.specs.RunEvents.{StoreRun, event_of, opening_of, own_trace, trace_of}
 use Rattle.store_laws.proofs.Export.{answers_are_in_run, notes_tell, runs_are_explained, since_begins, trace_goes_on, traces_are_theirs}
 use Rattle.promise.proofs.Export.{explains}
 use Rattle.store.specs.Adding.{ListsAdd, LooksAddNothing, PollsAdd, PostsAdd}
 use Rattle.store.specs.Explained.{ClosesExplained}
-use Rattle.store.specs.Linear.{Adds, AddsAnswer, AddsPost, AddsRead, AddsTry, AddsUpdate, Linearizes, own_events, seen}
+use Rattle.store.specs.Linear.{Adds, AddsAnswer, AddsPost, AddsRead, AddsTry, AddsUpdate, AreExplained, Explained, Linearizes, own_events, seen}
 use Rattle.store.specs.Opening.{ClosedView, IsClosed, setup_of}
 use Rattle.store.specs.PolledPipelines.{IsTold}
 use Rattle.store.specs.Polled.{TellsAsked, TellsCompleted, TellsPost}
@@ -143,7 +152,8 @@ module _ (store : StoreView) (old new : SessionView) (op : Operation) (goes : Se
 -- ---- a read
 
 -- who has asked a read and heard its answer
-pub reads_notes : (old new : SessionView) (op : Operation) (a : ReadAnswer) → new.note ≡ read_with old.note op a.point a.reply
+pub reads_notes : (old new : SessionView) (op : Operation) (a : ReadAnswer)
+    → new.note ≡ read_with old.note op a.point a.reply
     → Notes old new (Call old.session Read op ∷ Back old.session (ReadBack a) ∷ [])
 reads_notes old new op a note = ap (own_trace old.session) note
     ∙ map-append (event_of old.session) old.note.events (ReadCall op ∷ ReadBackNoted a.point a.reply ∷ [])
@@ -152,14 +162,16 @@ module _ (store : StoreView) (old new : SessionView) (op : Operation) (goes : Se
   pub adds_read : (a : ReadAnswer) → new.note ≡ read_with old.note op a.point a.reply → AddsRead old new op (Ok a)
   adds_read a note = adds store old new _ goes (reads_notes old new op a note)
 
-  pub adds_try : (o : Option ReadAnswer) → MatchOption o (new.note ≡ old.note) (λ a. new.note ≡ read_with old.note op a.point a.reply)
+  pub adds_try : (o : Option ReadAnswer)
+      → MatchOption o (new.note ≡ old.note) (λ a. new.note ≡ read_with old.note op a.point a.reply)
       → AddsTry old new op (Ok o)
   adds_try None note = adds_nothing store old new goes note
   adds_try (Some a) note = adds_read a note
 
 -- who goes on with its update until it has the answer
 pub adds_back : (store : StoreView) (old mid new : SessionView) (o : Pending) (reply : Reply)
-    → SessionGoesOn store old new → IsOnItsWay old mid → new.note ≡ answered_with (record mid.note { batch = [] }) o.op reply
+    → SessionGoesOn store old new → IsOnItsWay old mid
+    → new.note ≡ answered_with (record mid.note { batch = [] }) o.op reply
     → Adds old new (Back old.session (Updated reply) ∷ [])
 adds_back store old mid new o reply goes way note = adds store old new _ goes
     (answered_notes old new o reply (note ∙ (λ j. answered_with (way j) o.op reply)))
@@ -198,24 +210,85 @@ polls_add store old new answers result goes told j s t o was now waits = by resu
 
 -- ---- one list of operations
 
-linearizes : TypableProgramsRun → (store : StoreView) (sessions : List SessionView) (closed : ClosedView)
-    → IsCatalogue store.catalogue → (c : IsClosed store sessions closed) → Linearizes store sessions c.progress.history
-linearizes always store sessions closed whole c =
+-- one run of a store's lock, in which these sessions stand
+pub record InOneRun (store : StoreView) (sessions : List SessionView) : Type 0 where
+  pub progress : Progress CatalogueView
+  pub notes : List SessionNote
+  pub run : StoreRun
+  pub leads : Runs store_rules (store_opening (setup_of store)) run progress notes
+  pub within : length progress.history ≤ store.config.limit
+  pub noted : (a : ℕ) (s : SessionView) → At a s sessions → At s.session s.note notes
+  pub goes_on : (a : ℕ) (s : SessionView) → At a s sessions → Continues s.run run
+  pub own : (a : ℕ) (s : SessionView) → At a s sessions → own_steps s.session run ≡ s.steps
+  pub ends : (a : ℕ) (s : SessionView) → At a s sessions → EndsWithOwn (known_of s)
+
+explained_in : TypableProgramsRun → (store : StoreView) (sessions : List SessionView) → IsCatalogue store.catalogue
+    → (c : InOneRun store sessions) → Explained store sessions c.progress.history
+explained_in always store sessions whole c =
     let m = opening_of (setup_of store) in
     let count = sessions_of store.config in
     let places = places_of store.config in
     let explained = runs_are_explained m count places c.run c.progress c.notes c.leads in record {
       trace = trace_of c.run;
       own = λ a s at. notes_tell m count places c.run c.progress c.notes c.leads s.session s.note (c.noted a s at);
-      only = All-weaker _ _ (λ e few. c.all (caller e) few) (trace_of c.run)
-          (traces_are_theirs m count places c.run c.progress c.notes c.leads);
       begins = λ a s at.
           let on = c.goes_on a s at in
           let own = ap (own_steps s.session) (sym on.1) ∙ c.own a s at in
           let more = since_begins s.session on.0 s.run s.steps (c.ends a s at).seen own in
           (more.0, ap trace_of on.1 ∙ more.1, more.2);
       positions = explained.0;
-      explains = explains always m c.progress.history explained.0 (trace_of c.run) whole explained.1;
+      explains = explains always m c.progress.history explained.0 (trace_of c.run) whole explained.1 c.within;
+    }
+
+-- two sessions in a state between two atomic steps
+stands_in : (store : StoreView) (one other : SessionView)
+    → StandsThere store_rules (store_opening (setup_of store)) (known_of one ∷ known_of other ∷ [])
+    → InOneRun store (one ∷ other ∷ [])
+stands_in store one other t = let b = between store_rules (store_opening (setup_of store)) t.0 t.1 in record {
+  progress = b.0;
+  notes = b.1;
+  run = b.10.run;
+  leads = b.10.leads;
+  within = subst (λ (z : Sizes). length b.0.history ≤ z.limit) (sym b.3.config) b.2.limit;
+  noted = λ a s at. (b.7 t.2.0 a view (known_of s) t.2.1 (there a s at)).1;
+  goes_on = λ a s at. b.10.goes_on (known_of s) (t.2.0, a, view, t.2.1, there a s at);
+  own = λ a s at. b.10.own (known_of s) (t.2.0, a, view, t.2.1, there a s at);
+  ends = λ a s at. b.10.ends (known_of s) (t.2.0, a, view, t.2.1, there a s at);
+}
+  where
+    view : List SessionKnown
+    view = known_of one ∷ known_of other ∷ []
+
+    there : (a : ℕ) (s : SessionView) → At a s (one ∷ other ∷ []) → At a (known_of s) view
+    there zero s at = ap (λ z. kernel.some (known_of z)) (some-injective one s at)
+    there (suc zero) s at = ap (λ z. kernel.some (known_of z)) (some-injective other s at)
+    there (suc (suc a)) s at = absurd (at_none a s at)
+
+pub stands_explained : TypableProgramsRun → (store : StoreView) (one other : SessionView) → IsCatalogue store.catalogue
+    → StandsThere store_rules (store_opening (setup_of store)) (known_of one ∷ known_of other ∷ [])
+    → AreExplained store (one ∷ other ∷ [])
+stands_explained always store one other whole t =
+    let c = stands_in store one other t in (c.progress.history, explained_in always store (one ∷ other ∷ []) whole c)
+
+linearizes : TypableProgramsRun → (store : StoreView) (sessions : List SessionView) (closed : ClosedView)
+    → IsCatalogue store.catalogue → (c : IsClosed store sessions closed) → Linearizes store sessions c.progress.history
+unfolding explained_in
+linearizes always store sessions closed whole c =
+    let count = sessions_of store.config in
+    let places = places_of store.config in record {
+      of = explained_in always store sessions whole (record {
+        progress = c.progress;
+        notes = c.notes;
+        run = c.run;
+        leads = c.leads;
+        within = subst (λ (z : Sizes). length c.progress.history ≤ z.limit) c.of.0 c.well_formed.limit;
+        noted = c.noted;
+        goes_on = c.goes_on;
+        own = c.own;
+        ends = c.ends;
+      });
+      only = All-weaker _ _ (λ e few. c.all (caller e) few) (trace_of c.run)
+          (traces_are_theirs (opening_of (setup_of store)) count places c.run c.progress c.notes c.leads);
     }
 
 pub closes_explained : TypableProgramsRun → (store : StoreView) (sessions : List SessionView) (closed : ClosedView)

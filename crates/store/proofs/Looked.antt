@@ -45,7 +45,8 @@ lent_to P x y e h = subst P e h
 pub lent_both : {A : Type 0} (P : A → A → Type 0) (x y z w : A) → x ≡ y → z ≡ w → P x z → P y w
 lent_both P x y z w e f h = subst (P y) f (subst (λ a. P a z) e h)
 
-pub idle_seen : (h : Heard) (old new : StoreSeat) (caller : Caller) (i : IsIdle old caller) (m : SessionKnown) → IsSession new m → (point : ℕ) → HasSeen h i.known m point → LooksBy i.known m point → StaysIdle old new caller
+pub idle_seen : (h : Heard) (old new : StoreSeat) (caller : Caller) (i : IsIdle old caller) (m : SessionKnown)
+    → IsSession new m → (point : ℕ) → HasSeen h i.known m point → LooksBy i.known m point → StaysIdle old new caller
 idle_seen h old new caller i m is point r by =
     stays_with old new caller i m is (looked_with h.asked point h.reply) (rests h.asked) r.session r.held r.note r.extends r.well_formed (gone_did by.did)
   where
@@ -54,29 +55,37 @@ idle_seen h old new caller i m is point r by =
     rests (Some op) n unread = (refl, refl, refl, refl)
 
 -- and what it notes
-pub noted_seen : (h : Heard) (old new : StoreSeat) (caller : Caller) (i : IsIdle old caller) (m : SessionKnown) → IsSession new m → (point : ℕ) → HasSeen h i.known m point → (was : SessionView) → session_view old ≡ was
+pub noted_seen : (h : Heard) (old new : StoreSeat) (caller : Caller) (i : IsIdle old caller) (m : SessionKnown)
+    → IsSession new m → (point : ℕ) → HasSeen h i.known m point → (was : SessionView) → session_view old ≡ was
     → (session_view new).note ≡ looked_with h.asked point h.reply was.note
 noted_seen h old new caller i m is point r was seen =
     both old new i.known m i.is is (λ x y. y.note ≡ looked_with h.asked point h.reply x.note) r.note ∙ ap (λ (z : SessionView). looked_with h.asked point h.reply z.note) seen
 
 -- a session that kept its note has it still
-pub kept_note : (old new : StoreSeat) (k m : SessionKnown) → IsSession old k → IsSession new m → m.note ≡ k.note → (was : SessionView) → session_view old ≡ was → (session_view new).note ≡ was.note
+pub kept_note : (old new : StoreSeat) (k m : SessionKnown) → IsSession old k → IsSession new m → m.note ≡ k.note
+    → (was : SessionView) → session_view old ≡ was → (session_view new).note ≡ was.note
 kept_note old new k m is now same was seen = both old new k m is now (λ x y. y.note ≡ x.note) same ∙ ap (λ (z : SessionView). z.note) seen
 
 -- so is one that has measured
-pub idle_measured : (old new : StoreSeat) (caller : Caller) (i : IsIdle old caller) (m : SessionKnown) → IsSession new m → (stats : Stats) → HasMeasured stats i.known m → StaysIdle old new caller
+pub idle_measured : (old new : StoreSeat) (caller : Caller) (i : IsIdle old caller) (m : SessionKnown)
+    → IsSession new m → (stats : Stats) → HasMeasured stats i.known m → StaysIdle old new caller
 idle_measured old new caller i m is stats h = stays_idle old new caller i m is h.session h.held h.note h.extends h.well_formed (gone_did h.by.did)
 
 -- and one that found a place held
-pub idle_still : (old new : StoreSeat) (caller : Caller) (i : IsIdle old caller) (m : SessionKnown) → IsSession new m → IsStill i.known m → StaysIdle old new caller
+pub idle_still : (old new : StoreSeat) (caller : Caller) (i : IsIdle old caller) (m : SessionKnown) → IsSession new m
+    → IsStill i.known m → StaysIdle old new caller
 idle_still old new caller i m is s = stays_idle old new caller i m is s.session s.held s.note s.extends (s.well_formed i.well_formed) (gone_did s.did)
 
 -- its user sees it go on
-pub idle_goes_on : (store : StoreView) (old new : StoreSeat) (caller : Caller) (was : SessionView) → session_view old ≡ was → IsOf store was → new.shelf ≡ old.shelf → StaysIdle old new caller → SessionGoesOn store was (session_view new)
+pub idle_goes_on : (store : StoreView) (old new : StoreSeat) (caller : Caller) (was : SessionView)
+    → session_view old ≡ was → IsOf store was → new.shelf ≡ old.shelf → StaysIdle old new caller
+    → SessionGoesOn store was (session_view new)
 idle_goes_on store old new caller was seen own shelf idle = goes_on store (session_view old) was (session_view new) seen own shelf idle.session idle.extends idle.well_formed idle.gone
 
 -- so is one that has tried to measure
-pub idle_tried : (old new : StoreSeat) (caller : Caller) (i : IsIdle old caller) (r : Result Stats ℕ) → IfErr r (λ _. Learns old new IsStill) → IfOk r (λ stats. Learns old new (HasMeasured stats)) → StaysIdle old new caller
+pub idle_tried : (old new : StoreSeat) (caller : Caller) (i : IsIdle old caller) (r : Result Stats ℕ)
+    → IfErr r (λ _. Learns old new IsStill) → IfOk r (λ stats. Learns old new (HasMeasured stats))
+    → StaysIdle old new caller
 idle_tried old new caller i (Ok stats) still measured = let t = measured i.known i.is in idle_measured old new caller i t.0 t.1 stats t.2
 idle_tried old new caller i (Err place) still measured = let t = still i.known i.is in idle_still old new caller i t.0 t.1 t.2
 
@@ -91,14 +100,17 @@ module _ (s : StoreSeat) (caller : Caller) (b : BatchView) (kept : RepliesView) 
   pub idle_now : IsIdle s caller
   idle_now = idle_at s caller b kept stage v (ap (λ (z : SessionView). z.note.pending) seen ∙ none)
 
-  pub may_look : (shared : Shared) (store : StoreView) → IsOf store was → shared.shelf.now.places ≡ 1 + store.config.nodes + store.config.nodes → (shared.nodes ≡ store.config.nodes) × (store.config.nodes ≤ MAX_NODES)
+  pub may_look : (shared : Shared) (store : StoreView) → IsOf store was
+      → shared.shelf.now.places ≡ 1 + store.config.nodes + store.config.nodes
+      → (shared.nodes ≡ store.config.nodes) × (store.config.nodes ≤ MAX_NODES)
       → shared.catalogue.now ≡ store.catalogue → Knows s (λ k. IsFree caller k × IsOn shared k × IsAtRest k.note)
   may_look shared store own places nodes same =
       let i = idle_now in
       let on = on_at s caller b kept shared store stage v (subst (λ z. IsOf store z) (sym seen) own) places nodes same in
       (i.known, i.is, (i.free, on_known shared s i.known i.is on, (i.pending, i.unread)))
 
-  pub has_looked : (store : StoreView) (new : StoreSeat) (room : InstalledView) → IsOf store was → new.shelf ≡ s.shelf → HasRoom room s → StaysIdle s new caller → HasLooked store was new caller b kept stage room
+  pub has_looked : (store : StoreView) (new : StoreSeat) (room : InstalledView) → IsOf store was → new.shelf ≡ s.shelf
+      → HasRoom room s → StaysIdle s new caller → HasLooked store was new caller b kept stage room
   has_looked store new room own same has idle = record {
     session = idle_goes_on store s new caller was seen own same idle;
     polled =

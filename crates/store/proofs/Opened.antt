@@ -12,12 +12,14 @@ use Rattle.store_steps.specs.declared.values.Value.{Value}
 use Rattle.store_steps.specs.declared.values.Value.TheVariants.{Log, Replica, Desk}
 use Rattle.store_steps.specs.Shelving.{view_of, IsSized, HasLogSizes, log_value, replica_value, resting_hand, IsOpenedLog, IsOpenedReplica}
 
-pub log_opens : (config : Sizes) (c : CatalogueView) → IsCatalogue c → (v : Value) → IsOpenedLog c config.window config.limit v → (view_of v ≡ TheLog (first_log store_meaning c)) × IsSized config c v
+pub log_opens : (config : Sizes) (c : CatalogueView) → IsCatalogue c → (v : Value)
+    → IsOpenedLog c config.window config.limit v → (view_of v ≡ TheLog (first_log store_meaning c)) × IsSized config c v
 log_opens config c whole (Log g) e = (ap (λ z. TheLog (log_value z)) e, subst (λ z. HasLogSizes config c z) (sym e) (refl, refl, state_sizes (opening_is_state c whole), refl))
 log_opens config c whole (Replica n) e = absurd e
 log_opens config c whole (Desk n) e = absurd e
 
-pub replica_opens : (config : Sizes) (c : CatalogueView) → IsCatalogue c → (v : Value) → IsOpenedReplica c config.window v → (view_of v ≡ TheReplica (first_replica store_meaning c)) × IsSized config c v
+pub replica_opens : (config : Sizes) (c : CatalogueView) → IsCatalogue c → (v : Value)
+    → IsOpenedReplica c config.window v → (view_of v ≡ TheReplica (first_replica store_meaning c)) × IsSized config c v
 replica_opens config c whole (Log g) e = absurd e
 replica_opens config c whole (Desk g) e = absurd e
 replica_opens config c whole (Replica n) e = (

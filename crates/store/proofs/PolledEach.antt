@@ -69,7 +69,8 @@ module _ (ms : List Member) (rooms : List InstalledView) (posted : ℕ) (b : Bat
   polled_of : (j : ℕ) (m : Member) → j < posted → At j m ms → IsPolled m.seat m.caller b kept (stage_at stage j)
   polled_of j m lt at = (l.out (omega (arith, lt))).polled j m (at_first posted ms j m lt at)
 
-  waits_at : (s : S) (caller : Caller) (stage : EachStage) (j : ℕ) → IsPolled s caller b kept (stage_at stage j) → (o : Pending) × ((session_view s).note.pending ≡ Some o)
+  waits_at : (s : S) (caller : Caller) (stage : EachStage) (j : ℕ) → IsPolled s caller b kept (stage_at stage j)
+      → (o : Pending) × ((session_view s).note.pending ≡ Some o)
   waits_at s caller stage (suc j) v = (v.1, ap (λ (z : SessionView). z.note.pending) (seen_as s v.0 v.2.is) ∙ v.2.pending)
   waits_at s caller Claimed zero v = (v.1, ap (λ (z : SessionView). z.note.pending) (seen_as s v.0 v.2.is) ∙ v.2.pending)
   waits_at s caller Ready zero v = (v.1, ap (λ (z : SessionView). z.note.pending) (seen_as s v.0 v.2.is) ∙ v.2.pending)
@@ -151,8 +152,11 @@ pub record GoesOnAt (store : StoreView) (m o : Member) : Type 0 where
   pub shapes : (r : InstalledView) → HasRoom r m.seat → HasRoom r o.seat
   pub goes_on : SessionGoesOn store (session_view m.seat) (session_view o.seat)
 
-on_by : (store : StoreView) (m o : Member) → spot_of o ≡ spot_of m → IsOf store (session_view m.seat) → (session_view o.seat).session ≡ (session_view m.seat).session → Extends (session_view m.seat).progress (session_view o.seat).progress
-    → IsWellFormed store_meaning (session_view o.seat).progress → GoneOn (known_of (session_view m.seat)) (known_of (session_view o.seat)) → GoesOnAt store m o
+on_by : (store : StoreView) (m o : Member) → spot_of o ≡ spot_of m → IsOf store (session_view m.seat)
+    → (session_view o.seat).session ≡ (session_view m.seat).session
+    → Extends (session_view m.seat).progress (session_view o.seat).progress
+    → IsWellFormed store_meaning (session_view o.seat).progress
+    → GoneOn (known_of (session_view m.seat)) (known_of (session_view o.seat)) → GoesOnAt store m o
 on_by store m o spot own session extends well gone = record {
   caller = ap (λ z. z.0) spot;
   session = session;
@@ -174,10 +178,13 @@ module _ (store : StoreView) (m o : Member) (i : IsIdle m.seat m.caller) (f : K)
 
 -- it has gone on with its update
 module _ (m o : Member) (c : BatchView) (now : RepliesView) (next : Stage) where
-  pub waits_seen : (o1 : Pending) → HasGone DeedsGo m.seat o.seat m.caller c now next Busy → IsTold (session_view m.seat) (session_view o.seat) o1 None
+  pub waits_seen : (o1 : Pending) → HasGone DeedsGo m.seat o.seat m.caller c now next Busy
+      → IsTold (session_view m.seat) (session_view o.seat) o1 None
   waits_seen o1 g = (g.done, g.goes)
 
-  pub told_seen : (o1 : Pending) (reply : Reply) → (session_view m.seat).note.pending ≡ Some o1 → HasGone DeedsGo m.seat o.seat m.caller c now next (Collected reply) → IsTold (session_view m.seat) (session_view o.seat) o1 (Some (said reply))
+  pub told_seen : (o1 : Pending) (reply : Reply) → (session_view m.seat).note.pending ≡ Some o1
+      → HasGone DeedsGo m.seat o.seat m.caller c now next (Collected reply)
+      → IsTold (session_view m.seat) (session_view o.seat) o1 (Some (said reply))
   told_seen o1 reply is g = let e = same_Some g.request o1 (sym g.waited ∙ is) in ((reply, refl, subst (λ z. TellsDoneOf z) e g.done), (reply, refl, g.goes))
     where
       TellsDoneOf : Pending → Type 0
@@ -191,7 +198,8 @@ module _ (store : StoreView) (ms : List Member) (rooms : List InstalledView) (po
   abbrev pub WasFirst : ℕ → Member → Member → Type 0
   WasFirst j m o = (j < n) × At j m (take n ms) × At j o new
 
-  pub listed_origin : (j : ℕ) (o : Member) → At j o all → (m : Member) × At j m ms × (WasFirst j m o ⊎ ((n ≤ j) × (o ≡ m)))
+  pub listed_origin : (j : ℕ) (o : Member) → At j o all
+      → (m : Member) × At j m ms × (WasFirst j m o ⊎ ((n ≤ j) × (o ≡ m)))
   listed_origin j o at = ⊎_elim
       (λ h. let w = was_at (take n ms) new sets.same j o h.1 in (w.0, at_taken n ms j w.0 w.1, inl (h.0, w.1, h.1)))
       (λ h. (o, h.1, inr (h.0, refl)))
@@ -203,7 +211,8 @@ module _ (store : StoreView) (ms : List Member) (rooms : List InstalledView) (po
   pub listed_first : take n all ≡ new
   listed_first = ap (take n) sets.is ∙ (ap (λ k. take k (new ++ drop n ms)) (sym sets.long) ∙ take-append_seam new (drop n ms))
 
-  on_of : (j : ℕ) (m o : Member) → (WasFirst j m o ⊎ ((n ≤ j) × (o ≡ m))) → (o.caller ≡ m.caller) × ((session_view o.seat).session ≡ (session_view m.seat).session)
+  on_of : (j : ℕ) (m o : Member) → (WasFirst j m o ⊎ ((n ≤ j) × (o ≡ m)))
+      → (o.caller ≡ m.caller) × ((session_view o.seat).session ≡ (session_view m.seat).session)
   on_of j m o w = ⊎_elim (λ a. let g = each j m o a.1 a.2 in (g.caller, g.session)) (λ e. (ap (λ (z : Member). z.caller) e.1, ap (λ (z : Member). (session_view z.seat).session) e.1)) w
 
   known_of_member : (j : ℕ) (m : Member) → At j m ms → (k : K) × IsSession m.seat k
@@ -212,7 +221,9 @@ module _ (store : StoreView) (ms : List Member) (rooms : List InstalledView) (po
       (λ not. let i = l.idle j m (omega (arith, not)) at in (i.known, i.is))
       (cases_lt j posted)
 
-  pub still_listed : (count : ℕ) (c : BatchView) (now : RepliesView) (next : EachStage) → count ≤ length ms → (0 < count → AreOut (take count all) c now next) → ((j : ℕ) (o : Member) → count ≤ j → At j o all → IsIdle o.seat o.caller) → AreListed all rooms count c now next
+  pub still_listed : (count : ℕ) (c : BatchView) (now : RepliesView) (next : EachStage) → count ≤ length ms
+      → (0 < count → AreOut (take count all) c now next)
+      → ((j : ℕ) (o : Member) → count ≤ j → At j o all → IsIdle o.seat o.caller) → AreListed all rooms count c now next
   still_listed count c now next within out idle = record {
     out = out;
     idle = idle;
@@ -279,7 +290,8 @@ module _ (store : StoreView) (ms : List Member) (rooms : List InstalledView) (po
     idle_of : (j : ℕ) (m : Member) → At j m (take n ms) → IsIdle m.seat m.caller
     idle_of j m at = l.idle j m (omega (arith, none)) (at_taken n ms j m at)
 
-    look_at : (j : ℕ) (m o : Member) (at : At j m (take n ms)) → At j o new → (f : K) × IsSession o.seat f × HasLooked (idle_of j m at).known f
+    look_at : (j : ℕ) (m o : Member) (at : At j m (take n ms)) → At j o new
+        → (f : K) × IsSession o.seat f × HasLooked (idle_of j m at).known f
     look_at j m o at_m at_o =
         let i = idle_of j m at_m in
         let f = looks j i.known (m, at_m, i.is) in
@@ -290,7 +302,8 @@ module _ (store : StoreView) (ms : List Member) (rooms : List InstalledView) (po
         let f = look_at j m o at_m at_o in
         looked_on store m o (idle_of j m at_m) f.0 f.1 f.2 (spot_at j m o at_m at_o) (mine j m (at_taken n ms j m at_m))
 
-    pub still_looked : AreIdle new → (count : ℕ) → count ≡ 0 → (c : BatchView) (now : RepliesView) (next : EachStage) → AreListed all rooms count c now next
+    pub still_looked : AreIdle new → (count : ℕ) → count ≡ 0 → (c : BatchView) (now : RepliesView) (next : EachStage)
+        → AreListed all rooms count c now next
     still_looked idle count zeroed c now next =
         still_listed store ms rooms posted b kept stage l own n fits all new sets each_looked count c now next (omega (arith, zeroed)) (λ some. absurd (omega (arith, some, zeroed)))
         (λ j o le at.
@@ -308,7 +321,8 @@ module _ (store : StoreView) (ms : List Member) (rooms : List InstalledView) (po
 
   -- none was out, and the first ones have posted
   module _ (none : posted ≡ 0) (calls : List Question) (count : n ≡ length calls) (c : BatchView) (now : RepliesView) (next : EachStage) (begins : BeginsEach (take n ms) new calls c now next) where
-    began : (j : ℕ) (m o : Member) → At j m (take n ms) → At j o new → (q : Question) × At j q calls × HasBegun m.seat o.seat m.caller (asked_op q) c now (stage_at next j)
+    began : (j : ℕ) (m o : Member) → At j m (take n ms) → At j o new
+        → (q : Question) × At j q calls × HasBegun m.seat o.seat m.caller (asked_op q) c now (stage_at next j)
     began j m o at_m at_o =
         let below = at_below new j o at_o in
         let long = sets.long in
@@ -372,7 +386,8 @@ module _ (store : StoreView) (ms : List Member) (rooms : List InstalledView) (po
           (λ e. let far = e.0 in subst (λ (z : Member). IsIdle z.seat z.caller) (sym e.1) (l.idle j w.0 (omega (arith, far, count)) w.1))
           w.2
 
-      pub still_completed : (after : ℕ) → after ≡ 0 → (x : BatchView) (y : RepliesView) (next : EachStage) → AreListed all rooms after x y next
+      pub still_completed : (after : ℕ) → after ≡ 0 → (x : BatchView) (y : RepliesView) (next : EachStage)
+          → AreListed all rooms after x y next
       still_completed after is x y next =
           still_listed store ms rooms posted b kept stage l own n fits all new sets each_completes after x y next (omega (arith, is)) (λ some. absurd (omega (arith, some, is))) (λ j o le at. idle_then j o at)
 

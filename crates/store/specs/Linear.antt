@@ -75,17 +75,26 @@ AddsTry old new op (Err refused) = ⊥
 
 -- ---- one list of operations
 
--- This list of operations explains a trace. In it each of these sessions has its own events, in their order, and nobody
--- else has any. What a session has seen begins it, and has all events of its own.
-pub record Linearizes (store : StoreView) (sessions : List SessionView) (history : History) : Type 0 where
+-- This list of operations explains a trace. In it each of these sessions has its own events, in their order. What one of them had
+-- seen when its last call returned begins it, with all events of its own: whatever is called later comes behind that.
+pub record Explained (store : StoreView) (sessions : List SessionView) (history : History) : Type 0 where
   pub trace : Trace
   pub own : (a : ℕ) (s : SessionView) → At a s sessions → events_of_session s.session trace ≡ own_events s
-  pub only : All (λ e. (a : ℕ) × (s : SessionView) × At a s sessions × (s.session ≡ caller e)) trace
   pub begins : (a : ℕ) (s : SessionView) → At a s sessions
       → (more : Trace) × (trace ≡ seen s ++ more) × (events_of_session s.session more ≡ [])
   pub positions : Positions
   pub explains : Explains store.catalogue store.config.limit history positions trace
 
--- some list does
+-- And nobody else has an event in it.
+pub record Linearizes (store : StoreView) (sessions : List SessionView) (history : History) : Type 0 where
+  pub of : Explained store sessions history
+  pub open of use *
+  pub only : All (λ e. (a : ℕ) × (s : SessionView) × At a s sessions × (s.session ≡ caller e)) trace
+
+-- some list explains so what these sessions, and any others, have called so far
+abbrev pub AreExplained : StoreView → List SessionView → Type 0
+AreExplained store sessions = (history : History) × Explained store sessions history
+
+-- some list does that of all sessions
 abbrev pub AreLinearized : StoreView → List SessionView → Type 0
 AreLinearized store sessions = (history : History) × Linearizes store sessions history

@@ -7,7 +7,7 @@ ghost use Rattle.verifier.specs.declared.refusal.Mode.TheVariants.{Update, Read}
 ghost use Rattle.replica.specs.StoreMeaning.{is_operation};
 ghost use Rattle.replica.specs.declared.refusals.StoreRefused.{StoreRefused};
 ghost use Rattle.replica.specs.Refusals.{early_refusal};
-ghost use Rattle.store.specs.Going.{UpdateGoes};
+ghost use Rattle.store.specs.Going.{UpdateGoes, UpdateHolds};
 ghost use Rattle.accounts.specs.ReadNotes.{looked_with};
 ghost use Rattle.store.specs.Linear.{AddsRead, AddsUpdate, NotesRead};
 ghost use Rattle.store.specs.Sessions.{said};
@@ -61,7 +61,7 @@ pub struct Session {
     pub(crate) seat: Seat<Value>,
     pub(crate) caller: Caller,
     // Room for what it combines, and what it has combined.
-    combining: Room,
+    pub(crate) combining: Room,
     // Room to find out whether a program may be installed.
     pub(crate) room: Installed,
 }
@@ -194,6 +194,7 @@ impl Session {
         ensures answered { TellsUpdate self.old self.new op.now result }
         ensures goes { UpdateGoes self.old self.new op.now result }
         ensures adds { AddsUpdate self.old self.new op.now result }
+        ensures held { at_once ≡ true → UpdateHolds self.old self.new op.now result }
     {
         let shared = store.shared();
         let here = Here {
@@ -214,26 +215,27 @@ impl Session {
         &mut self,
         rt: &R,
         store: &Store,
-        question: Question<'_>,
+        asked: Question<'_>,
         at_once: bool,
     ) -> Result<Answer, StoreRefused>
         requires own { IsOf store.now self.old }
-        requires bytes { AreBytes question.argument.now }
+        requires bytes { AreBytes asked.argument.now }
         ensures session { SessionGoesOn store.now self.old self.new }
-        ensures early { IsRefused (early_refusal store.now.catalogue Update question.entry.program question.entry.argument.now) result (self.new ≡ self.old) }
-        ensures answered { MayUpdate store.now question.entry.program question.entry.argument.now → TellsUpdate self.old self.new (asked_op question.entry) result }
-        ensures goes { MayUpdate store.now question.entry.program question.entry.argument.now → UpdateGoes self.old self.new (asked_op question.entry) result }
-        ensures adds { MayUpdate store.now question.entry.program question.entry.argument.now → AddsUpdate self.old self.new (asked_op question.entry) result }
+        ensures early { IsRefused (early_refusal store.now.catalogue Update asked.entry.program asked.entry.argument.now) result (self.new ≡ self.old) }
+        ensures answered { MayUpdate store.now asked.entry.program asked.entry.argument.now → TellsUpdate self.old self.new (asked_op asked.entry) result }
+        ensures goes { MayUpdate store.now asked.entry.program asked.entry.argument.now → UpdateGoes self.old self.new (asked_op asked.entry) result }
+        ensures adds { MayUpdate store.now asked.entry.program asked.entry.argument.now → AddsUpdate self.old self.new (asked_op asked.entry) result }
+        ensures held { at_once ≡ true → MayUpdate store.now asked.entry.program asked.entry.argument.now → UpdateHolds self.old self.new (asked_op asked.entry) result }
     {
         // This opens the session's invariant for the proof: a refused call uses no other part of the session.
         let _seat = &self.seat;
         check_call(
             store.catalogue(),
             Mode::Update,
-            question.program,
-            question.argument,
+            asked.program,
+            asked.argument,
         )?;
-        let op = OpRef::run(question.program, question.argument);
+        let op = OpRef::run(asked.program, asked.argument);
         self.perform(rt, store, &op, at_once)
     }
 
@@ -316,6 +318,7 @@ impl Session {
         ensures answered { MayUpdate store.now program argument.now → TellsUpdate self.old self.new (op_of program argument.now) result }
         ensures goes { MayUpdate store.now program argument.now → UpdateGoes self.old self.new (op_of program argument.now) result }
         ensures adds { MayUpdate store.now program argument.now → AddsUpdate self.old self.new (op_of program argument.now) result }
+        ensures held { MayUpdate store.now program argument.now → UpdateHolds self.old self.new (op_of program argument.now) result }
     {
         self.call(rt, store, Question { program, argument }, true)
     }

@@ -1,14 +1,14 @@
 // A store of replicas.
 
-ghost use Rattle.std.specs.Prelude.{◌≡◌, ◌≢◌, ◌↔◌, ◌+◌, ◌<◌, ◌≤◌, length, IfOk, IfErr, MatchResult};
+ghost use Rattle.std.specs.Prelude.{◌≡◌, ◌≢◌, ◌↔◌, ◌+◌, ◌<◌, ◌≤◌, [], ◌∷◌, length, IfOk, IfErr, MatchResult};
 ghost use Rattle.oplog.specs.declared.configuration.OpenError.TheVariants.{OtherState, OutOfLimits};
 ghost use Rattle.oplog.specs.declared.configuration.TheConstants.{MAX_NODES};
 ghost use Rattle.loader.specs.CatalogueView.{MayOpenOn, OpensOn, opened_on, with_long_places, with_places};
 ghost use Rattle.oplog.specs.Limits.{sizes_in, AreSizes, IsConfig};
 ghost use Rattle.store_steps.specs.Shelving.{sessions_of};
-ghost use Rattle.store.specs.Sessions.{fresh_sessions};
+ghost use Rattle.store.specs.Sessions.{IsOf, fresh_sessions};
 ghost use Rattle.store.specs.Explained.{ClosesExplained};
-ghost use Rattle.store.specs.Linear.{AreLinearized, AreNew};
+ghost use Rattle.store.specs.Linear.{AreExplained, AreLinearized, AreNew};
 ghost use Rattle.store.specs.Opening.{AreOf, AreIdle, IsClosed, known_back};
 
 use crate::closed::Closed;
@@ -286,8 +286,8 @@ impl Store {
         ))
     }
 
-    /// Ends the store, and gives its log, its catalogue and each node's replica, once all its sessions are back. One history explains all calls and
-    /// answers of its sessions (`explained`). `linear` says it of updates and reads in fewer terms.
+    /// Ends the store, and gives its log, its catalogue and each node's replica, once all its sessions are back. One history explains all updates and
+    /// reads of its sessions (`explained`). `linear` says it in fewer terms.
     ///
     /// # Errors
     ///
@@ -327,6 +327,43 @@ impl Store {
         let mut values = shelf.close(seat);
         values.truncate(1 + setup.config.nodes as usize);
         Ok(Closed::new(setup.catalogue, values))
+    }
+
+    /// For a proof: one list of operations explains all calls and answers so far, and what these two sessions have called and seen stands there as in
+    /// [`close`](Store::close). So who has both, and has called one after the other, knows which came first, while others go on
+    /// ([`calls_in_order`](crate::calls_in_order)). They are different sessions. It reads a word, and changes nothing.
+    ///
+    /// # Examples
+    ///
+    /// ```
+    /// use store::{Config, Store, load_manifest};
+    ///
+    /// let manifest = "map array 8 16\nprogram five update 0 five.hex\n";
+    /// let files = [("five.hex", "b7000000050000009500000000000000")]; // a program that replies 5
+    /// let catalogue = load_manifest(rt.alloc(), manifest, &files)?;
+    /// let config = Config { nodes: 1, slots: 2, window: 16, limit: 100, spare: 0 };
+    /// let (store, mut sessions) = Store::open(rt.alloc(), config, catalogue)?;
+    ///
+    /// let mut one = sessions.remove(0);
+    /// let first = one.update(&rt, &store, 0, &[]);
+    /// let (one, mut other) = store.stand(one, sessions.remove(0));
+    /// let second = other.update(&rt, &store, 0, &[]);
+    /// let (one, other) = store.stand(one, other);
+    /// sessions.push_reserved(one);
+    /// sessions.push_reserved(other);
+    /// let _closed = match store.close(sessions) { Ok(closed) => closed, Err(_) => unreachable!() };
+    /// assert_eq!(rt; (first.map(|a| a.index), second.map(|a| a.index)), (Ok(0), Ok(1)));
+    /// ```
+    pub fn stand(&self, one: Session, other: Session) -> (Session, Session)
+        requires own { IsOf self.now one × IsOf self.now other }
+        ensures same { (result.0 ≡ one) × (result.1 ≡ other) }
+        ensures apart { one.session ≢ other.session }
+        ensures explained { AreExplained self.now (one ∷ other ∷ []) }
+    {
+        machine::laws::typable_programs_run();
+        // This opens the catalogue's invariant for the proof.
+        let _places = self.setup.catalogue.places();
+        one.stand_beside(other, &self.shelf)
     }
 
     // One seat with all these sessions, the last first.

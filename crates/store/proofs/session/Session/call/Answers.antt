@@ -7,6 +7,6 @@ use Rattle.store.proofs.session.Session.call.Goals as goal
 
 pub perform-requires-clause-update : goal.perform-requires-clause-update
 perform-requires-clause-update g c =
-    let none : early_refusal c.args.store.now.catalogue Update c.args.question.program c.args.question.argument.now ≡ None = search rules in
+    let none : early_refusal c.args.store.now.catalogue Update c.args.asked.program c.args.asked.argument.now ≡ None = search rules in
     subst (λ o. is_operation Update c.args.store.now.catalogue o ≡ true) (sym c.run-op.ensures.call)
-    (is_asked Update c.args.store.now.catalogue c.args.question.program c.args.question.argument.now none c.requires.bytes)
+    (is_asked Update c.args.store.now.catalogue c.args.asked.program c.args.asked.argument.now none c.requires.bytes)

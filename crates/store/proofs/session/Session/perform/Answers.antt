@@ -1,10 +1,12 @@
 use Rattle.std.proofs.Common.{◌+◌, ◌≤◌, sym, ap, ◌∙◌, subst, refl}
+use Rattle.std.proofs.lemmas.Bool.{true≢false}
 use Rattle.loader.specs.CatalogueView.{CatalogueView}
 use Rattle.oplog.specs.declared.configuration.Sizes.{Sizes}
 use Rattle.oplog.specs.declared.configuration.TheConstants.{MAX_NODES}
 use Rattle.store.specs.Sessions.{TellsUpdate}
 use Rattle.store_steps.proofs.Export.{goes_seen, seen_as}
 use Rattle.store_steps.specs.Views.{SessionView, session_view}
+use Rattle.store_steps.specs.AtOnce.{UpdatesInHolds}
 use Rattle.store_steps.specs.Updating.{UpdatesBy}
 use Rattle.store.proofs.Gone.{update_goes}
 use Rattle.store.proofs.Linear.{adds_update}
@@ -67,6 +69,11 @@ returns-then-at_once g c =
         c.answer_of.ensures.said,
         by,
       );
+      held = λ yes. (
+        c.ask_at_once-given.result,
+        c.answer_of.ensures.said,
+        goes_seen (λ k f. UpdatesInHolds k f op c.ask_at_once-given.result) c.self.inside.seat seat c.args.self.now k a.after c.self.invariant.0.is c.self.invariant.0.free.held c.self.view_is a.is v.held a.held,
+      );
     }
 
 -- ---- by six
@@ -114,4 +121,5 @@ returns g c =
         c.answer_of-2.ensures.said,
         by,
       );
+      held = λ yes. absurd (true≢false (sym yes ∙ c.if-at_once.false));
     }
