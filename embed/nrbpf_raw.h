@@ -35,8 +35,7 @@ enum {
     NRBPF_RAW_H3,           /* a read of any kind, a snapshot, or a detach, while an update is posted */
     NRBPF_RAW_H4,           /* a text is not UTF-8: the manifest, a file, its name, the name of a program, or the text of a state */
     NRBPF_RAW_H5,           /* a word is no call's: `call` above 5, `mode` above 1; read_each: more than 16 questions, or another number of replies */
-    NRBPF_RAW_H6,           /* detach: the session's place is not empty here; join: the session does not fit into the lane; close_into: a part of the store is
-                             * elsewhere, and it is ended */
+    NRBPF_RAW_H6,           /* join: the session does not fit into the lane; close_into: a part of the store is elsewhere, and it is ended */
     NRBPF_RAW_H9 = 'H' << 8 | 9 /* snapshot: the state has other maps, or another number of places for programs, or takes longer or shorter ones, than the store */
 };
 
@@ -202,8 +201,8 @@ void nrbpf_raw_number(struct nrbpf_raw_store *at);
 void nrbpf_raw_attach(struct nrbpf_raw_store *at, struct nrbpf_raw_session *session);
 
 /* Takes a session back into the store that it was attached to. Then its handle is closed, and its memory is as good as room. The store's handle gets the
- * status: 0, H2, H3 if an update of the session is posted, H6 if its place is not empty here. With H3 and H6 the session is as it was. A session is known
- * by its place alone. So a session of another store is the host's mistake, which H6 need not notice. */
+ * status: 0, H2, H3 if an update of the session is posted. With H3 the session is as it was. A session of another store is the host's mistake, which
+ * nothing notices. */
 void nrbpf_raw_detach(struct nrbpf_raw_store *at, struct nrbpf_raw_session *session);
 
 /* Ends the store. Then its handle is closed, and its memory is as good as room. Statuses: 0, H2, and S5 if a session is attached. With S5 nothing changes. */

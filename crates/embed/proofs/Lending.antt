@@ -1,6 +1,8 @@
 -- A function of a pointer and of other parameters, which lends what lies there to one call and passes the others on: what it is, and its walk.
-use Rattle.embed.proofs.Steps.{[], ◌∷◌, ◌++◌, List, ℕ, refl, MutBor, ent, full_share, id⊢, ex, ex_i, sep, emp, fact, fact_i, flft, flent, named, Val, vptr, tables, WpFn, ‵, raw, ◌⊛◌, some, later, prop, ◌$◌, ◌∵◌, !, qed, done, move, keep, drop, use0, use1, use2, use3, split, join, fsplit, pick, await, regoal, suffices, Logic, sem, lft_new, lft_end, unit, yes, lends_ref, ref_back, mem, Ptr, RawPtr, block_ptr, lies_at, in_a_block, rawptr_vals, rawptr_Tells, MutRef, mut_vals, plain, nothing, heard, triple_of, framed, Ura, RattleType, peeks, Fn, Callee, local, ty_unit, ty_ptr, ty_ref, erased, mut, value_local, seq, assign, place, rv_opd, copy, addr_of, deref, call, opd_unit, return, pointee, enter, of_opd, unit_lit, addr, stop, no_more, and_then, returns, alloc_all, pass_all, free_all, look_at, get, through, sets, lands_as, layout, SProp, GName, suc, Item, Goal, Seq, Soaks, updating, now, frame, Is, shows, Lawful, Typed, Spells, Tellss, Ises, Are, valss, Closed, Model, Running, Lfts, Shares, Outlives, AllOutlive, toks, left, Denots, Valss, flat, owns, Slot, types_at, Ended, Clauses, closing, Kepts, Fins, Outs, outs, lasts_of, Meets, Contract, Triple, enters}
+use Rattle.embed.proofs.Steps.{One, [], ◌∷◌, ◌++◌, List, ℕ, refl, MutBor, ent, full_share, id⊢, ex, ex_i, sep, emp, fact, fact_i, flft, flent, named, Val, vptr, tables, WpFn, ‵, raw, ◌⊛◌, some, later, prop, ◌$◌, ◌∵◌, !, qed, done, move, keep, drop, use0, use1, use2, use3, split, join, fsplit, pick, await, regoal, suffices, Logic, sem, lft_new, lft_end, unit, yes, lends_ref, ref_back, mem, Ptr, RawPtr, block_ptr, lies_at, in_a_block, rawptr_vals, rawptr_Tells, MutRef, mut_vals, plain, nothing, heard, triple_of, framed, Ura, RattleType, peeks, Fn, Callee, local, ty_unit, ty_ptr, ty_ref, erased, mut, value_local, seq, assign, place, rv_opd, copy, addr_of, deref, call, opd_unit, return, pointee, enter, of_opd, unit_lit, addr, stop, no_more, and_then, returns, alloc_all, pass_all, free_all, look_at, get, through, sets, lands_as, layout, SProp, GName, suc, Item, Goal, Seq, Soaks, updating, now, frame, Is, shows, Lawful, Typed, Spells, Tellss, Ises, Are, valss, Closed, Model, Running, Lfts, Shares, Outlives, AllOutlive, toks, left, Denots, Valss, flat, owns, Slot, types_at, Ended, Clauses, closing, Kepts, Fins, Outs, outs, lasts_of, Meets, Contract, Triple, enters}
 use types.SemTy.{Body}
+use Rattle.host_calls.specs.Rooms.{lies_there}
+use Rattle.embed.proofs.There.{is_there, lies}
 use Rattle.embed.proofs.Calling.{Forwards, unit_then, calls, of_unit, ends, meets, hands}
 
 -- the reference that is lent
@@ -39,11 +41,11 @@ module _ {n : ℕ} (os : List (Outlives n)) (Ps : List (Slot n)) (ks : Kepts Ps)
     -- the function is given a value that is at its pointer, and leaves this there
     abbrev pub leaves : ((κs : Lfts n) → Denots (types_at Ps κs) → Outs κs Ps ks → Ptr → R.Denot → SProp 𝓤)
         → Clauses 𝓤 of_pointer
-    leaves P κs a = record { ghost = R.Denot; requires = λ value. sem 𝓛 (lies_at R full_share a.0 value); ensures = λ value r e. P κs a.1 e.1 a.0 value }
+    leaves P κs a = record { ghost = R.Denot; requires = λ value. sem 𝓛 (lies_there R a.0 value); ensures = λ value r e. P κs a.1 e.1 a.0 value }
 
     -- a value lies there of which this is told
     abbrev pub told_there : Told → (κs : Lfts n) → Denots (types_at Ps κs) → Outs κs Ps ks → Ptr → R.Denot → SProp 𝓤
-    told_there told κs a e at value = ex 𝓤 (λ (after : R.Denot). sep 𝓤 (sem 𝓛 (lies_at R full_share at after)) (fact 𝓤 (told κs a e value after)))
+    told_there told κs a e at value = ex 𝓤 (λ (after : R.Denot). sep 𝓤 (sem 𝓛 (lies_there R at after)) (fact 𝓤 (told κs a e value after)))
 
     -- the contract of the call, which is given the loan for the pointer: what `triple_of` makes of its clauses
     abbrev pub of_loan : Told → Contract 𝓤
@@ -67,7 +69,7 @@ module _ {n : ℕ} (os : List (Outlives n)) (Ps : List (Slot n)) (ks : Kepts Ps)
           meets 𝓛 T c 𝓜 𝓡 name f closed (λ κs. (rawptr_vals, sp κs)) (λ κs. (rawptr_Tells, tells κs)) (λ κs qs bounds a value are.
           let us = valss (types_at Ps κs) (sp κs) a.1 in let F = triple_of 𝓛 T.signature (closing 𝓛 T c) in
           let y : Ptr → F.Ghost = λ p. ((κs, qs, bounds, (p, a.1), (rawptr_vals p, us)), value) in
-          qed 𝓛 ((raw (toks 𝓛 n κs qs) ⊛ (‵ (RawPtr.own_val a.0 (rawptr_vals a.0)) ⊛ ‵ (owns (types_at Ps κs) a.1 us))) ∷ ‵ (lies_at R full_share a.0 value) ∷ []) ∵ move ! (1 ∷ []) $
+          qed 𝓛 ((raw (toks 𝓛 n κs qs) ⊛ (‵ (RawPtr.own_val a.0 (rawptr_vals a.0)) ⊛ ‵ (owns (types_at Ps κs) a.1 us))) ∷ ‵ (lies_there R a.0 value) ∷ []) ∵ move ! (1 ∷ []) $ use1 𝓛 (‵ (lies_at R full_share a.0 value)) (lies 𝓛 R a.0 value) $
           in_a_block ! a.0 (λ p. lies_at R full_share p value) (id⊢ 𝓤 _) (λ b o e.
           regoal ! (λ p. prop (WpFn 𝓤 𝓛.H 𝓣.C 𝓣.Λ f (rawptr_vals p ++ flat (types_at Ps κs) us) (F.post (y p)))) e refl $
           suffices ! _ (forwards κs a.1 are.1 b o (F.post (y (block_ptr b o)))) $ suffices ! _ (enters 𝓤 𝓛.H 𝓜 𝓣 callee _ _) $ updating ! $
@@ -89,10 +91,10 @@ module _ {n : ℕ} (os : List (Outlives n)) (Ps : List (Slot n)) (ks : Kepts Ps)
           nothing ! $ move ! (0 ∷ 3 ∷ []) $ join ! $ move ! (0 ∷ 1 ∷ []) $ join ! $ keep ! (2 ∷ 0 ∷ []) $ done !)))))))
 
       -- `lends`, if the last value stays there, and what the call says of it is so
-      pub goes_on : Meets 𝓛 of_pointer.signature ((tables 𝓤 𝓛.H 𝓜 𝓡 𝓡.env).C name) (closing 𝓛 of_pointer (leaves (told_there told)))
-      goes_on = lends (told_there told) (λ κs a e b o value last is.
-          qed 𝓛 (‵ (lies_at R full_share (block_ptr b o) last) ∷ []) ∵ use0 𝓛 (raw (fact 𝓤 (told κs a e value last))) (fact_i 𝓤 (told κs a e value last) (emp 𝓤) is) $ move ! (1 ∷ 0 ∷ []) $
-          use2 𝓛 (raw (told_there told κs a e (block_ptr b o) value)) (ex_i 𝓤 (λ (x : R.Denot). sep 𝓤 (sem 𝓛 (lies_at R full_share (block_ptr b o) x)) (fact 𝓤 (told κs a e value x))) last) $ done !)
+      pub goes_on : One R → Meets 𝓛 of_pointer.signature ((tables 𝓤 𝓛.H 𝓜 𝓡 𝓡.env).C name) (closing 𝓛 of_pointer (leaves (told_there told)))
+      goes_on one = lends (told_there told) (λ κs a e b o value last is.
+          qed 𝓛 (‵ (lies_at R full_share (block_ptr b o) last) ∷ []) ∵ use1 𝓛 (‵ (lies_there R (block_ptr b o) last)) (is_there 𝓛 R one b o last) $ use0 𝓛 (raw (fact 𝓤 (told κs a e value last))) (fact_i 𝓤 (told κs a e value last) (emp 𝓤) is) $ move ! (1 ∷ 0 ∷ []) $
+          use2 𝓛 (raw (told_there told κs a e (block_ptr b o) value)) (ex_i 𝓤 (λ (x : R.Denot). sep 𝓤 (sem 𝓛 (lies_there R (block_ptr b o) x)) (fact 𝓤 (told κs a e value x))) last) $ done !)
 
 -- `callee(&mut *(at as *mut T));`
 abbrev pub lending : RattleType → Callee → Fn
@@ -115,5 +117,5 @@ module _ {M : Type 1} {𝓤 : Ura M} (𝓛 : Logic 𝓤) (R : RattleType) (𝓜 
       lands_as ! refl refl (tt, tt) $ sets ! (of_opd ! (unit_lit !)) refl (tt, tt) $ returns ! (look_at ! 0 refl) $ free_all ! refl $ done !)
 
   -- `goes_on` of a function that passes nothing on
-  pub goes_on_alone : Meets 𝓛 (of_pointer {n = 0} [] [] tt).signature ((tables 𝓤 𝓛.H 𝓜 𝓡 𝓡.env).C name) (closing 𝓛 (of_pointer {n = 0} [] [] tt) (leaves {n = 0} [] [] tt 𝓛 R (told_there {n = 0} [] [] tt 𝓛 R (λ κs a e. told))))
-  goes_on_alone = goes_on {n = 0} [] [] tt 𝓛 R 𝓜 𝓡 (λ κs a e. told) name callee (lending R callee) closed met (λ κs. tt) (λ κs. tt) (λ κs a are. forwards_alone)
+  pub goes_on_alone : One R → Meets 𝓛 (of_pointer {n = 0} [] [] tt).signature ((tables 𝓤 𝓛.H 𝓜 𝓡 𝓡.env).C name) (closing 𝓛 (of_pointer {n = 0} [] [] tt) (leaves {n = 0} [] [] tt 𝓛 R (told_there {n = 0} [] [] tt 𝓛 R (λ κs a e. told))))
+  goes_on_alone one = goes_on {n = 0} [] [] tt 𝓛 R 𝓜 𝓡 (λ κs a e. told) name callee (lending R callee) closed met (λ κs. tt) (λ κs. tt) (λ κs a are. forwards_alone) one

@@ -1,4 +1,5 @@
 pub mod Steps
+mod There
 mod Lending
 mod LendingBoth
 mod Calling

@@ -13,7 +13,7 @@ pub use types.Logic.{Logic, sem}
 pub use types.Run.{enter, of_opd, unit_lit, addr, init, stop, no_more, and_then, assigns, returns, from, fld, hop, Opds}
 pub use types.ByLocal.{alloc_all, pass_all, free_all, look_at, get, through, sets, lands_as, get_in, look_in_at}
 pub use types.Tokens.{lft_new, lft_end}
-pub use borrow.Table.OneValue.{One, part_in}
+pub use borrow.Table.OneValue.{One, part_in, part_out}
 pub use seplogic.Ra.Ura.{Ura}
 pub use denote.Builtin.{unit, u8, u64}
 pub use denote.Exit.{yes, left}

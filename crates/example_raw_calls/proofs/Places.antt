@@ -1,7 +1,7 @@
 -- The two places of a pool, as sessions are taken from there and given back.
 use Rattle.std.proofs.Common.{◌≡◌, ◌<◌, ◌/◌, zero, suc, List, [], ◌∷◌, length, set, get_or, refl, sym, ap, ◌∙◌, subst, arith, Option, None, Some}
 use Rattle.std.proofs.lemmas.Option.{same_Some}
-use Rattle.host_calls.specs.Stores.{HasPlaceFor, IsGiven, IsOfNode, IsTaken, seated}
+use Rattle.host_calls.specs.Stores.{IsGiven, IsOfNode, IsTaken, seated}
 use Rattle.host_calls.specs.declared.attached.Attached.{Attached}
 use Rattle.host_calls.specs.declared.pool.Pool.{Pool}
 
@@ -43,17 +43,7 @@ module _ (p q : Pool) (slots : p.slots ≡ 2) (a : Attached) where
 
   -- and back
   pub gives_first : (y : Option Attached) → HasTwo p None y → a.place ≡ 0 → IsGiven p q a → HasTwo q (Some a) y
-  gives_first y is at given = given.1 ∙ (λ j. set (is j) (at j) (Some a))
+  gives_first y is at given = given.2 ∙ (λ j. set (is j) (at j) (Some a))
 
   pub gives_second : (x : Option Attached) → HasTwo p x None → a.place ≡ 1 → IsGiven p q a → HasTwo q x (Some a)
-  gives_second x is at given = given.1 ∙ (λ j. set (is j) (at j) (Some a))
-
-  pub first_fits : (y : Option Attached) → HasTwo p None y → a.place ≡ 0 → HasPlaceFor p a
-  first_fits y is at =
-      let low : 0 < length p.places.items = subst (λ z. 0 < length z) (sym is) (omega arith) in
-      (subst (λ z. z < length p.places.items) (sym at) low, ap (seated p) at ∙ at_zero None y is)
-
-  pub second_fits : (x : Option Attached) → HasTwo p x None → a.place ≡ 1 → HasPlaceFor p a
-  second_fits x is at =
-      let low : 1 < length p.places.items = subst (λ z. 1 < length z) (sym is) (omega arith) in
-      (subst (λ z. z < length p.places.items) (sym at) low, ap (seated p) at ∙ at_one x None is)
+  gives_second x is at given = given.2 ∙ (λ j. set (is j) (at j) (Some a))

@@ -15,9 +15,9 @@ use Rattle.host_calls.specs.declared.handles.StoreHandle.{StoreHandle}
 use Rattle.host_calls.specs.declared.pool.Pool.{Pool}
 use Rattle.host_calls.specs.Leaving.{IsLastOf, Leaves, LeavesIf, LeavesState, sessions_back}
 use Rattle.host_calls.specs.Openings.{IsOpened, IsSeat, IsStoreOf, fresh_seat}
-use Rattle.host_calls.specs.Stores.{Gives, HasPlaceFor, IsGiven, IsItsOwn, IsTaken, Takes}
+use Rattle.host_calls.specs.Stores.{Gives, IsGiven, IsItsOwn, IsTaken, Takes}
 use Rattle.host_calls.specs.Views.{AttachedView}
-use Rattle.example_raw_calls.proofs.Places.{HasTwo, first_fits, gives_first, gives_second, second_fits, takes_first, takes_second, two}
+use Rattle.example_raw_calls.proofs.Places.{HasTwo, gives_first, gives_second, takes_first, takes_second, two}
 
 -- the handle has a store with these two places
 pub record IsOpen (h : StoreHandle) (store : StoreView) (x y : Option AttachedView) : Type 0 where
@@ -46,10 +46,6 @@ some_if : {A : Type 0} (P : Type 0) (Q : A → Type 0) (x : Option A) → (P →
     → (y : A) × (x ≡ Some y) × Q y
 some_if P Q None never t = absurd (never t)
 some_if P Q (Some y) never t = (y, refl, t)
-
-none_if : {A : Type 0} (P : Type 0) (Q : A → Type 0) (x : Option A) → ((y : A) → Q y → ⊥) → MatchOption x P Q → P
-none_if P Q None never t = t
-none_if P Q (Some y) never t = absurd (never y t)
 
 -- ---- opening
 
@@ -149,7 +145,7 @@ its_own h session store x y a o has own =
     subst (λ z. IfSome z (λ b. IfSome session.own (λ a. a.store ≡ arc_value b.value.store))) (sym o.has)
     (subst (λ z. IfSome z (λ a. a.store ≡ arc_value o.pool.value.store)) (sym has) (own ∙ sym o.store_is))
 
--- a session of which no update is out is given back, if its place is empty
+-- a session of which no update is out is given back
 record IsBackIn (h after : StoreHandle) (store : StoreView) (p : Pool) (a : AttachedView) : Type 0 where
   pool : Box Pool Global
   has : after.own ≡ Some pool
@@ -159,31 +155,30 @@ record IsBackIn (h after : StoreHandle) (store : StoreView) (p : Pool) (a : Atta
   given : IsGiven p pool.value a
 
 back_in : (h after : StoreHandle) (session left : SessionHandle) (store : StoreView) (x y : Option AttachedView) (a : AttachedView) (o : IsOpen h store x y) → Takes h session after left → session.own ≡ Some a
-    → a.session.note.pending ≡ None → HasPlaceFor o.pool.value a → IsBackIn h after store o.pool.value a
-back_in h after session left store x y a o t has free fits =
+    → a.session.note.pending ≡ None → IsBackIn h after store o.pool.value a
+back_in h after session left store x y a o t has free =
     let s = some_if _ _ after.own (λ z. z) (match_some _ _ h.own o.pool o.has t.takes) in
-    let goes = match_none _ _ a.session.note.pending free (match_some _ _ session.own a has s.2.1) in
-    let back = none_if _ _ left.own (λ b stays. stays.0 fits) goes in record {
+    let goes = match_none _ _ a.session.note.pending free (match_some _ _ session.own a has s.2.1) in record {
       pool = s.0;
       has = s.1;
       store_is = ap arc_value s.2.0.0 ∙ o.store_is;
       slots = s.2.0.1 ∙ o.slots;
       node = ap (λ (z : StoreAsked). z.node) t.asked ∙ o.node;
-      given = back.0;
+      given = goes.0;
     }
 
 pub detached_first : {h after : StoreHandle} {session left : SessionHandle} {store : StoreView} (a : AttachedView)
     → IsOpen h store None None → Takes h session after left → session.own ≡ Some a → a.session.note.pending ≡ None
     → a.place ≡ 0 → IsOpen after store (Some a) None
 detached_first {h} {after} {session} {left} {store} a o t has free place =
-    let b = back_in h after session left store None None a o t has free (first_fits o.pool.value o.pool.value o.slots a None o.places place) in
+    let b = back_in h after session left store None None a o t has free in
     record { pool = b.pool; has = b.has; store_is = b.store_is; slots = b.slots; node = b.node; places = gives_first o.pool.value b.pool.value o.slots a None o.places place b.given }
 
 pub detached_second : {h after : StoreHandle} {session left : SessionHandle} {store : StoreView} (x a : AttachedView)
     → IsOpen h store (Some x) None → Takes h session after left → session.own ≡ Some a → a.session.note.pending ≡ None
     → a.place ≡ 1 → IsOpen after store (Some x) (Some a)
 detached_second {h} {after} {session} {left} {store} x a o t has free place =
-    let b = back_in h after session left store (Some x) None a o t has free (second_fits o.pool.value o.pool.value o.slots a (Some x) o.places place) in
+    let b = back_in h after session left store (Some x) None a o t has free in
     record { pool = b.pool; has = b.has; store_is = b.store_is; slots = b.slots; node = b.node; places = gives_second o.pool.value b.pool.value o.slots a (Some x) o.places place b.given }
 
 -- ---- closing

@@ -101,12 +101,14 @@ read_seen op old new NoWord t = absurd t
 read_seen op old new Allowed t = absurd t
 
 -- what is refused is no answer
-read_refused : (op : Operation) (old new : SessionView) (told : CallResult) (why : StoreRefused) → TellsRefused old new told why
+read_refused : (op : Operation) (old new : SessionView) (told : CallResult) (why : StoreRefused)
+    → TellsRefused old new told why
     → Notes old new (read_events old.session op None told)
 read_refused op old new told why t = subst (λ z. Notes old new (read_events old.session op None z)) (sym t.0) (still old new t.1)
 
 module _ (op : Operation) (old new : SessionView) (told : CallResult) (same : new.session ≡ old.session) where
-  by_verdict : (refused : Option StoreRefused) → MatchOption refused (TellsSeen op old new told) (λ why. TellsRefused old new told why)
+  by_verdict : (refused : Option StoreRefused)
+      → MatchOption refused (TellsSeen op old new told) (λ why. TellsRefused old new told why)
       → Notes old new (read_events old.session op None told)
   by_verdict None t = read_seen op old new told t
   by_verdict (Some why) t = read_refused op old new told why t

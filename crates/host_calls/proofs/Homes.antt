@@ -12,7 +12,7 @@ use Rattle.store.proofs.Export.{last_place}
 use Rattle.host_calls.specs.declared.lanes.Home.{Home}
 use Rattle.host_calls.specs.Homes.{AreAtHome, attached_at, attached_of}
 use Rattle.host_calls.specs.Lanes.{AreOneLane, AreSame, sessions_in}
-use Rattle.host_calls.specs.Views.{AttachedView, IsSame}
+use Rattle.host_calls.specs.Views.{AttachedView, IsPlaced, IsSame}
 
 -- ---- how they are seen
 
@@ -120,6 +120,12 @@ home_on homes old new store home on one = record {
       let s = at_there old j (omega (arith, below, long)) in
       subst (λ (z : StoreView). IsOf z t) (sym (one i g at)) (on.1 j s.0 t s.1 there).own;
   one = home.one;
+  placed = λ i g t at there.
+      let below = at_below new i t there in
+      let long = on.0 in
+      let s = at_there old i (omega (arith, below, long)) in
+      let was = home.placed i g s.0 at s.1 in
+      record { number = (on.1 i s.0 t s.1 there).same.1 ∙ was.number; below = was.below };
 }
 
 -- ---- one more, and one less
@@ -130,12 +136,17 @@ alone (suc j) x y at = absurd (at_none j y at)
 
 pub home_more : (homes : List Home) (ss : List SessionView) (h : Home) (s : SessionView) → AreAtHome homes ss
     → length homes < 16 → AreOneLane (arc_value h.store) (attached_of homes ss)
-    → IsOf (arc_value h.store) s → AreAtHome (homes ++ h ∷ []) (ss ++ s ∷ [])
-home_more homes ss h s home room one of = record {
+    → IsOf (arc_value h.store) s → IsPlaced (arc_value h.store) h.place s → AreAtHome (homes ++ h ∷ []) (ss ++ s ∷ [])
+home_more homes ss h s home room one of place = record {
   count = let long = length-append homes (h ∷ []) in let wide = length-append ss (s ∷ []) in let count = home.count in omega (arith, long, wide, count);
   few = let long = length-append homes (h ∷ []) in omega (arith, long, room);
   own = λ i g at j t there. subst (λ (z : StoreView). IsOf z t) (sym (stores i g (at_joined homes (h ∷ []) i g at))) (its j t (at_joined ss (s ∷ []) j t there));
   one = λ i j f g at there. stores i f (at_joined homes (h ∷ []) i f at) ∙ sym (stores j g (at_joined homes (h ∷ []) j g there));
+  placed = λ i g t at there. ⊎_elim
+      (λ a. ⊎_elim (λ b. home.placed i g t a b) (λ b. let low = at_below homes i g a in let count = home.count in let up = b.1 in absurd (omega (arith, low, count, up))) (at_joined ss (s ∷ []) i t there))
+      (λ a. ⊎_elim (λ b. let low = at_below ss i t b in let count = home.count in let up = a.1 in absurd (omega (arith, low, count, up)))
+      (λ b. subst (λ (z : Home × SessionView). IsPlaced (arc_value z.0.store) z.0.place z.1) (λ j. (alone a.0 h g a.2 j, alone b.0 s t b.2 j)) place) (at_joined ss (s ∷ []) i t there))
+      (at_joined homes (h ∷ []) i g at);
 }
   where
     stores : (i : ℕ) (g : Home) → At i g homes ⊎ ((k : ℕ) × (i ≡ length homes + k) × At k g (h ∷ []))
@@ -149,6 +160,7 @@ home_more homes ss h s home room one of = record {
 pub record HomeLess (homes : List Home) (ss : List SessionView) (h : Home) (s : SessionView) : Type 0 where
   pub home : AreAtHome homes ss
   pub of : IsOf (arc_value h.store) s
+  pub placed : IsPlaced (arc_value h.store) h.place s
 
 pub home_less : (homes : List Home) (ss : List SessionView) (h : Home) (s : SessionView)
     → AreAtHome (homes ++ h ∷ []) (ss ++ s ∷ []) → HomeLess homes ss h s
@@ -158,8 +170,10 @@ home_less homes ss h s home = record {
     few = let long = length-append homes (h ∷ []) in let few = home.few in omega (arith, long, few);
     own = λ i g at j t there. home.own i g (at_front homes (h ∷ []) i g at) j t (at_front ss (s ∷ []) j t there);
     one = λ i j f g at there. home.one i j f g (at_front homes (h ∷ []) i f at) (at_front homes (h ∷ []) j g there);
+    placed = λ i g t at there. home.placed i g t (at_front homes (h ∷ []) i g at) (at_front ss (s ∷ []) i t there);
   };
   of = home.own (length homes) h (last_place homes h) (length ss) s (last_place ss s);
+  placed = home.placed (length homes) h s (last_place homes h) (subst (λ z. At z s (ss ++ s ∷ [])) (sym count) (last_place ss s));
 }
   where
     count : length homes ≡ length ss

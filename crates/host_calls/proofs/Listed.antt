@@ -23,14 +23,15 @@ use Rattle.host_calls.specs.Lanes.{TellsBegun, TellsNewList, TellsOutList}
 use Rattle.host_calls.specs.Statuses.{letter_S, refusal}
 
 -- a list that was posted went on
-pub new_list : (calls : List Question) (before after : List Outcome) (old posted new : List SessionView) (told : Listed) → EachAsks old posted calls
-    → TellsOutList before after posted new (length calls) told → TellsNewList calls before after old new told
-new_list calls before after old posted new Busy asks t = absurd t
-new_list calls before after old posted new Again asks t = (posted, asks, t)
-new_list calls before after old posted new (Answered n) asks t = (posted, asks, t)
-new_list calls before after old posted new (Refused status number) asks t = absurd t
-new_list calls before after old posted new NotOpen asks t = absurd t
-new_list calls before after old posted new NoWord asks t = absurd t
+pub new_list : (store : StoreView) (calls : List Question) (before after : List Outcome) (old posted new : List SessionView) (told : Listed)
+    → EachGoesOn store old posted → EachAsks old posted calls → EachGoesOn store posted new
+    → TellsOutList before after posted new (length calls) told → TellsNewList store calls before after old new told
+new_list store calls before after old posted new Busy first asks more t = absurd t
+new_list store calls before after old posted new Again first asks more t = (posted, first, asks, more, t)
+new_list store calls before after old posted new (Answered n) first asks more t = (posted, first, asks, more, t)
+new_list store calls before after old posted new (Refused status number) first asks more t = absurd t
+new_list store calls before after old posted new NotOpen first asks more t = absurd t
+new_list store calls before after old posted new NoWord first asks more t = absurd t
 
 pub on_and_on : (store : StoreView) (old mid new : List SessionView) → EachGoesOn store old mid
     → EachGoesOn store mid new → EachGoesOn store old new
@@ -79,7 +80,7 @@ own_on store old new on j t there =
     (on.1 j s.0 t s.1 there).own
 
 pub begun_told : (store : StoreView) (calls : List Question) (before after : List Outcome) (old new : List SessionView) (told : Listed) → first_refused_in Update store.catalogue 0 calls ≡ None
-    → TellsNewList calls before after old new told → TellsBegun store calls before after old new told
+    → TellsNewList store calls before after old new told → TellsBegun store calls before after old new told
 begun_told store calls before after old new told none t =
-    subst (λ (o : Option QuestionRefused). MatchOption o (TellsNewList calls before after old new told)
+    subst (λ (o : Option QuestionRefused). MatchOption o (TellsNewList store calls before after old new told)
     (λ (why : QuestionRefused). (told ≡ Refused (refusal letter_S (store_fault_number why.refused)) why.number) × (after ≡ before) × (new ≡ old))) (sym none) t

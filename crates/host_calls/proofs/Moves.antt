@@ -25,7 +25,8 @@ joins_open before after session left l l' a was is had words to = record {
       (λ i. ((sym was) i, ((sym is) i, (sym had) i))) to;
 }
 
-pub joins_done : (lane now : List AttachedView) (a : AttachedView) (session left : SessionHandle) → AreIdleBoth lane a → left.own ≡ None → left ≡ record session { own = None } → now ≡ lane ++ a ∷ []
+pub joins_done : (lane now : List AttachedView) (a : AttachedView) (session left : SessionHandle) → AreIdleBoth lane a
+    → left.own ≡ None → left ≡ record session { own = None } → now ≡ lane ++ a ∷ []
     → JoinsTo lane now a session left done
 joins_done lane now a session left idle own is more = record {
   idle = λ _. subst (λ (o : Option Attached). MatchOption o ((now ≡ lane ++ a ∷ []) × (left ≡ record session { own = None }) × (done ≡ done)) (λ b. (MayJoin lane a → ⊥) × StaysOut lane now session left done not_ours))

@@ -76,16 +76,20 @@ TellsOutList before after old new count (Answered n) =
 TellsOutList before after old new count Again = (after ≡ before) × EachIsTold {A = Unit {0}} old new [] None
 TellsOutList before after old new count told = ⊥
 
--- a list that isn't refused: each session has only looked, where another was in the way; else each call is posted, once, by the session of its number
-abbrev pub TellsNewList : List Question → List Outcome → List Outcome → (old new : List SessionView) → Listed → Type 0
-TellsNewList calls before after old new Busy = (after ≡ before) × EachLooks old new
-TellsNewList calls before after old new told = (posted : List SessionView) × EachAsks old posted calls × TellsOutList before after posted new (length calls) told
+-- a list that isn't refused: each session has only looked, where another was in the way; else each call is posted, once, by the session of its number,
+-- and then they go on with it
+abbrev pub TellsNewList : StoreView → List Question → List Outcome → List Outcome → (old new : List SessionView)
+    → Listed → Type 0
+TellsNewList store calls before after old new Busy = (after ≡ before) × EachLooks old new
+TellsNewList store calls before after old new told =
+    (posted : List SessionView) × EachGoesOn store old posted × EachAsks old posted calls × EachGoesOn store posted new
+    × TellsOutList before after posted new (length calls) told
 
 -- of no list that is out
 abbrev pub TellsBegun : StoreView → List Question → List Outcome → List Outcome → (old new : List SessionView)
     → Listed → Type 0
 TellsBegun store calls before after old new told =
-    MatchOption (first_refused_in Update store.catalogue 0 calls) (TellsNewList calls before after old new told)
+    MatchOption (first_refused_in Update store.catalogue 0 calls) (TellsNewList store calls before after old new told)
     (λ (why : QuestionRefused). (told ≡ Refused (refusal letter_S (store_fault_number why.refused)) why.number) × (after ≡ before) × (new ≡ old))
 
 -- nothing has changed, and this is told

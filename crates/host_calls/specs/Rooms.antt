@@ -1,7 +1,8 @@
--- What lies at a handle. Memory at which a closed one lies is as good as room.
+-- What lies at a handle. Its memory is as good as room.
 use Rattle.std.specs.Borrow.{full_share}
-use Rattle.std.specs.Ptr.{lies_at}
-use base.Fml.{Fml}
+use Rattle.std.specs.Ptr.{lies_at, room_at}
+use base.Fml.{Fml, fand}
+use denote.RattleType.{RattleType}
 use denote.RawPtr.{Ptr}
 use Rattle.host_calls.specs.declared.handles.StoreHandle.{StoreHandle}
 use Rattle.host_calls.specs.declared.handles.SessionHandle.{SessionHandle}
@@ -22,29 +23,33 @@ use Rattle.host_calls.specs.contracts.handles.SessionHandle.{the_row as the_sess
 use Rattle.host_calls.specs.contracts.handles.TextHandle.{the_row as the_text}
 use Rattle.host_calls.specs.contracts.handles.LaneHandle.{the_row as the_lane}
 
+-- Something lies there. Or, as well, its memory is room: who writes there gives up what lay there. A closed handle has nothing to give up.
+abbrev pub lies_there : (R : RattleType) → Ptr → R.Denot → Fml
+lies_there R p x = fand (lies_at R full_share p x) (room_at R p)
+
 abbrev pub holds_store : Ptr → StoreHandle → Fml
-holds_store p h = lies_at the_store full_share p h
+holds_store p h = lies_there the_store p h
 
 abbrev pub holds_session : Ptr → SessionHandle → Fml
-holds_session p h = lies_at the_session full_share p h
+holds_session p h = lies_there the_session p h
 
 abbrev pub holds_lane : Ptr → LaneHandle → Fml
-holds_lane p h = lies_at the_lane full_share p h
+holds_lane p h = lies_there the_lane p h
 
 abbrev pub holds_state : Ptr → StateHandle → Fml
-holds_state p h = lies_at the_state full_share p h
+holds_state p h = lies_there the_state p h
 
 abbrev pub holds_text : Ptr → TextHandle → Fml
-holds_text p h = lies_at the_text full_share p h
+holds_text p h = lies_there the_text p h
 
 abbrev pub holds_map : Ptr → MapWords → Fml
-holds_map p h = lies_at the_map_words full_share p h
+holds_map p h = lies_there the_map_words p h
 
 abbrev pub holds_program : Ptr → ProgramWords → Fml
-holds_program p h = lies_at the_program_words full_share p h
+holds_program p h = lies_there the_program_words p h
 
 abbrev pub holds_facts : Ptr → StoreWords → Fml
-holds_facts p h = lies_at the_store_words full_share p h
+holds_facts p h = lies_there the_store_words p h
 
 abbrev pub holds_stats : Ptr → StatWords → Fml
-holds_stats p h = lies_at the_stat_words full_share p h
+holds_stats p h = lies_there the_stat_words p h

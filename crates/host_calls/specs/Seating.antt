@@ -1,5 +1,5 @@
 -- The sessions that stand at the places of a pool.
-use Rattle.std.specs.Prelude.{◌≡◌, List, None, Option, IfSome, All, length}
+use Rattle.std.specs.Prelude.{◌≡◌, ℕ, List, None, Some, Option, IfSome, All, get_or, length}
 use Rattle.store.specs.Sessions.{StoreView}
 use Rattle.store_steps.specs.Shelving.{sessions_of}
 use Rattle.host_calls.specs.declared.attached.Attached.{Attached}
@@ -12,8 +12,9 @@ IsSeatOf store place = IfSome place (λ a. a.store ≡ store)
 abbrev pub IsIdleSeat : Option Attached → Type 0
 IsIdleSeat place = IfSome place (λ a. a.session.note.pending ≡ None)
 
--- as many places as the store has sessions, at which only these stand, and no update of theirs is out
+-- as many places as the store has sessions, at which only these stand, each at its own, and no update of theirs is out
 pub record AreInOrder (store : StoreView) (places : List (Option Attached)) : Type 0 where
   pub count : length places ≡ sessions_of store.config
   pub own : All (IsSeatOf store) places
   pub idle : All IsIdleSeat places
+  pub placed : (k : ℕ) (a : Attached) → get_or places k None ≡ Some a → a.place ≡ k

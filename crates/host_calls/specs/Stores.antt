@@ -12,7 +12,7 @@ use Rattle.host_calls.specs.declared.handles.StoreHandle.{StoreHandle}
 use Rattle.host_calls.specs.declared.handles.SessionHandle.{SessionHandle}
 use Rattle.host_calls.specs.declared.handles.TheConstants.{NAME_ROOM}
 use Rattle.host_calls.specs.declared.pool.Pool.{Pool}
-use Rattle.host_calls.specs.Statuses.{done, is_attached, is_out, no_program, no_session, no_text, not_open, not_ours}
+use Rattle.host_calls.specs.Statuses.{done, is_attached, is_out, no_program, no_session, no_text, not_open}
 use Rattle.host_calls.specs.Words.{HasNewWords}
 
 -- ---- the pool of a store
@@ -45,13 +45,10 @@ IsUnmoved p q = q.places.items ≡ p.places.items
 abbrev pub IsTaken : (p q : Pool) → ℕ → Attached → Type 0
 IsTaken p q node a = (k : ℕ) × IsOfNode p node k × NoneIsFreeBefore p node k × (seated p k ≡ Some a) × (q.places.items ≡ set p.places.items k None)
 
--- the place at which the session stood is there and empty
-abbrev pub HasPlaceFor : Pool → Attached → Type 0
-HasPlaceFor p a = (a.place < length p.places.items) × (seated p a.place ≡ None)
-
--- and it stands there again
+-- the place of the session was there and empty, and it stands there again
 abbrev pub IsGiven : (p q : Pool) → Attached → Type 0
-IsGiven p q a = HasPlaceFor p a × (q.places.items ≡ set p.places.items a.place (Some a))
+IsGiven p q a =
+    (a.place < length p.places.items) × (seated p a.place ≡ None) × (q.places.items ≡ set p.places.items a.place (Some a))
 
 -- of the words that are answered, none but the status is another
 abbrev pub IsStatusAlone : (before after : StoreAnswered) → Type 0
@@ -85,10 +82,10 @@ IsItsOwn h session = IfSome h.own (λ b. IfSome session.own (λ a. a.store ≡ a
 abbrev pub Stays : (p q : Pool) → StoreHandle → (session left : SessionHandle) → ℕ → Type 0
 Stays p q after session left status = IsUnmoved p q × (left ≡ session) × (after.answered.status ≡ status)
 
--- of a session for which nothing is out: it is back, and its handle is closed, unless there is no empty place for it
+-- of a session for which nothing is out: it is back, and its handle is closed
 abbrev pub GoesBack : (p q : Pool) → Attached → StoreHandle → (session left : SessionHandle) → Type 0
 GoesBack p q a after session left =
-    MatchOption left.own (IsGiven p q a × (left ≡ record session { own = None }) × (after.answered.status ≡ done)) (λ b. (HasPlaceFor p a → ⊥) × Stays p q after session left not_ours)
+    IsGiven p q a × (left ≡ record session { own = None }) × (after.answered.status ≡ done)
 
 abbrev pub TakesInto : (p q : Pool) → StoreHandle → (session left : SessionHandle) → Type 0
 TakesInto p q after session left =

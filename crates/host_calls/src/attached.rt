@@ -9,7 +9,7 @@ ghost use Rattle.verifier.specs.declared.refusal.Mode.TheVariants.{Update};
 ghost use Rattle.host_calls.specs.Calls.{TellsCall, asks_install, asks_post, asks_read, asks_update, asks_within, check_result};
 ghost use Rattle.host_calls.specs.Looks.{TellsAnswers, TellsGot, TellsMany, TellsScanned, TellsSnapped, look_each, next_word};
 ghost use Rattle.host_calls.specs.CallResults.{HasGrown, TellsOut};
-ghost use Rattle.host_calls.specs.Views.{IsSame};
+ghost use Rattle.host_calls.specs.Views.{IsPlaced, IsSame};
 
 use crate::handles::{AT_END, MOST_ASKED};
 use crate::statuses::{OTHER_SIZES, refusal};
@@ -34,7 +34,7 @@ pub struct Attached {
 impl Model for Attached {
     ghost use Rattle.std.specs.Arc.{arc_value};
     ghost use Rattle.store.specs.Sessions.{IsOf};
-    ghost use Rattle.host_calls.specs.Views.{AttachedView};
+    ghost use Rattle.host_calls.specs.Views.{AttachedView, IsPlaced};
     ghost use Rattle.host_calls.specs.Codes.{attached_code};
 
     ghost Value = { AttachedView };
@@ -43,7 +43,7 @@ impl Model for Attached {
 
     ghost view = { λ a. record { store = arc_value a.store; place = a.place; session = a.session } };
 
-    ghost invariant = { λ a. IsOf (arc_value a.store) a.session };
+    ghost invariant = { λ a. IsOf (arc_value a.store) a.session × IsPlaced (arc_value a.store) a.place a.session };
 }
 
 /// What a call on a session answers.
@@ -115,6 +115,7 @@ fn look_each(tried: Result<Option<u64>, QuestionRefused>, count: u64) -> Looked
 impl Attached {
     pub fn new(store: Arc<Store, Global>, place: usize, session: Polled) -> Attached
         requires own { IsOf (arc_value store) session }
+        requires placed { IsPlaced (arc_value store) place session }
         ensures { result ≡ record { store = arc_value store; place = place; session = session } }
     {
         Attached {
@@ -143,6 +144,7 @@ impl Attached {
         requires idle { self.session.note.pending ≡ None }
         ensures parts { (arc_value result.0 ≡ self.store) × (result.1 ≡ self.place) × (result.2 ≡ self.session) }
         ensures own { IsOf self.store result.2 }
+        ensures placed { IsPlaced self.store result.1 result.2 }
     {
         let Attached {
             store,
@@ -155,6 +157,7 @@ impl Attached {
     /// The session's place in the pool.
     pub fn place(&self) -> usize
         ensures place { result ≡ self.now.place }
+        ensures placed { IsPlaced self.now.store result self.now.session }
     {
         self.place
     }

@@ -11,6 +11,7 @@ ghost use Rattle.oplog.specs.declared.configuration.OpenError.TheVariants.{Other
 ghost use Rattle.store.specs.Opening.{AreOf};
 ghost use Rattle.store.specs.Sessions.{IsOf, fresh_sessions};
 ghost use Rattle.store_steps.specs.Shelving.{sessions_of};
+ghost use Rattle.host_calls.specs.Views.{IsPlaced};
 ghost use Rattle.host_calls.specs.Openings.{AreUtf8, IsOfTexts, IsOpened, IsOther, IsReason, IsSeat, IsStoreOf, Says, catalogue_on, fresh_of, inner_in, limit_of, only, sizes_asked, state_in, texts_of, words_of, sized};
 
 use crate::attached::Attached;
@@ -171,6 +172,7 @@ fn empty_places(alloc: Global, count: usize) -> Result<Vec<Option<Attached>>, Al
 // Seats a session at its place.
 fn seat(store: &Arc<Store, Global>, place: usize, session: Session) -> Result<Attached, AllocError>
     requires own { IsOf (arc_value store.now) session }
+    requires placed { IsPlaced (arc_value store.now) place session }
     ensures seat { IfOk result (λ a. a ≡ record { store = arc_value store.now; place = place; session = session }) }
 {
     let session = Polled::new(session);

@@ -1,12 +1,12 @@
 // The sessions of a store that are not attached.
 
-ghost use Rattle.std.specs.Prelude.{◌≡◌, ◌↔◌, ◌<◌, length, is_some, IfErr, IfOk, IfSome, IsSome, IsTrue, MatchOption, None, set};
+ghost use Rattle.std.specs.Prelude.{◌≡◌, ◌↔◌, ◌<◌, length, is_some, IfOk, IfSome, IsSome, IsTrue, MatchOption, None, set};
 ghost use Rattle.std.specs.List.{list_all};
 ghost use Rattle.std.specs.Arc.{arc_value};
 ghost use Rattle.loader.specs.CatalogueView.{number_named};
 ghost use Rattle.host_calls.specs.Seating.{AreInOrder};
 ghost use Rattle.host_calls.specs.States.{new_state_of};
-ghost use Rattle.host_calls.specs.Stores.{HasPlaceFor, IsGiven, IsKept, IsOfNode, IsTaken, IsUnmoved, NoneIsFree, NoneIsFreeBefore, seated};
+ghost use Rattle.host_calls.specs.Stores.{IsGiven, IsKept, IsOfNode, IsTaken, IsUnmoved, NoneIsFree, NoneIsFreeBefore, seated};
 
 use crate::attached::Attached;
 use std::alloc::{AllocError, Global};
@@ -97,21 +97,21 @@ impl Pool {
         self.seats.places[place].take()
     }
 
-    /// Puts a session of this store, for which nothing is out, back where it stood, if that place is empty.
-    pub fn give(&mut self, attached: Attached) -> Result<(), Attached>
+    /// Puts a session of this store, for which nothing is out, back where it stood.
+    pub fn give(&mut self, attached: Attached)
         requires own { attached.store ≡ arc_value self.old.store }
         requires idle { attached.session.note.pending ≡ None }
         ensures kept { IsKept self.old self.new }
-        ensures given { IfOk result (λ _. IsGiven self.old self.new attached) }
-        ensures back { IfErr result (λ back. (back ≡ attached) × (HasPlaceFor self.old attached → ⊥) × IsUnmoved self.old self.new) }
+        ensures given { IsGiven self.old self.new attached }
     {
         let place = attached.place();
-        let places = &mut self.seats.places;
-        if place >= places.len() || places[place].is_some() {
-            return Err(attached);
+        let Seats { store, places, .. } = &mut self.seats;
+        if let Some(other) = places[place].take() {
+            let _place = other.place();
+            let _both = store.stand(attached.into_session(), other.into_session());
+            unreachable!() // two sessions have two numbers
         }
         places[place] = Some(attached);
-        Ok(())
     }
 
     /// The store, and what stands at its places.

@@ -5,7 +5,7 @@ ghost use Rattle.host_calls.specs.Stores.{Closes, Finds, Gives, IsItsOwn, IsNumb
 
 use crate::handles::{NAME_ROOM, SessionHandle, StoreHandle};
 use crate::statuses::{
-    DONE, IS_ATTACHED, IS_OUT, NO_PROGRAM_SO_NAMED, NO_SESSION, NO_TEXT, NOT_OPEN, NOT_OURS,
+    DONE, IS_ATTACHED, IS_OUT, NO_PROGRAM_SO_NAMED, NO_SESSION, NO_TEXT, NOT_OPEN,
 };
 
 // The number of the program that has the name in the words, or why there is none.
@@ -81,13 +81,8 @@ pub fn detach(handle: &mut StoreHandle, session: &mut SessionHandle)
         answered.status = IS_OUT;
         return;
     }
-    match pool.give(attached) {
-        Ok(()) => answered.status = DONE,
-        Err(attached) => {
-            session.own = Some(attached);
-            answered.status = NOT_OURS;
-        }
-    }
+    pool.give(attached);
+    answered.status = DONE;
 }
 
 /// Ends the store, where no session is attached.

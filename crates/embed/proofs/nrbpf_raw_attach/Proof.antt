@@ -12,5 +12,5 @@ use Rattle.embed.proofs.nrbpf_raw_attach.Code as code
 use Rattle.embed.proofs.Giving.{gives_alone}
 
 pub nrbpf_raw_attach_spec : {M : Type 1} → statement M
-nrbpf_raw_attach_spec 𝓤 𝓛 𝓜 𝓡 wired = gives_alone 𝓛 𝓜 𝓡 S R refl ((laws.the_row_laws).lawful 𝓛) Gives f.Key.name g.Key.name
+nrbpf_raw_attach_spec 𝓤 𝓛 𝓜 𝓡 wired = gives_alone 𝓛 𝓜 𝓡 S R refl refl ((laws.the_row_laws).lawful 𝓛) Gives f.Key.name g.Key.name
     (code.unfolded 𝓤 𝓛.H 𝓜 𝓡 wired) (met 𝓤 𝓛 𝓜 𝓡 (code.calls-host_calls::stores::attach 𝓡.env wired))

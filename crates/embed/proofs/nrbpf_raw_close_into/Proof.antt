@@ -12,5 +12,5 @@ use Rattle.embed.proofs.nrbpf_raw_close_into.Code as code
 use Rattle.embed.proofs.Giving.{gives_with}
 
 pub nrbpf_raw_close_into_spec : {M : Type 1} → statement M
-nrbpf_raw_close_into_spec 𝓤 𝓛 𝓜 𝓡 wired = gives_with 𝓛 𝓜 𝓡 S R refl ((laws.the_row_laws).lawful 𝓛) Leaves f.Key.name g.Key.name
+nrbpf_raw_close_into_spec 𝓤 𝓛 𝓜 𝓡 wired = gives_with 𝓛 𝓜 𝓡 S R refl refl ((laws.the_row_laws).lawful 𝓛) Leaves f.Key.name g.Key.name
     (code.unfolded 𝓤 𝓛.H 𝓜 𝓡 wired) (met 𝓤 𝓛 𝓜 𝓡 (code.calls-host_calls::closing::close_into 𝓡.env wired))

@@ -1,4 +1,5 @@
 -- `nrbpf_raw_detach` lends both handles to `detach`.
+use Rattle.embed.proofs.Steps.{refl}
 use Rattle.host_calls.specs.Stores.{IsItsOwn, Takes}
 use Rattle.host_calls.specs.contracts.handles.StoreHandle.{the_row as S}
 use Rattle.host_calls.specs.contracts.handles.SessionHandle.{the_row as R}
@@ -11,4 +12,4 @@ use Rattle.embed.proofs.LendingBoth.{lends_own}
 
 pub nrbpf_raw_detach_spec : {M : Type 1} → statement M
 nrbpf_raw_detach_spec 𝓤 𝓛 𝓜 𝓡 wired = lends_own 𝓛 S R 𝓜 𝓡 (λ store store' session session'. Takes store session store' session') f.Key.name g.Key.name
-    (code.unfolded 𝓤 𝓛.H 𝓜 𝓡 wired) IsItsOwn (met 𝓤 𝓛 𝓜 𝓡 (code.calls-host_calls::stores::detach 𝓡.env wired))
+    (code.unfolded 𝓤 𝓛.H 𝓜 𝓡 wired) refl refl IsItsOwn (met 𝓤 𝓛 𝓜 𝓡 (code.calls-host_calls::stores::detach 𝓡.env wired))

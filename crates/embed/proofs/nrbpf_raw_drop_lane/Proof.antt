@@ -1,4 +1,5 @@
 -- `nrbpf_raw_drop_lane` lends the lane to `drop_lane`.
+use Rattle.embed.proofs.Steps.{refl}
 use Rattle.host_calls.specs.Lanes.{Ends}
 use Rattle.host_calls.specs.contracts.handles.LaneHandle.{the_row as R}
 use Rattle.host_calls.specs.contracts.lanes.drop_lane as g
@@ -10,4 +11,4 @@ use Rattle.embed.proofs.Lending.{goes_on_alone}
 
 pub nrbpf_raw_drop_lane_spec : {M : Type 1} → statement M
 nrbpf_raw_drop_lane_spec 𝓤 𝓛 𝓜 𝓡 wired =
-    goes_on_alone 𝓛 R 𝓜 𝓡 Ends f.Key.name g.Key.name (code.unfolded 𝓤 𝓛.H 𝓜 𝓡 wired) (met 𝓤 𝓛 𝓜 𝓡 (code.calls-host_calls::lanes::drop_lane 𝓡.env wired))
+    goes_on_alone 𝓛 R 𝓜 𝓡 Ends f.Key.name g.Key.name (code.unfolded 𝓤 𝓛.H 𝓜 𝓡 wired) (met 𝓤 𝓛 𝓜 𝓡 (code.calls-host_calls::lanes::drop_lane 𝓡.env wired)) refl

@@ -1,4 +1,5 @@
 -- `nrbpf_raw_join` lends both handles to `join`.
+use Rattle.embed.proofs.Steps.{refl}
 use Rattle.host_calls.specs.Lanes.{Joins, JoinsOneStore}
 use Rattle.host_calls.specs.contracts.handles.LaneHandle.{the_row as S}
 use Rattle.host_calls.specs.contracts.handles.SessionHandle.{the_row as R}
@@ -11,4 +12,4 @@ use Rattle.embed.proofs.LendingBoth.{lends_own}
 
 pub nrbpf_raw_join_spec : {M : Type 1} → statement M
 nrbpf_raw_join_spec 𝓤 𝓛 𝓜 𝓡 wired = lends_own 𝓛 S R 𝓜 𝓡 (λ lane lane' session session'. Joins lane session lane' session') f.Key.name g.Key.name
-    (code.unfolded 𝓤 𝓛.H 𝓜 𝓡 wired) JoinsOneStore (met 𝓤 𝓛 𝓜 𝓡 (code.calls-host_calls::lanes::join 𝓡.env wired))
+    (code.unfolded 𝓤 𝓛.H 𝓜 𝓡 wired) refl refl JoinsOneStore (met 𝓤 𝓛 𝓜 𝓡 (code.calls-host_calls::lanes::join 𝓡.env wired))

@@ -31,4 +31,4 @@ returns-in-Ok-Some-clause-tells c =
     let after = c.go_on.new.outcomes in
     let none = none_of (first_refused_in Update c.args.store.now.catalogue 0 calls) (λ r is. let never = (c.in-Ok-Some.ensures.early r is).0 in absurd cc) in
     let asks = subst (λ (x : Option (Unit {0})). TellsListed old mid calls (Ok x)) c.in-Ok-Some.field-0-is (c.in-Ok-Some.ensures.asked none) in
-    begun_told c.args.store.now calls before after old new c.go_on.result none (new_list calls before after old mid new c.go_on.result asks c.go_on.ensures.tells)
+    begun_told c.args.store.now calls before after old new c.go_on.result none (new_list c.args.store.now calls before after old mid new c.go_on.result c.try_invoke_each.ensures.sessions asks c.go_on.ensures.sessions c.go_on.ensures.tells)

@@ -7,6 +7,7 @@ use Rattle.store.specs.Sessions.{IsOf, StoreView}
 use Rattle.host_calls.specs.declared.lanes.Home.{Home}
 use Rattle.host_calls.specs.Homes.{AreAtHome, attached_of}
 use Rattle.host_calls.specs.Lanes.{AreOneLane}
+use Rattle.host_calls.specs.Views.{IsPlaced}
 use Rattle.host_calls.proofs.Homes.{home_more, one_behind, own_of, seen}
 use Rattle.host_calls.proofs.lanes.Lane.join.Goals as goal
 
@@ -40,7 +41,7 @@ invariant_of-self-in_default c =
     let long : c.len.result ≡ length l.homes.items = search rules in
     let store : c.args.attached.store ≡ arc_value h.store = sym c.into_parts-store.ensures.parts.0 in
     let one = subst (λ (z : StoreView). AreOneLane z (attached_of l.homes.items l.sessions)) store (subst (AreOneLane c.args.attached.store) (sym c.self.view_is) c.requires.own) in
-    let more = home_more l.homes.items l.sessions h s c.self.invariant.0 (omega (arith, free, long)) one (subst (λ (z : StoreView). IsOf z s) store c.into_parts-store.ensures.own) in
+    let more = home_more l.homes.items l.sessions h s c.self.invariant.0 (omega (arith, free, long)) one (subst (λ (z : StoreView). IsOf z s) store c.into_parts-store.ensures.own) (subst (λ (z : StoreView). IsPlaced z h.place s) store c.into_parts-store.ensures.placed) in
     let room = c.self.invariant.1 in
     let roomy = c.push_reserved.ensures.capacity in
     (subst (λ (z : List Home × List SessionView). AreAtHome z.0 z.1) (λ i. ((sym c.push_reserved.ensures.items) i, (sym c.in_default.ensures.added) i)) more, omega (arith, room, roomy))

@@ -4,6 +4,7 @@ use Rattle.store.specs.PolledPipelines.{AreWaiting}
 use Rattle.store.specs.Sessions.{IsOf}
 use Rattle.host_calls.specs.declared.lanes.Home.{Home}
 use Rattle.host_calls.specs.Homes.{AreAtHome, attached_at, attached_of}
+use Rattle.host_calls.specs.Views.{IsPlaced}
 use Rattle.host_calls.proofs.Homes.{home_less, one_behind, seen}
 use Rattle.host_calls.proofs.lanes.Lane.leave.Goals as goal
 
@@ -14,7 +15,7 @@ pub new-requires-2 : goal.new-requires-2
 new-requires-2 c =
     let out = home_less c.pop.new.self.items c.take_last.new.self c.in-Some.field-0 c.in_ok-session.session
     (subst (λ (z : List Home × List SessionView). AreAtHome z.0 z.1) (λ i. (c.in-Some.ensures.items i, c.in_ok-session.ensures.last i)) c.self.invariant.0) in
-    record { own = subst (IsOf _) (sym c.new.ensures.same) out.of }
+    record { own = subst (IsOf _) (sym c.new.ensures.same) out.of; placed = subst (IsPlaced _ _) (sym c.new.ensures.same) out.placed }
 
 pub invariant_of-self-2 : goal.invariant_of-self-2
 invariant_of-self-2 c =
