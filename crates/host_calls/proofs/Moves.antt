@@ -26,11 +26,11 @@ joins_open before after session left l l' a was is had words to = record {
 }
 
 pub joins_done : (lane now : List AttachedView) (a : AttachedView) (session left : SessionHandle) → AreIdleBoth lane a
-    → left.own ≡ None → left ≡ record session { own = None } → now ≡ lane ++ a ∷ []
+    → left.own ≡ None → left ≡ record session { own = None } → now ≡ lane ++ a ∷ [] → MayJoin lane a
     → JoinsTo lane now a session left done
-joins_done lane now a session left idle own is more = record {
-  idle = λ _. subst (λ (o : Option Attached). MatchOption o ((now ≡ lane ++ a ∷ []) × (left ≡ record session { own = None }) × (done ≡ done)) (λ b. (MayJoin lane a → ⊥) × StaysOut lane now session left done not_ours))
-      (sym own) (more, is, refl);
+joins_done lane now a session left idle own is more may = record {
+  idle = λ _. subst (λ (o : Option Attached). MatchOption o (MayJoin lane a × (now ≡ lane ++ a ∷ []) × (left ≡ record session { own = None }) × (done ≡ done)) (λ b. (MayJoin lane a → ⊥) × StaysOut lane now session left done not_ours))
+      (sym own) (may, more, is, refl);
   out = λ busy. absurd (busy idle);
 }
 
@@ -38,7 +38,7 @@ pub joins_not : (lane now : List AttachedView) (a b : AttachedView) (session lef
     → AreIdleBoth lane a → left.own ≡ Some b → left ≡ session → now ≡ lane → (MayJoin lane a → ⊥)
     → JoinsTo lane now a session left not_ours
 joins_not lane now a b session left idle own is same never = record {
-  idle = λ _. subst (λ (o : Option Attached). MatchOption o ((now ≡ lane ++ a ∷ []) × (left ≡ record session { own = None }) × (not_ours ≡ done)) (λ b'. (MayJoin lane a → ⊥) × StaysOut lane now session left not_ours not_ours))
+  idle = λ _. subst (λ (o : Option Attached). MatchOption o (MayJoin lane a × (now ≡ lane ++ a ∷ []) × (left ≡ record session { own = None }) × (not_ours ≡ done)) (λ b'. (MayJoin lane a → ⊥) × StaysOut lane now session left not_ours not_ours))
       (sym own) (never, (same, is, refl));
   out = λ busy. absurd (busy idle);
 }

@@ -33,7 +33,8 @@ posted_events session op (Answers point reply) =
 posted_events session op (Refused TheEnd) = Call session Update op ∷ Back session (Updated Ended) ∷ []
 posted_events session op told = []
 
--- by why the store refuses it, if it does, and by the request that the session waited for
+-- The same by why the store refuses it, if it does, and by the request that the session waited for. A session that waited goes on with that request, so
+-- what comes is that one's answer.
 abbrev pub update_events : (session : ℕ) → Operation → Option StoreRefused → Option Pending → CallResult → Trace
 update_events session op refused (Some o) told = answer_event session (reply_told told)
 update_events session op (Some why) None told = []

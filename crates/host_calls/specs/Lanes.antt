@@ -160,10 +160,10 @@ StaysOut lane now session left status why = (now ≡ lane) × (left ≡ session)
 abbrev pub AreIdleBoth : List AttachedView → AttachedView → Type 0
 AreIdleBoth lane a = IsIdleLane lane × (a.session.note.pending ≡ None)
 
--- then the session is the lane's last one now, and its handle is closed; or both are as they were, since it may not come after the others
+-- then the session, which may come after the others, is the lane's last one now, and its handle is closed; or it may not, and both are as they were
 abbrev pub JoinsIdle : (lane now : List AttachedView) → AttachedView → (session left : SessionHandle) → ℕ → Type 0
 JoinsIdle lane now a session left status =
-    MatchOption left.own ((now ≡ lane ++ a ∷ []) × (left ≡ record session { own = None }) × (status ≡ done))
+    MatchOption left.own (MayJoin lane a × (now ≡ lane ++ a ∷ []) × (left ≡ record session { own = None }) × (status ≡ done))
     (λ b. (MayJoin lane a → ⊥) × StaysOut lane now session left status not_ours)
 
 pub record JoinsTo (lane now : List AttachedView) (a : AttachedView) (session left : SessionHandle) (status : ℕ) : Type 0 where

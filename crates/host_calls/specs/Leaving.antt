@@ -38,7 +38,8 @@ only_state status = record { status = status; line = 0; inner = 0; slot = 0 }
 
 -- ---- closing
 
--- there is no state: for want of memory, and nothing has changed; or the store is ended, but another has a part of it
+-- there is no state: for want of memory, and the store is as it was; or the store is ended, and another still has a part of it, so that no state is
+-- given
 abbrev pub LeavesNone : (before left : StoreHandle) → Type 0
 LeavesNone before left = ((left.own ≡ before.own) × (left.answered.status ≡ no_memory)) ⊎ ((left.own ≡ None) × (left.answered.status ≡ not_ours))
 

@@ -23,7 +23,8 @@ use Rattle.host_calls.specs.contracts.handles.SessionHandle.{the_row as the_sess
 use Rattle.host_calls.specs.contracts.handles.TextHandle.{the_row as the_text}
 use Rattle.host_calls.specs.contracts.handles.LaneHandle.{the_row as the_lane}
 
--- Something lies there. Or, as well, its memory is room: who writes there gives up what lay there. A closed handle has nothing to give up.
+-- Something lies there, or its memory is room: who has this may take either, but not both. Who writes there as into room gives up what lay there; a
+-- closed handle has nothing to give up.
 abbrev pub lies_there : (R : RattleType) → Ptr → R.Denot → Fml
 lies_there R p x = fand (lies_at R full_share p x) (room_at R p)
 

@@ -60,7 +60,7 @@ no_text = refusal letter_H 4
 abbrev pub no_word : ℕ
 no_word = refusal letter_H 5
 
--- H6: the session is of another store
+-- H6: the session may not come after those of a lane, or another has a part of the store
 abbrev pub not_ours : ℕ
 not_ours = refusal letter_H 6
 
@@ -72,7 +72,7 @@ other_sizes = refusal letter_H 9
 abbrev pub no_text_room : ℕ
 no_text_room = refusal letter_E 0
 
--- O1: too many places for programs
+-- O1: limits of maps, or a size, that is out of its limits
 abbrev pub out_of_limits : ℕ
 out_of_limits = refusal letter_O 1
 

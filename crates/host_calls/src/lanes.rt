@@ -170,6 +170,7 @@ impl Lane {
         requires own { AreOneLane attached.store self.old }
         requires idle { IsIdleLane self.old × (attached.session.note.pending ≡ None) }
         ensures joined { IfOk result (λ _. self.new ≡ self.old ++ attached ∷ []) }
+        ensures may { IfOk result (λ _. MayJoin self.old attached) }
         ensures back { IfErr result (λ back. (back ≡ attached) × (self.new ≡ self.old)) }
         ensures refused { IfErr result (λ _. MayJoin self.old attached → ⊥) }
     {

@@ -27,7 +27,7 @@ pub const NO_TEXT: u64 = 0x4804;
 /// H5: a word is none of a call.
 pub const NO_WORD: u64 = 0x4805;
 
-/// H6: the session is of another store.
+/// H6: the session may not come after those of a lane, or another has a part of the store.
 pub const NOT_OURS: u64 = 0x4806;
 
 /// H9: the state has other sizes than the store.
@@ -36,7 +36,7 @@ pub const OTHER_SIZES: u64 = 0x4809;
 /// E0: no memory for a text.
 pub const NO_TEXT_ROOM: u64 = 0x4500;
 
-/// O1: too many places for programs.
+/// O1: limits of maps, or a size, that is out of its limits.
 pub const OUT_OF_LIMITS: u64 = 0x4f01;
 
 /// O2: no memory.

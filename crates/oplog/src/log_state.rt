@@ -109,6 +109,13 @@ impl LogState {
         self.window - self.records.len()
     }
 
+    /// How many records it keeps at most.
+    pub fn window(&self) -> usize
+        ensures window { result ≡ self.now.window }
+    {
+        self.window
+    }
+
     /// How many records the history may still have.
     pub fn left(&self) -> usize
         ensures left { result ≡ left_of self.now }

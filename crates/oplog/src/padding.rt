@@ -24,7 +24,13 @@ pub(crate) fn refill(bytes: &mut [u8; MAX_ARG_LEN], old: usize, argument: &[u8])
     ensures padded { bytes.new ≡ padded MAX_ARG_LEN argument.now }
 {
     blank(bytes, argument.len(), old);
-    bytes[..argument.len()].copy_from_slice(argument);
+    // (a copy of constant length is a move or two, and no call)
+    match argument.len() {
+        4 => bytes[..4].copy_from_slice(argument),
+        8 => bytes[..8].copy_from_slice(argument),
+        16 => bytes[..16].copy_from_slice(argument),
+        len => bytes[..len].copy_from_slice(argument),
+    }
 }
 
 // Writes zeros from one place to another, behind which there are zeros.

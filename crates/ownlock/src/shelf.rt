@@ -279,8 +279,8 @@ impl<V: Shelved> Shelf<V> {
             .join_seat::<JoinViews>(&mut seat.pass, other.into_pass());
     }
 
-    /// For a proof: between two atomic steps there is now a state in which this seat stands, and the shelf's invariant, which
-    /// [`between_steps`](crate::between_steps) has in plain words, holds there. So no session stands in it twice. It reads a word, and changes nothing.
+    /// For a proof: this seat, as it is now, stands in some state that the shelf's invariant allows between two atomic steps.
+    /// [`between_steps`](crate::between_steps) has the invariant in plain words. So no session stands in it twice. It reads a word, and changes nothing.
     pub fn stand(&self, seat: &mut Seat<V>)
         requires own { seat.old.shelf ≡ self.now.id }
         ensures same { seat.new ≡ seat.old }

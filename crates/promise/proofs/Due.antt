@@ -1,6 +1,6 @@
 -- A call that is due is taken, and calls are answered where the last steps settle.
-use Rattle.std.proofs.Common.{◌≡◌, ℕ, zero, suc, ◌<◌, ◌≤◌, ◌&&◌, Bool, true, false, List, [], ◌∷◌, ◌++◌, length, take, Option, Some, None}
-use Rattle.std.proofs.Common.{refl, sym, ap, ◌∙◌, subst, arith}
+use Rattle.std.proofs.Common.{◌≡◌, ℕ, zero, suc, ◌<◌, ◌≤◌, inl, inr, ◌&&◌, Bool, true, false, List, [], ◌∷◌, ◌++◌}
+use Rattle.std.proofs.Common.{length, take, Option, Some, None, refl, sym, ap, ◌∙◌, subst, arith}
 use Rattle.std.specs.Prelude.{cond, if◌then◌else◌, option_map, slice_get}
 use Rattle.std.specs.Option.{option_and_then}
 use Rattle.std.proofs.lemmas.Bool.{and_from}
@@ -12,7 +12,7 @@ use Rattle.oplog.specs.Calls.{Call as ProgramCall}
 use Rattle.oplog.specs.Limits.{AreSizes}
 use Rattle.oplog.specs.Logs.{Log}
 use Rattle.oplog.specs.Operations.{Operation}
-use Rattle.oplog.specs.History.{History}
+use Rattle.oplog.specs.History.{History, ReadEffect}
 use Rattle.oplog.specs.Sessions.{session}
 use Rattle.oplog.specs.declared.configuration.Sizes.{Sizes}
 use Rattle.oplog.specs.declared.records.Op.TheVariants.{Run}
@@ -23,7 +23,7 @@ use Rattle.combiner.specs.declared.slots.Stage.{Stage}
 use Rattle.combiner.specs.declared.slots.Stage.TheVariants.{Empty, Posted, Claimed, Answered}
 use Rattle.combiner.specs.declared.slots.Reply.{Reply}
 use Rattle.combiner.specs.Slots.{counted, is_empty, slot}
-use Rattle.combiner.specs.Desks.{Collection, DeskView, answer_in, posted, with_slot}
+use Rattle.combiner.specs.Desks.{Collection, DeskView, answer_in, collected, posted, with_slot}
 use Rattle.replica.specs.StoreMeaning.{call_of, is_operation, store_meaning}
 use Rattle.replica.proofs.Export.{tests_offered}
 use Rattle.node.specs.Following.{may_answer}
@@ -38,7 +38,7 @@ use Rattle.schedule.specs.declared.steps.StepAnswer.TheVariants.{Back, Done, Not
 use Rattle.schedule.specs.Headline.{TraceIsReadOff}
 use Rattle.schedule.specs.ReadOff.{read_off}
 use Rattle.schedule.specs.Stands.{NodeStands, StageStands, Stands}
-use Rattle.schedule.specs.Steps.{Part, is_free, is_idle, no_read, node_of, part_of, post, put_part, read_begin}
+use Rattle.schedule.specs.Steps.{Part, is_free, is_idle, no_read, node_of, part_of, post, put_part, read_at, read_begin}
 use Rattle.schedule.specs.Steps.{Took, session_of_slot, took, trace_after, trace_of, with_call_or_back, with_event, with_read, world_after, world_of}
 use Rattle.schedule.specs.Taking.{WorldState, answer_of, answers_to, opened_store, step_answer}
 use Rattle.schedule.specs.Trace.{Call, Event, IsIdle, Positions, Trace}
@@ -46,7 +46,8 @@ use Rattle.schedule.specs.Trace as events
 use Rattle.schedule.specs.Worlds.{NodeView, WorldView, opened, own_of}
 use Rattle.schedule.proofs.Export.{opening_stands, run_stands}
 use Rattle.settlement.specs.Settling.{AllAnswered, EveryScheduleSettles, settling_store}
-use Rattle.promise.specs.Answered.{AnswersSuit, IsAbsent, IsDue, IsFree, MayAnswer, Settles, TakesCalls, TakesNoneAbsent}
+use Rattle.promise.specs.Answered.{AnswersSuit, IsAbsent, IsDue, IsFree, MayAnswer, NamesNoSlot, Settles}
+use Rattle.promise.specs.Answered.{TakesCalls, TakesNoneAbsent}
 
 -- ---- the steps before one
 
@@ -76,7 +77,8 @@ module _ (m : Opening) (done : ℕ) (h : History) (positions : Positions) (t : T
   idle_stage x batch count Empty (Some read) idle stands = absurd (idle Read (Run read.call) stands.0 stands.1.is_open)
   idle_stage x batch count (Posted op) None idle stands = absurd (idle Update op stands.0 stands.1.is_open)
   idle_stage x batch count Claimed None idle stands = absurd (idle Update stands.2.op stands.0 stands.6.is_open)
-  idle_stage x batch count (Answered (Placed i r)) None idle stands = absurd (idle Update stands.0 stands.1 stands.2.is_open)
+  idle_stage x batch count (Answered (Placed i r)) None idle stands =
+      absurd (idle Update stands.0 stands.1 stands.2.is_open)
   idle_stage x batch count (Answered Ended) None idle stands = absurd (idle Update stands.0 stands.1 stands.2.is_open)
   idle_stage x batch count (Posted op) (Some read) idle stands = absurd stands
   idle_stage x batch count Claimed (Some read) idle stands = absurd stands
@@ -194,7 +196,7 @@ posts_none m s op g node none =
 
 -- the step is taken at no node
 none_at : (m : Opening) (step : Step) (g : Log) (node : NodeView) → length node.desk.slots ≡ m.config.slots
-    → length node.reads ≡ m.config.slots → IsAbsent m.config step → part_of m step g node ≡ None
+    → length node.reads ≡ m.config.slots → NamesNoSlot m.config step → part_of m step g node ≡ None
 none_at m (Post n s program argument) g node slots reads far =
     posts_none m s (Run (call_of program argument.items)) g node (get_outside node.desk.slots s (omega (arith, slots, far)))
 none_at m (Install n s mode arg_len bytes) g node slots reads far =
@@ -207,13 +209,21 @@ none_at m (ReadBegin n s program argument) g node slots reads far =
     let none = get_outside node.desk.slots s (omega (arith, slots, far)) in
     let call = call_of program argument.items in
     ap (λ (b : Bool). cond (b && is_operation Read m.catalogue (Run call))
-    (Some (with_call_or_back (Call (session_of_slot node s) Read (Run call)) g (with_read node s (Some (record { call = call; seen = g.done })))))
+    (Some (with_call_or_back (Call (session_of_slot node s) Read (Run call)) g (with_read node s (Some (record {
+      call =
+          call;
+      seen = g.done;
+    })))))
     None) (no_slot node s none)
 none_at m (ReadAnswer n s) g node slots reads far =
     let none = get_outside node.reads s (omega (arith, reads, far)) in
     let answers = λ (read : BegunRead).
     cond (may_answer read.seen g.done (own_of node))
-    (option_map (λ e. with_call_or_back (events.Back (session_of_slot node s) (events.ReadBack (record { point = node.replica.tail; reply = e.reply }))) g (with_read node s None))
+    (option_map (λ e. with_call_or_back (events.Back (session_of_slot node s) (events.ReadBack (record {
+      point =
+          node.replica.tail;
+      reply = e.reply;
+    }))) g (with_read node s None))
     (store_meaning.read m.catalogue (Run read.call) node.replica.state))
     None in
     ap (λ (o : Option (Option BegunRead)). option_and_then answers (option_and_then (λ read. read) o)) none
@@ -221,14 +231,22 @@ none_at m step g node slots reads far = absurd far
 
 none_taken : (m : Opening) (w : WorldView) (h : History) (positions : Positions) (t : Trace) (step : Step)
     → Stands m w h positions t → IsAbsent m.config step → step_answer (took m w step) ≡ NotNow
-none_taken m w h positions t step x far = by (slice_get w.nodes (node_of step)) refl
+none_taken m w h positions t step x absent = by (slice_get w.nodes (node_of step)) refl absent
   where
-    by : (o : Option NodeView) → slice_get w.nodes (node_of step) ≡ o → step_answer (took m w step) ≡ NotNow
-    by None is = ap (λ o. step_answer (option_and_then (λ k. option_map (put_part w (node_of step)) (part_of m step w.log k)) o)) is
-    by (Some node) is =
+    told : Option NodeView → StepAnswer
+    told o = step_answer (option_and_then (λ k. option_map (put_part w (node_of step)) (part_of m step w.log k)) o)
+
+    by : (o : Option NodeView) → slice_get w.nodes (node_of step) ≡ o → IsAbsent m.config step
+        → step_answer (took m w step) ≡ NotNow
+    by None is absent = ap told is
+    by (Some node) is (inl far) =
+        let count = x.count in
+        absurd (none-some node (sym (get_outside w.nodes (node_of step) (omega (arith, count, far))) ∙ is))
+    by (Some node) is (inr far) =
         let desk = (x.nodes (node_of step) node is).desk in
-        ap (λ o. step_answer (option_and_then (λ k. option_map (put_part w (node_of step)) (part_of m step w.log k)) o)) is
-        ∙ ap (λ o. step_answer (option_map (put_part w (node_of step)) o)) (none_at m step w.log node desk.slots desk.reads far)
+        ap told is
+        ∙ ap (λ o. step_answer (option_map (put_part w (node_of step)) o))
+        (none_at m step w.log node desk.slots desk.reads far)
 
 -- ---- what a step is answered
 
@@ -245,17 +263,92 @@ suits_read : (c : Sizes) (answer : ReadTold) (e : Event) (step : Step)
 suits_read c answer e (ReadAnswer n s) is = tt
 suits_read c answer e step is = absurd (nothing_more e is)
 
+-- the step answers a call
+abbrev AnswersCall : Step → Type 0
+AnswersCall (Collect n s) = Unit {0}
+AnswersCall (ReadAnswer n s) = Unit {0}
+AnswersCall step = ⊥
+
+abbrev IsEvent : Option Event → Type 0
+IsEvent o = (e : Event) × (o ≡ Some e)
+
+mapped_event : {A : Type 0} (f : A → Part) → ((x : A) → IsEvent (f x).event) → (o : Option A) (p : Part)
+    → option_map f o ≡ Some p → IsEvent p.event
+mapped_event f has None p is = absurd (none-some p is)
+mapped_event f has (Some x) p is = subst (λ (z : Part). IsEvent z.event) (same_Some (f x) p is) (has x)
+
+-- then it is an event
+event_at : (m : Opening) (step : Step) (g : Log) (node : NodeView) (p : Part) → AnswersCall step
+    → part_of m step g node ≡ Some p → IsEvent p.event
+event_at m (Collect n s) g node p answers is =
+    let back = λ (c : Collection). events.Back (session_of_slot node s) (events.Updated c.reply) in
+    mapped_event (λ (c : Collection). with_call_or_back (back c) g (record node { desk = c.desk }))
+    (λ c. (_, refl)) (collected s node.desk) p is
+event_at m (ReadAnswer n s) g node p answers is = by (read_at node s) is
+  where
+    told : ReadEffect → Part
+    told e = with_call_or_back (events.Back (session_of_slot node s) (events.ReadBack (record { point = node.replica.tail; reply = e.reply }))) g (with_read node s None)
+
+    tested : (read : BegunRead) (b : Bool)
+        → cond b (option_map told (store_meaning.read m.catalogue (Run read.call) node.replica.state)) None ≡ Some p
+        → IsEvent p.event
+    tested read false never = absurd (none-some p never)
+    tested read true there =
+        mapped_event told (λ e. (_, refl)) (store_meaning.read m.catalogue (Run read.call) node.replica.state) p there
+
+    by : (o : Option BegunRead)
+        → option_and_then (λ read. cond (may_answer read.seen g.done (own_of node)) (option_map told (store_meaning.read m.catalogue (Run read.call) node.replica.state)) None) o ≡ Some p
+        → IsEvent p.event
+    by None never = absurd (none-some p never)
+    by (Some read) there = tested read (may_answer read.seen g.done (own_of node)) there
+event_at m step g node p answers is = absurd answers
+
+event_of_taken : (m : Opening) (w : WorldView) (step : Step) (r : Took) → AnswersCall step → took m w step ≡ Some r
+    → IsEvent r.event
+event_of_taken m w step r answers is = by (slice_get w.nodes (node_of step)) is
+  where
+    put : (node : NodeView) (o : Option Part) → part_of m step w.log node ≡ o
+        → option_map (put_part w (node_of step)) o ≡ Some r → IsEvent r.event
+    put node None at never = absurd (none-some r never)
+    put node (Some p) at there =
+        subst (λ (z : Took). IsEvent z.event) (same_Some (put_part w (node_of step) p) r there)
+        (event_at m step w.log node p answers at)
+
+    by : (o : Option NodeView)
+        → option_and_then (λ node. option_map (put_part w (node_of step)) (part_of m step w.log node)) o ≡ Some r
+        → IsEvent r.event
+    by None never = absurd (none-some r never)
+    by (Some node) there = put node (part_of m step w.log node) refl there
+
+done_elsewhere : (step : Step) → (AnswersCall step → ⊥) → MayAnswer Done step
+done_elsewhere (Collect n s) never = absurd (never tt)
+done_elsewhere (ReadAnswer n s) never = absurd (never tt)
+done_elsewhere step never = tt
+
+-- a call is read off no such step
+called_elsewhere : (c : Sizes) (e : Event) (step : Step) → e ∷ [] ≡ read_off c (step ∷ []) (Done ∷ [])
+    → AnswersCall step → ⊥
+called_elsewhere c e (Collect n s) is answers = nothing_more e is
+called_elsewhere c e (ReadAnswer n s) is answers = nothing_more e is
+called_elsewhere c e step is answers = answers
+
 -- what is read off a step is the event that it is
 suits_there : (c : Sizes) (step : Step) (o : Option Took)
+    → ((r : Took) → AnswersCall step → o ≡ Some r → IsEvent r.event)
     → trace_after [] o ≡ read_off c (step ∷ []) (step_answer o ∷ []) → MayAnswer (step_answer o) step
-suits_there c step None is = tt
-suits_there c step (Some r) is = by r.event is
+suits_there c step None answers is = tt
+suits_there c step (Some r) answers is = by r.event (λ a. answers r a refl) is
   where
-    by : (e : Option Event) → with_event [] e ≡ read_off c (step ∷ []) (answer_of e ∷ []) → MayAnswer (answer_of e) step
-    by None is = tt
-    by (Some (events.Call x mode op)) is = tt
-    by (Some (events.Back x (events.Updated reply))) is = suits_back c reply (events.Back x (events.Updated reply)) step is
-    by (Some (events.Back x (events.ReadBack answer))) is = suits_read c answer (events.Back x (events.ReadBack answer)) step is
+    by : (e : Option Event) → (AnswersCall step → IsEvent e)
+        → with_event [] e ≡ read_off c (step ∷ []) (answer_of e ∷ [])
+        → MayAnswer (answer_of e) step
+    by None has is = done_elsewhere step (λ a. let e = has a in none-some e.0 e.1)
+    by (Some (events.Call x mode op)) has is =
+        done_elsewhere step (called_elsewhere c (events.Call x mode op) step is)
+    by (Some (events.Back x (events.Updated reply))) has is =
+        suits_back c reply (events.Back x (events.Updated reply)) step is
+    by (Some (events.Back x (events.ReadBack answer))) has is =
+        suits_read c answer (events.Back x (events.ReadBack answer)) step is
 
 -- ---- all steps of a new store
 
@@ -294,7 +387,8 @@ module _ (reads_off : TraceIsReadOff) (m : Opening) (whole : IsCatalogue m.catal
       let s = stood before in
       let own = reads_off m w s.0 s.1 (trace_of m (opened m) [] before) [] (step ∷ []) s.2 in
       let same = same_Some _ _ (sym (answer_at m (opened m) steps i step at) ∙ is) in
-      subst (λ (z : StepAnswer). MayAnswer z step) same (suits_there m.config step (took m w step) own)
+      subst (λ (z : StepAnswer). MayAnswer z step) same
+      (suits_there m.config step (took m w step) (λ r answers at. event_of_taken m w step r answers at) own)
 
   settles_last : EveryScheduleSettles → AreSizes m.config → (steps before : List Step)
       → steps ≡ before ++ settling_store m.config
@@ -307,7 +401,8 @@ module _ (reads_off : TraceIsReadOff) (m : Opening) (whole : IsCatalogue m.catal
   pub settles_each : EveryScheduleSettles → AreSizes m.config → (steps : List Step)
       → Settles m.config steps (answers_to m (opened m) steps)
   settles_each settles config steps k before is =
-      subst (λ (z : List StepAnswer). AllAnswered (read_off m.config (take k steps) z)) (sym (answers_before m (opened m) steps k))
+      subst (λ (z : List StepAnswer). AllAnswered (read_off m.config (take k steps) z))
+      (sym (answers_before m (opened m) steps k))
       (settles_last settles config (take k steps) before is)
 
 -- what the steps of a new store answer

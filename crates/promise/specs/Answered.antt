@@ -1,5 +1,5 @@
 -- Which calls a store takes, how it answers, and when it has answered all. A store that takes no call does not meet this.
-use Rattle.std.specs.Prelude.{◌≡◌, ℕ, ◌<◌, ◌≤◌, List, ◌++◌, take, Some, slice_get}
+use Rattle.std.specs.Prelude.{◌≡◌, ℕ, ◌<◌, ◌≤◌, ◌⊎◌, List, ◌++◌, take, Some, slice_get}
 use Rattle.verifier.specs.declared.refusal.Mode.TheVariants.{Update, Read}
 use Rattle.loader.specs.CatalogueView.{CatalogueView}
 use Rattle.oplog.specs.declared.configuration.Sizes.{Sizes}
@@ -10,6 +10,7 @@ use Rattle.schedule.specs.declared.steps.Step.TheVariants.{Collect, Install, Pos
 use Rattle.schedule.specs.declared.steps.StepAnswer.{StepAnswer}
 use Rattle.schedule.specs.declared.steps.StepAnswer.TheVariants.{Back, Done, NotNow, ReadBack}
 use Rattle.schedule.specs.ReadOff.{read_off}
+use Rattle.schedule.specs.Steps.{node_of}
 use Rattle.schedule.specs.Trace.{IsIdle, Trace}
 use Rattle.settlement.specs.Settling.{AllAnswered, settling_store}
 
@@ -31,26 +32,33 @@ TakesCalls sizes c steps answers =
     (i : ℕ) (step : Step) → slice_get steps i ≡ Some step
     → IsDue sizes c (read_off sizes (take i steps) (take i answers)) step → slice_get answers i ≡ Some Done
 
--- the slot that the step names is none of the store's
-abbrev pub IsAbsent : Sizes → Step → Type 0
-IsAbsent sizes (Post node slot program argument) = sizes.slots ≤ slot
-IsAbsent sizes (Install node slot mode arg_len bytes) = sizes.slots ≤ slot
-IsAbsent sizes (Collect node slot) = sizes.slots ≤ slot
-IsAbsent sizes (ReadBegin node slot program argument) = sizes.slots ≤ slot
-IsAbsent sizes (ReadAnswer node slot) = sizes.slots ≤ slot
-IsAbsent sizes step = ⊥
+-- the step names a slot that no node of the store has
+abbrev pub NamesNoSlot : Sizes → Step → Type 0
+NamesNoSlot sizes (Post node slot program argument) = sizes.slots ≤ slot
+NamesNoSlot sizes (Install node slot mode arg_len bytes) = sizes.slots ≤ slot
+NamesNoSlot sizes (Collect node slot) = sizes.slots ≤ slot
+NamesNoSlot sizes (ReadBegin node slot program argument) = sizes.slots ≤ slot
+NamesNoSlot sizes (ReadAnswer node slot) = sizes.slots ≤ slot
+NamesNoSlot sizes step = ⊥
 
--- no step at such a slot is taken
+-- the step names a node that the store has not, or such a slot
+abbrev pub IsAbsent : Sizes → Step → Type 0
+IsAbsent sizes step = (sizes.nodes ≤ node_of step) ⊎ NamesNoSlot sizes step
+
+-- no such step is taken
 abbrev pub TakesNoneAbsent : Sizes → List Step → List StepAnswer → Type 0
 TakesNoneAbsent sizes steps answers =
     (i : ℕ) (step : Step) → slice_get steps i ≡ Some step → IsAbsent sizes step → slice_get answers i ≡ Some NotNow
 
--- a step may be answered so: the answer to an update where one collects it, and that to a read where one asks for it
+-- a step may be answered so: where one collects, by the answer to an update; where one asks for a read's answer, by that; elsewhere it is done;
+-- or it may not be taken now
 abbrev pub MayAnswer : StepAnswer → Step → Type 0
 MayAnswer (Back reply) (Collect node slot) = Unit {0}
 MayAnswer (Back reply) step = ⊥
 MayAnswer (ReadBack answer) (ReadAnswer node slot) = Unit {0}
 MayAnswer (ReadBack answer) step = ⊥
+MayAnswer Done (Collect node slot) = ⊥
+MayAnswer Done (ReadAnswer node slot) = ⊥
 MayAnswer Done step = Unit {0}
 MayAnswer NotNow step = Unit {0}
 

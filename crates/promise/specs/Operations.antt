@@ -40,7 +40,7 @@ abbrev pub with_program : StoreState → Checked → StoreState
 with_program state program = record state { programs = state.programs ++ program ∷ [] }
 
 -- The bytes encode this program (RFC 9669, section 3), for the maps of the catalogue, with the mode and the length of the
--- argument that were asked. The program always reaches its exit.
+-- argument that were asked. And the program always reaches its exit: the store installs no other.
 abbrev pub Encodes : CatalogueView → NewProgram → Checked → Type 0
 Encodes c new p =
     (p ≡ checked p.program c.shapes new.arg_len new.mode) × Decodes new.bytes p.program

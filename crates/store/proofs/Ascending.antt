@@ -207,7 +207,8 @@ pub joining_first : (all : List SessionView) (ms : List Member) (rooms : List In
     → Joining all ms rooms all
 joining_first all ms rooms none empty = subst (λ (z : List Member × List InstalledView). Joining all z.0 z.1 all) (λ i. (sym none i, sym empty i)) (record { split = refl; members = no_members })
 
-pub joining_more : (all : List SessionView) (ms : List Member) (rooms : List InstalledView) (before rest : List SessionView) (s : SessionView) (seat : StoreSeat) (caller : Caller) (room : InstalledView) → Joining all ms rooms before → before ≡ s ∷ rest → seat.shelf ≡ s.shelf → seat.sessions ≡ known_of s ∷ []
+pub joining_more : (all : List SessionView) (ms : List Member) (rooms : List InstalledView) (before rest : List SessionView) (s : SessionView) (seat : StoreSeat) (caller : Caller) (room : InstalledView)
+    → Joining all ms rooms before → before ≡ s ∷ rest → seat.shelf ≡ s.shelf → seat.sessions ≡ known_of s ∷ []
     → IsIdle seat caller → HasRoom room seat
     → Joining all (ms ++ record { seat = seat; caller = caller } ∷ []) (rooms ++ room ∷ []) rest
 joining_more all ms rooms before rest s seat caller room g is shelf known idle has = record {
@@ -255,7 +256,9 @@ module _ (store : StoreView) (ms : List Member) (rooms : List InstalledView) (ar
     ascend = ascend;
   }
 
-pub all_joined : (store : StoreView) (all : List SessionView) (ms : List Member) (rooms : List InstalledView) (rest : List SessionView) → Joining all ms rooms rest → rest ≡ [] → AreOf store all → AreAscending store.config all → length all ≤ 16 → AreJoined ms rooms × (views_of ms ≡ all)
+pub all_joined : (store : StoreView) (all : List SessionView) (ms : List Member) (rooms : List InstalledView) (rest : List SessionView)
+    → Joining all ms rooms rest → rest ≡ [] → AreOf store all → AreAscending store.config all → length all ≤ 16
+    → AreJoined ms rooms × (views_of ms ≡ all)
 all_joined store all ms rooms rest g none own near few =
     let is : views_of ms ≡ all = sym (append-nil (views_of ms)) ∙ (ap (λ z. views_of ms ++ z) (sym none) ∙ g.split) in
     let long : length ms ≡ length all = sym (length-map ms (λ (z : Member). session_view z.seat)) ∙ ap length is in
@@ -272,7 +275,9 @@ pub leaving_first : (ms : List Member) (rooms : List InstalledView) (out : List 
     → out ≡ [] → Leaving (views_of ms) out ms rooms
 leaving_first ms rooms out j none = record { split = ap (λ z. z ++ views_of ms) none; members = record { idle = j.idle; count = j.count; rooms_are = j.rooms_are } }
 
-pub leaving_more : (all before out : List SessionView) (m : Member) (ms : List Member) (room : InstalledView) (rooms : List InstalledView) (s : SessionView) → Leaving all before (m ∷ ms) (room ∷ rooms) → s ≡ session_view m.seat → out ≡ before ++ s ∷ [] → Leaving all out ms rooms
+pub leaving_more : (all before out : List SessionView) (m : Member) (ms : List Member) (room : InstalledView) (rooms : List InstalledView) (s : SessionView)
+    → Leaving all before (m ∷ ms) (room ∷ rooms) → s ≡ session_view m.seat → out ≡ before ++ s ∷ []
+    → Leaving all out ms rooms
 leaving_more all before out m ms room rooms s g seen is = record {
   split = ap (λ z. z ++ views_of ms) (is ∙ ap (λ z. before ++ z ∷ []) seen) ∙ (append_assoc before (session_view m.seat ∷ []) (views_of ms) ∙ g.split);
   members = record {

@@ -285,7 +285,8 @@ module _ (store : StoreView) (ms : List Member) (rooms : List InstalledView) (jo
   size : length now ≡ length ms
   size = replaced_long n new ms long fits
 
-  caller_kept : (j : ℕ) (o : Member) → At j o now → (m : Member) × At j m ms × (o.caller ≡ m.caller) × ((session_view o.seat).session ≡ (session_view m.seat).session)
+  caller_kept : (j : ℕ) (o : Member) → At j o now
+      → (m : Member) × At j m ms × (o.caller ≡ m.caller) × ((session_view o.seat).session ≡ (session_view m.seat).session)
   caller_kept j o at = let w = origin j o at in let k = kept w.0 w.2 in (w.0, w.1, k.0, k.1)
     where
       kept : (m : Member) → (WasAsked j m o ⊎ ((n ≤ j) × (o ≡ m)))
@@ -302,8 +303,10 @@ module _ (store : StoreView) (ms : List Member) (rooms : List InstalledView) (jo
     ascend = λ i j f g lt a b. let v = caller_kept i a.0 a.1 in let w = caller_kept j b.0 b.1 in lower i j f g lt a b v w;
   }
     where
-      lower : (i j : ℕ) (f g : K) → i < j → (a : KnownAt now i f) → (b : KnownAt now j g) → ((m : Member) × At i m ms × (a.0.caller ≡ m.caller) × ((session_view a.0.seat).session ≡ (session_view m.seat).session))
-          → ((m : Member) × At j m ms × (b.0.caller ≡ m.caller) × ((session_view b.0.seat).session ≡ (session_view m.seat).session)) → f.session < g.session
+      lower : (i j : ℕ) (f g : K) → i < j → (a : KnownAt now i f) → (b : KnownAt now j g)
+          → ((m : Member) × At i m ms × (a.0.caller ≡ m.caller) × ((session_view a.0.seat).session ≡ (session_view m.seat).session))
+          → ((m : Member) × At j m ms × (b.0.caller ≡ m.caller) × ((session_view b.0.seat).session ≡ (session_view m.seat).session))
+          → f.session < g.session
       lower i j f g lt a b v w =
           let x = joined.idle i v.0 v.1 in
           let y = joined.idle j w.0 w.1 in
@@ -314,7 +317,8 @@ module _ (store : StoreView) (ms : List Member) (rooms : List InstalledView) (jo
 
   -- by two sessions as they are seen
   pub of_views : (P : ℕ → SessionView → SessionView → Type 0)
-      → ((j : ℕ) (m o : Member) → At j m ms → At j o now → (WasAsked j m o ⊎ ((n ≤ j) × (o ≡ m))) → P j (session_view m.seat) (session_view o.seat)) → (j : ℕ) (s t : SessionView) → At j s (views_of ms) → At j t (views_of now) → P j s t
+      → ((j : ℕ) (m o : Member) → At j m ms → At j o now → (WasAsked j m o ⊎ ((n ≤ j) × (o ≡ m))) → P j (session_view m.seat) (session_view o.seat))
+      → (j : ℕ) (s t : SessionView) → At j s (views_of ms) → At j t (views_of now) → P j s t
   of_views P each j s t at there =
       let m = at_mapped (λ (z : Member). session_view z.seat) ms j s at in
       let o = at_mapped (λ (z : Member). session_view z.seat) now j t there in

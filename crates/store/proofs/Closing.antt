@@ -42,7 +42,8 @@ L = Progress CatalogueView
 abbrev ReplicaFits : L → NodeReplica → Type 0
 ReplicaFits l n = ReplicaAgrees store_meaning l (replica_value n.replica) × (sizes_of n.replica.state ≡ sizes_for l.catalogue)
 
-log_at : (l : L) (ns : List SessionNote) (v : Value) → store_rules.AgreesWith 0 l ns v → (g : Box LogView) × (v ≡ Log g) × LogAgrees store_meaning l (log_value g.value) × HasLogSizes l.config l.catalogue g.value
+log_at : (l : L) (ns : List SessionNote) (v : Value) → store_rules.AgreesWith 0 l ns v
+    → (g : Box LogView) × (v ≡ Log g) × LogAgrees store_meaning l (log_value g.value) × HasLogSizes l.config l.catalogue g.value
 log_at l ns (Log g) a = (g, refl, (session_laws.agrees 0 l ns (view_of (Log g)) a.0).1, a.1)
 log_at l ns (Replica n) a = let it = session_laws.agrees 0 l ns (view_of (Replica n)) a.0 in absurd (other it.0 it.2)
   where

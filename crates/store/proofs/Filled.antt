@@ -69,7 +69,9 @@ shelved config c none first second third log empty is opened long kept replicas 
 
 -- ---- they agree with what a store begins with
 
-desk_opens : (config : Sizes) (c : CatalogueView) (node : ℕ) (v : Value) → node < config.nodes → IsOpenedDesk config.slots node v → store_rules.AgreesWith (desk_place config node) (first_progress config c) (replicate (sessions_of config) fresh_note) v
+desk_opens : (config : Sizes) (c : CatalogueView) (node : ℕ) (v : Value) → node < config.nodes
+    → IsOpenedDesk config.slots node v
+    → store_rules.AgreesWith (desk_place config node) (first_progress config c) (replicate (sessions_of config) fresh_note) v
 desk_opens config c node (Desk d) lt is =
     let low : suc node * config.slots ≤ config.nodes * config.slots = mul-le-mul_right config.slots lt in
     let more = suc-mul node config.slots in

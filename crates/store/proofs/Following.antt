@@ -5,7 +5,7 @@ use Rattle.std.proofs.lemmas.List.{length-map}
 use Rattle.ownlock.specs.Seats.{At, IsSession}
 use Rattle.loader.specs.Installed.{InstalledView}
 use Rattle.oplog.specs.Sessions.{session}
-use Rattle.accounts.proofs.Export.{at_below, at_behind, at_front, at_map, at_one, at_there}
+use Rattle.accounts.proofs.Export.{at_below, at_behind, at_front, at_map, at_mapped, at_one, at_there}
 use Rattle.store_steps.specs.declared.pipelines.Member.{Member}
 use Rattle.store_steps.specs.declared.steps.Caller.{Caller}
 use Rattle.store_steps.specs.Standing.{SessionKnown}
@@ -38,29 +38,28 @@ module _ (store : StoreView) (ms : List Member) (rooms : List InstalledView) (jo
   slot_at : (j : ℕ) (m : Member) → At j m ms → HasSlot store.config (session_view m.seat) m.caller
   slot_at j m at = member_slot store m (joined.idle j m at) (own_member j m at)
 
-  module _ (m : Member) (room : InstalledView) (idle : IsIdle m.seat m.caller) (has : HasRoom room m.seat) (of : IsOf store (session_view m.seat)) (follows : Follows ms m.caller) where
+  -- a session whose slot is above the last one's
+  module _ (s : SessionView) (caller : Caller) (slot : HasSlot store.config s caller) (follows : Follows ms caller) where
     last_of : (j : ℕ) (p : Member) → At j p ms → (q : Member) × At (length ms - 1) q ms
     last_of j p at = let below = at_below ms j p at in at_there ms (length ms - 1) (omega (arith, below))
 
-    node_of : (j : ℕ) (p : Member) → At j p ms → p.caller.node ≡ m.caller.node
+    node_of : (j : ℕ) (p : Member) → At j p ms → p.caller.node ≡ caller.node
     node_of j p at = let q = last_of j p at in joined.near j (length ms - 1) p q.0 at q.1 ∙ (follows.last q.0 q.1).0
 
     -- the last one is below the new one
-    last_below : (q : Member) → At (length ms - 1) q ms → (session_view q.seat).session < (session_view m.seat).session
+    last_below : (q : Member) → At (length ms - 1) q ms → (session_view q.seat).session < s.session
     last_below q at =
         let a = slot_at (length ms - 1) q at in
-        let b = member_slot store m idle of in
         let f = follows.last q at in
-        less (m.caller.node * store.config.slots) (a.own ∙ ap (λ z. session store.config z q.caller.slot) f.0) b.own f.1
+        less (caller.node * store.config.slots) (a.own ∙ ap (λ z. session store.config z q.caller.slot) f.0) slot.own f.1
       where
         less : (base : ℕ) → (session_view q.seat).session ≡ base + q.caller.slot
-            → (session_view m.seat).session ≡ base + m.caller.slot → q.caller.slot < m.caller.slot
-            → (session_view q.seat).session < (session_view m.seat).session
+            → s.session ≡ base + caller.slot → q.caller.slot < caller.slot
+            → (session_view q.seat).session < s.session
         less base a b lt = omega (arith, a, b, lt)
 
     -- and so is each other one
-    all_below : (j : ℕ) (p : Member) (f : K) → At j p ms → IsSession p.seat f
-        → f.session < (session_view m.seat).session
+    all_below : (j : ℕ) (p : Member) (f : K) → At j p ms → IsSession p.seat f → f.session < s.session
     all_below j p f at is =
         let q = last_of j p at in
         let below = at_below ms j p at in
@@ -74,14 +73,35 @@ module _ (store : StoreView) (ms : List Member) (rooms : List InstalledView) (jo
         apart : (a b : ℕ) → a ≤ b → (a < b) ⊎ (a ≡ b)
         apart a b le = ⊎_elim (λ lt. inl lt) (λ not. inr (omega (arith, le, not))) (cases_lt a b)
 
-        here : j ≡ length ms - 1 → (q : Member) → At (length ms - 1) q ms
-            → (session_view q.seat).session < (session_view m.seat).session → f.session < (session_view m.seat).session
+        here : j ≡ length ms - 1 → (q : Member) → At (length ms - 1) q ms → (session_view q.seat).session < s.session
+            → f.session < s.session
         here same q there top =
             let e : p ≡ q = at_one ms (length ms - 1) p q (subst (λ z. At z p ms) same at) there in
             let seen = ap (λ (z : SessionView). z.session) (seen_as p.seat f is) in
-            let high = subst (λ (z : Member). (session_view z.seat).session < (session_view m.seat).session) (sym e) top in
+            let high = subst (λ (z : Member). (session_view z.seat).session < s.session) (sym e) top in
             omega (arith, seen, high)
 
+    -- so it may follow
+    pub follows_may : MayFollow store.config (views_of ms) s
+    follows_may = record {
+      room = let few = follows.room in let long = length-map ms (λ (z : Member). session_view z.seat) in omega (arith, few, long);
+      near = λ j t at.
+          let q = there j t at in
+          let a = slot_at j q.0 q.1 in
+          let own = ap (λ (z : SessionView). z.session) q.2 ∙ (a.own ∙ ap (λ z. session store.config z q.0.caller.slot) (node_of j q.0 q.1)) in
+          (caller.node, (q.0.caller.slot, a.within, own), (caller.slot, slot.within, slot.own));
+      above = λ j t at.
+          let q = there j t at in
+          let i = joined.idle j q.0 q.1 in
+          let below = all_below j q.0 i.known q.1 i.is in
+          let seen = ap (λ (z : SessionView). z.session) (q.2 ∙ seen_as q.0.seat i.known i.is) in
+          omega (arith, below, seen);
+    }
+      where
+        there : (j : ℕ) (t : SessionView) → At j t (views_of ms) → (q : Member) × At j q ms × (t ≡ session_view q.seat)
+        there j t at = at_mapped (λ (z : Member). session_view z.seat) ms j t at
+
+  module _ (m : Member) (room : InstalledView) (idle : IsIdle m.seat m.caller) (has : HasRoom room m.seat) (of : IsOf store (session_view m.seat)) (follows : Follows ms m.caller) where
     pub one_more : AreJoined (ms ++ m ∷ []) (rooms ++ room ∷ [])
     one_more =
         let all = more_members ms rooms m room (record { idle = joined.idle; count = joined.count; rooms_are = joined.rooms_are }) idle has in
@@ -97,8 +117,8 @@ module _ (store : StoreView) (ms : List Member) (rooms : List InstalledView) (jo
         near : (i j : ℕ) (p q : Member) → (At i p ms ⊎ ((i ≡ length ms) × (p ≡ m)))
             → (At j q ms ⊎ ((j ≡ length ms) × (q ≡ m))) → p.caller.node ≡ q.caller.node
         near i j p q (inl a) (inl b) = joined.near i j p q a b
-        near i j p q (inl a) (inr b) = node_of i p a ∙ ap (λ (z : Member). z.caller.node) (sym b.1)
-        near i j p q (inr a) (inl b) = ap (λ (z : Member). z.caller.node) a.1 ∙ sym (node_of j q b)
+        near i j p q (inl a) (inr b) = node_of (session_view m.seat) m.caller (member_slot store m idle of) follows i p a ∙ ap (λ (z : Member). z.caller.node) (sym b.1)
+        near i j p q (inr a) (inl b) = ap (λ (z : Member). z.caller.node) a.1 ∙ sym (node_of (session_view m.seat) m.caller (member_slot store m idle of) follows j q b)
         near i j p q (inr a) (inr b) = ap (λ (z : Member). z.caller.node) (a.1 ∙ sym b.1)
 
         ascend : (i j : ℕ) (f g : K) → i < j → (p q : Member) → (At i p ms ⊎ ((i ≡ length ms) × (p ≡ m)))
@@ -106,7 +126,7 @@ module _ (store : StoreView) (ms : List Member) (rooms : List InstalledView) (jo
             → f.session < g.session
         ascend i j f g lt p q (inl a) (inl b) x y = joined.ascend i j f g lt (p, a, x) (q, b, y)
         ascend i j f g lt p q (inl a) (inr b) x y =
-            let low = all_below i p f a x in
+            let low = all_below (session_view m.seat) m.caller (member_slot store m idle of) follows i p f a x in
             let seen = ap (λ (z : SessionView). z.session) (seen_as q.seat g y) ∙ refl in
             let same = ap (λ (z : Member). (session_view z.seat).session) b.1 in
             omega (arith, low, seen, same)

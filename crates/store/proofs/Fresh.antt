@@ -87,8 +87,10 @@ module _ (config : Sizes) (c : CatalogueView) where
   fresh_long id a zero = refl
   fresh_long id a (suc n) = let long = fresh_long id (suc a) n in omega (arith, long)
 
-  pub seated_more : (id : ShelfId) (total a b : ℕ) (seat next own : S) (sessions more : List SessionView) (s : SessionView) → b ≡ a + 1 → a < total → Seated id total a seat sessions → next.shelf ≡ seat.shelf → own.shelf ≡ seat.shelf
-      → ((k : SessionKnown) (ks : List SessionKnown) → seat.sessions ≡ k ∷ ks → (next.sessions ≡ ks) × (own.sessions ≡ k ∷ [])) → s ≡ session_view own → more ≡ sessions ++ s ∷ [] → Seated id total b next more
+  pub seated_more : (id : ShelfId) (total a b : ℕ) (seat next own : S) (sessions more : List SessionView) (s : SessionView)
+      → b ≡ a + 1 → a < total → Seated id total a seat sessions → next.shelf ≡ seat.shelf → own.shelf ≡ seat.shelf
+      → ((k : SessionKnown) (ks : List SessionKnown) → seat.sessions ≡ k ∷ ks → (next.sessions ≡ ks) × (own.sessions ≡ k ∷ []))
+      → s ≡ session_view own → more ≡ sessions ++ s ∷ [] → Seated id total b next more
   seated_more id total a b seat next own sessions more s is lt g same apart split view grown =
       let n = next_seat id total a seat sessions lt g in
       let t = split (fresh_known config c a) (left_from (suc a) n.0) n.2 in

@@ -238,6 +238,7 @@ explained_in always store sessions whole c =
           (more.0, ap trace_of on.1 ∙ more.1, more.2);
       positions = explained.0;
       explains = explains always m c.progress.history explained.0 (trace_of c.run) whole explained.1 c.within;
+      callers = traces_are_theirs m count places c.run c.progress c.notes c.leads;
     }
 
 -- two sessions in a state between two atomic steps

@@ -258,7 +258,9 @@ module _ (store : StoreView) (ms : List Member) (rooms : List InstalledView) (po
           (cases_lt j posted)
 
   -- by two sessions as they are seen
-  pub listed_views : (P : ℕ → SessionView → SessionView → Type 0) → ((j : ℕ) (m o : Member) → At j m ms → At j o all → (WasFirst j m o ⊎ ((n ≤ j) × (o ≡ m))) → P j (session_view m.seat) (session_view o.seat)) → (j : ℕ) (s t : SessionView) → At j s (views_of ms) → At j t (views_of all) → P j s t
+  pub listed_views : (P : ℕ → SessionView → SessionView → Type 0)
+      → ((j : ℕ) (m o : Member) → At j m ms → At j o all → (WasFirst j m o ⊎ ((n ≤ j) × (o ≡ m))) → P j (session_view m.seat) (session_view o.seat))
+      → (j : ℕ) (s t : SessionView) → At j s (views_of ms) → At j t (views_of all) → P j s t
   listed_views P give j s t at there =
       let m = at_mapped view_of_member ms j s at in
       let o = at_mapped view_of_member all j t there in
@@ -403,7 +405,8 @@ module _ (store : StoreView) (ms : List Member) (rooms : List InstalledView) (po
 
 -- ---- a list that is new
 
-pub listed_new : (ms : List Member) (rooms : List InstalledView) (b : BatchView) (kept : RepliesView) (stage : EachStage) → AreJoined ms rooms → AreListed ms rooms 0 b kept stage
+pub listed_new : (ms : List Member) (rooms : List InstalledView) (b : BatchView) (kept : RepliesView) (stage : EachStage)
+    → AreJoined ms rooms → AreListed ms rooms 0 b kept stage
 listed_new ms rooms b kept stage j = record {
   out = λ lt. absurd (omega (arith, lt));
   idle = λ i m le at. j.idle i m at;

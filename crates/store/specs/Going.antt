@@ -16,7 +16,7 @@ abbrev pub UpdateGoes : (old new : SessionView) → Operation → Result Answer 
 UpdateGoes old new op result = (reply : Reply) × (result ≡ said reply) × UpdatesBy (known_of old) (known_of new) op reply
 
 -- An update by holds of its desk: its session has its first turn in the hold of its post, and hands over what it combines in the hold of its next turn.
--- So it takes four places if no other session combines: the desk, the replica, the log, and the desk again.
+-- So it takes four places if no other session combines, apart from tries in vain: the desk, the replica, the log, and the desk again.
 abbrev pub UpdateHolds : (old new : SessionView) → Operation → Result Answer StoreRefused → Type 0
 UpdateHolds old new op result = (reply : Reply) × (result ≡ said reply) × UpdatesInHolds (known_of old) (known_of new) op reply
 

@@ -14,8 +14,9 @@ IsBehind count (Updated (Placed index reply)) = count ≤ index
 IsBehind count (Updated Ended) = Unit {0}
 IsBehind count (ReadBack answer) = count ≤ answer.point
 
--- One session has an answer. Then another makes a call, and that is answered. One list of operations explains what both have called, before that call and
--- after it. Then the call comes after all operations that had happened for sure when the first answer was back.
+-- One session has an answer. Then another makes a call, and that is answered. Some list of operations explains what both have called before that call,
+-- and some list, perhaps another, what both have called after it. Then the call comes after all operations that had happened for sure when the first
+-- answer was back. An update that finds the history ended has no index, so nothing is said of it.
 abbrev pub CallsInOrder : Type 0
 CallsInOrder =
     (store : StoreView) (one other later : SessionView) (i : ℕ) (first : Answer) (mode : Mode) (op : Operation)

@@ -1,6 +1,6 @@
 -- What a call adds to the calls and answers of its session, and what it is that one list of operations explains those of
 -- all sessions.
-use Rattle.std.specs.Prelude.{◌≡◌, ℕ, ◌++◌, List, [], ◌∷◌, Option, Some, None, Result, Ok, Err}
+use Rattle.std.specs.Prelude.{◌≡◌, ℕ, ◌<◌, ◌++◌, List, [], ◌∷◌, Option, Some, None, Result, Ok, Err}
 use Rattle.std.specs.List.{All}
 use Rattle.ownlock.specs.Seats.{At}
 use Rattle.oplog.specs.Operations.{Operation}
@@ -12,6 +12,7 @@ use Rattle.replica.specs.declared.refusals.StoreRefused.{StoreRefused}
 use Rattle.readpath.specs.declared.reading.ReadAnswer.{ReadAnswer}
 use Rattle.schedule.specs.Trace.{Back, Call, Positions, ReadBack, Trace, Updated, caller}
 use Rattle.promise.specs.Linearized.{Explains}
+use Rattle.store_steps.specs.Shelving.{sessions_of}
 use Rattle.store_steps.specs.Views.{SessionView}
 use Rattle.store_laws.specs.RunEvents.{events_of_session, own_trace, trace_of}
 use Rattle.store.specs.declared.answers.Answer.{Answer}
@@ -75,8 +76,8 @@ AddsTry old new op (Err refused) = ⊥
 
 -- ---- one list of operations
 
--- This list of operations explains a trace. In it each of these sessions has its own events, in their order. What one of them had
--- seen when its last call returned begins it, with all events of its own: whatever is called later comes behind that.
+-- This list of operations explains a trace of calls and answers of the store's sessions. In it each of these sessions has exactly its own events,
+-- in their order. What one of them had seen when its last call returned begins it: what others call later comes after that.
 pub record Explained (store : StoreView) (sessions : List SessionView) (history : History) : Type 0 where
   pub trace : Trace
   pub own : (a : ℕ) (s : SessionView) → At a s sessions → events_of_session s.session trace ≡ own_events s
@@ -84,6 +85,7 @@ pub record Explained (store : StoreView) (sessions : List SessionView) (history 
       → (more : Trace) × (trace ≡ seen s ++ more) × (events_of_session s.session more ≡ [])
   pub positions : Positions
   pub explains : Explains store.catalogue store.config.limit history positions trace
+  pub callers : All (λ e. caller e < sessions_of store.config) trace
 
 -- And nobody else has an event in it.
 pub record Linearizes (store : StoreView) (sessions : List SessionView) (history : History) : Type 0 where
@@ -91,7 +93,7 @@ pub record Linearizes (store : StoreView) (sessions : List SessionView) (history
   pub open of use *
   pub only : All (λ e. (a : ℕ) × (s : SessionView) × At a s sessions × (s.session ≡ caller e)) trace
 
--- some list explains so what these sessions, and any others, have called so far
+-- some list does that of these sessions; of any other it has what these have seen, and perhaps more
 abbrev pub AreExplained : StoreView → List SessionView → Type 0
 AreExplained store sessions = (history : History) × Explained store sessions history
 

@@ -276,6 +276,7 @@ impl PolledPipeline {
         requires own { AreOf store.now self.old × IsOf store.now session }
         requires idle { AreWaiting 0 self.old }
         ensures added { IfOk result (λ _. self.new ≡ self.old ++ session ∷ []) }
+        ensures may { IfOk result (λ _. MayFollow store.now.config self.old session) }
         ensures back { IfErr result (λ back. (back ≡ session) × (self.new ≡ self.old)) }
         ensures refused { IfErr result (λ _. MayFollow store.now.config self.old session → ⊥) }
     {

@@ -281,8 +281,8 @@ impl Session {
         self.call(rt, store, Question { program, argument }, false)
     }
 
-    /// Runs an update program as [`invoke`](Session::invoke) does, with four takes where `invoke` has six: where nobody else combines, it takes the desk
-    /// of its node, the replica, the log, and the desk again.
+    /// Runs an update program as [`invoke`](Session::invoke) does, with four takes where `invoke` has six, apart from tries in vain: where nobody else
+    /// combines, it takes the desk of its node, the replica, the log, and the desk again.
     ///
     /// # Errors
     ///

@@ -329,9 +329,9 @@ impl Store {
         Ok(Closed::new(setup.catalogue, values))
     }
 
-    /// For a proof: one list of operations explains all calls and answers so far, and what these two sessions have called and seen stands there as in
-    /// [`close`](Store::close). So who has both, and has called one after the other, knows which came first, while others go on
-    /// ([`calls_in_order`](crate::calls_in_order)). They are different sessions. It reads a word, and changes nothing.
+    /// For a proof: one list of operations explains what these two sessions have called and were answered, and what they have seen of the others. So who
+    /// has both, and has called one after the other, knows which came first, while others go on ([`calls_in_order`](crate::calls_in_order)). They are
+    /// different sessions. It reads a word, and changes nothing.
     ///
     /// # Examples
     ///

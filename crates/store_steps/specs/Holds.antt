@@ -55,8 +55,8 @@ pub record GoesOnAndCollects (old new : ℕ → SessionKnown) (replies : List Re
   pub kept : RepliesView
   pub collects : CollectsInOneHold between new batch kept replies
 
--- A list of updates by four takes in all: after each session has looked for nothing, so often, all post in one hold of their desk; the first one
--- combines, for which it takes its replica and the log; and all collect in another hold.
+-- A list of updates by four takes in all, apart from tries in vain: after each session has looked for nothing, so often, all post in one hold of their
+-- desk; the first one combines, for which it takes its replica and the log; and all collect in another hold.
 pub record UpdatesInTwoHolds (old new : ℕ → SessionKnown) (calls : List Question) (replies : List Reply) : Type 0 where
   pub looked : ℕ → SessionKnown
   pub looks : (j : ℕ) → j < length calls → HasLooked (old j) (looked j)

@@ -9,7 +9,7 @@ ghost use Rattle.store_steps.specs.Standing.{Stands, IsFree};
 ghost use Rattle.store_steps.specs.Trying.{IsStill};
 
 use crate::desks;
-use crate::pauses::{Pauses, Waiting};
+use crate::pauses::Waiting;
 use crate::steps::{Here, Shared, replay_and_raise, try_append_and_copy};
 use crate::values::Value;
 use crate::visits::try_take_desk;
@@ -80,7 +80,7 @@ pub(crate) fn append_and_replay<R: Wait>(
 // answers to the slots of its desk. The replies are room for what their programs answer.
 #[inline(always)]
 pub(crate) fn combine<R: Wait>(
-    rt: &R,
+    waiting: Waiting<'_, '_, R>,
     here: Here<'_>,
     seat: &mut Seat<Value>,
     batch: &mut Batch,
@@ -91,8 +91,8 @@ pub(crate) fn combine<R: Wait>(
     ensures same { seat.new.shelf ≡ seat.old.shelf }
     ensures combined { SessionCombines seat.old seat.new batch.old batch.new }
 {
-    let pauses = &mut Pauses::new();
-    append_and_replay(Waiting { rt, pauses }, here, seat, batch, replies);
+    let rt = waiting.rt;
+    append_and_replay(waiting, here, seat, batch, replies);
     hand_over(rt, here, seat, batch, replies);
 }
 

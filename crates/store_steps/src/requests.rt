@@ -9,6 +9,7 @@ use crate::batches::Room;
 use crate::combining::combine;
 use crate::desks;
 use crate::desks::Turn;
+use crate::pauses::Waiting;
 use crate::steps::Here;
 use crate::values::Value;
 use crate::visits::{try_take_desk, turn_and_put};
@@ -135,7 +136,14 @@ pub fn complete<R: Wait>(rt: &R, here: Here<'_>, seat: &mut Seat<Value>, room: &
         match turn(rt, here, seat, &mut room.batch) {
             Turn::Collects(reply) => return reply,
             Turn::Combines => {
-                combine(rt, here, seat, &mut room.batch, &mut room.replies);
+                let pauses = &mut room.pauses;
+                combine(
+                    Waiting { rt, pauses },
+                    here,
+                    seat,
+                    &mut room.batch,
+                    &mut room.replies,
+                );
                 room.count_batch();
                 room.pauses.shorten();
             }

@@ -149,9 +149,18 @@ fn is_base_due(log: &LogState, node: &NodeReplica, shared: Shared<'_>, want: usi
     if lacks_room(log, want) {
         return true;
     }
-    frees_room(log, node, want)
-        && is_exchange_cheaper(log, shared.worth)
-        && is_last(log, node, shared)
+    is_exchange_cheaper(log, shared.worth) && is_exchange_due(log, node, shared, want)
+}
+
+// The same where the maps are worth more records than a window has.
+#[inline(never)]
+fn is_exchange_due(log: &LogState, node: &NodeReplica, shared: Shared<'_>, want: usize) -> bool
+    requires above { is_above log.now node.now ≡ true }
+    requires fits { Fits log.now node.now }
+    ensures frees { result ≡ true → FreesRoom want log.now node.now }
+    ensures half { result ≡ true → IsHalfBefore log.now node.now }
+{
+    frees_room(log, node, want) && is_last(log, node, shared)
 }
 
 // Brings the replica up to the log's end, where the log has no room for so many without the records that it has applied. Answers whether
@@ -201,10 +210,7 @@ pub fn records_worth(catalogue: &Catalogue) -> usize {
 
 // Whether it costs less to apply a window of records once more than to copy the maps, which are worth so many records.
 fn is_exchange_cheaper(log: &LogState, worth: usize) -> bool {
-    let window = log
-        .room()
-        .saturating_add((log.tail() - log.base()) as usize);
-    window < worth
+    log.window() < worth
 }
 
 // Makes the replica, all of which is completed, the log's base: where the maps are small by a copy of them, else the replica and the base

@@ -11,7 +11,7 @@ returns-in-Ok c =
     let idle : AreIdleBoth c.in-Some.lane a = (c.is_waiting-else-is_waiting.ensures.idle c.if-is_waiting-2.false, none_if a.session.note.pending c.is_waiting.result c.is_waiting.ensures.waiting c.if-is_waiting.false) in
     record {
       joins = joins_open c.args.handle.now _ session _ c.in-Some.lane c.join.new.self a c.in-Some.is refl (sym c.take.ensures.value ∙ c.in-Some-take.is) refl
-          (joins_done c.in-Some.lane c.join.new.self a session _ idle c.take.ensures.after (ap (λ (o : Option Attached). record session { own = o }) c.take.ensures.after) c.in-Ok.ensures.joined);
+          (joins_done c.in-Some.lane c.join.new.self a session _ idle c.take.ensures.after (ap (λ (o : Option Attached). record session { own = o }) c.take.ensures.after) c.in-Ok.ensures.joined c.in-Ok.ensures.may);
     }
 
 pub returns-in-Err : goal.returns-in-Err

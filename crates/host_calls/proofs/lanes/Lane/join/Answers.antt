@@ -62,3 +62,11 @@ returns-clause-refused c may =
     let is : c.args.attached.store ≡ c.deref.result.now = search rules in
     let same = seen l.homes.items l.sessions c.args.self.now c.self.invariant.0.count c.self.view_is in
     c.in-Err.ensures.refused (subst (λ (z : StoreView × (List SessionView × SessionView)). MayFollow z.0.config z.1.0 z.1.1) (λ i. (is i, (same i, (sym p.2) i))) may.1)
+
+pub returns-in_default-clause-may : goal.returns-in_default-clause-may
+returns-in_default-clause-may c =
+    let l = c.self.inside in
+    let p = c.into_parts-store.ensures.parts in
+    let is : c.args.attached.store ≡ c.deref.result.now = search rules in
+    let same = seen l.homes.items l.sessions c.args.self.now c.self.invariant.0.count c.self.view_is in
+    (c.requires.own, subst (λ (z : StoreView × (List SessionView × SessionView)). MayFollow z.0.config z.1.0 z.1.1) (λ i. ((sym is) i, ((sym same) i, p.2 i))) c.in_default.ensures.may)

@@ -10,8 +10,10 @@ use Rattle.store.specs.Sessions.{SessionGoesOn, StoreView}
 use Rattle.store.proofs.Linear.{adds_try}
 use Rattle.store.proofs.polled.Polled.try_read.Goals as goal
 
-by_result : (store : StoreView) (old new : SessionView) (op : Operation) → SessionGoesOn store old new → (P : ReadAnswer → Type 0) → (r : Result (Option ReadAnswer) StoreRefused) → TellsTried r P
-    → TriedGoes r (λ a. new.note ≡ read_with old.note op a.point a.reply) → IfUnanswered r (new.note ≡ old.note) → AddsTry old new op r
+by_result : (store : StoreView) (old new : SessionView) (op : Operation) → SessionGoesOn store old new
+    → (P : ReadAnswer → Type 0) → (r : Result (Option ReadAnswer) StoreRefused) → TellsTried r P
+    → TriedGoes r (λ a. new.note ≡ read_with old.note op a.point a.reply) → IfUnanswered r (new.note ≡ old.note)
+    → AddsTry old new op r
 by_result store old new op goes P (Ok None) told note still = adds_try store old new op goes None still
 by_result store old new op goes P (Ok (Some a)) told note still = adds_try store old new op goes (Some a) note
 by_result store old new op goes P (Err e) told note still = told

@@ -25,7 +25,8 @@ returns-clause-told g c none =
     let t = c.in-Ok.ensures.told i.known i.is in
     sight_seen (heard_by g.L.Look.asks c.args.look.now (g.L.Look.replies c.in-Ok.told)) s.seat c.try_look.new.seat i.known t.0 i.is t.1 c.args.self.now c.self.view_is i.free.held (holds (g.L.Look.sees c.args.look.now c.try_look.new.look c.in-Ok.told)) (g.L.Look.point c.in-Ok.told) t.2 t.3
 
-looked : (g : _) (c : goal.In-Ok g) → HasLooked c.args.store.now c.args.self.now c.try_look.new.seat c.self.inside.caller c.self.inside.batch c.self.inside.replies c.self.inside.stage c.self.inside.room
+looked : (g : _) (c : goal.In-Ok g)
+    → HasLooked c.args.store.now c.args.self.now c.try_look.new.seat c.self.inside.caller c.self.inside.batch c.self.inside.replies c.self.inside.stage c.self.inside.room
 looked g c =
     let s = c.self.inside in
     let new = c.try_look.new.seat in

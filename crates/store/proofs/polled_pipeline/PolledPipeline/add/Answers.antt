@@ -5,7 +5,7 @@ use Rattle.store_steps.specs.Views.{session_view}
 use Rattle.store.specs.Opening.{AreOf}
 use Rattle.store.specs.PolledPipelines.{AreListed, AreWaiting, Follows, MayFollow}
 use Rattle.store.specs.Sessions.{IsOf}
-use Rattle.store.proofs.Following.{follows_too, may_follow, one_more}
+use Rattle.store.proofs.Following.{follows_may, follows_too, may_follow, one_more}
 use Rattle.store.proofs.Ascending.{HasSlot, has_slot, member_slot, seat_seen}
 use Rattle.store.proofs.PolledEach.{all_idle, listed_new, posted_is}
 use Rattle.store.proofs.polled_pipeline.PolledPipeline.add.Goals as goal
@@ -48,3 +48,16 @@ invariant_of-self-2 c =
       omega (arith, space, wide),
       omega (arith, room, roomy),
     )
+
+pub returns-clause-may : goal.returns-clause-may
+returns-clause-may c =
+    let p = c.self.inside in
+    let idle = subst (AreWaiting 0) (sym c.self.view_is) c.requires.idle in
+    let listed = c.self.invariant.0 in
+    let joined = all_idle _ _ _ _ _ _ listed (posted_is _ _ _ _ _ _ listed 0 (omega arith) idle) in
+    let own = subst (AreOf c.args.store.now) (sym c.self.view_is) c.requires.own.0 in
+    let yes : IsTrue c.follows.result = search rules in
+    let f = subst (λ z. Follows z c.caller.result) c.deref.ensures.value (c.follows.ensures.follows.0 yes) in
+    let slot = has_slot c.args.store.now c.args.session c.caller.result c.requires.own.1 c.caller.ensures.own c.caller.ensures.within in
+    subst (λ z. MayFollow c.args.store.now.config z c.args.session) c.self.view_is
+    (follows_may c.args.store.now p.members.items p.rooms.items joined own c.args.session c.caller.result slot f)

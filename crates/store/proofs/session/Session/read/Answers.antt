@@ -10,7 +10,8 @@ use Rattle.store.specs.Sessions.{SessionGoesOn, StoreView}
 use Rattle.store.proofs.Linear.{adds_read}
 use Rattle.store.proofs.session.Session.read.Goals as goal
 
-by_result : (store : StoreView) (old new : SessionView) (op : Operation) → SessionGoesOn store old new → (P : ReadAnswer → Type 0) → (r : Result ReadAnswer StoreRefused) → MatchResult r P (λ _. ⊥)
+by_result : (store : StoreView) (old new : SessionView) (op : Operation) → SessionGoesOn store old new
+    → (P : ReadAnswer → Type 0) → (r : Result ReadAnswer StoreRefused) → MatchResult r P (λ _. ⊥)
     → IfOk r (λ a. new.note ≡ read_with old.note op a.point a.reply) → AddsRead old new op r
 by_result store old new op goes P (Ok a) told note = adds_read store old new op goes a note
 by_result store old new op goes P (Err e) told note = told
