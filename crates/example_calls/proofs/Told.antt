@@ -66,8 +66,13 @@ pub answered_as : (old new : SessionView) (o : Pending) (op : Operation) (a : An
     → TellsUpdate old new op (Ok a)
 answered_as old new o op a is seen told note =
     let low = told.0 in
-    let answers = subst (λ (z : Operation). Tells store_meaning new.progress old.session (length old.note.answered) (record { op = z; seen = length old.progress.history }) (Placed a.index a.reply)) is (omega (arith, seen, low), told.1) in
-    (answers, note ∙ ((λ j. answered_with (record (called_with old.note (is j)) { batch = [] }) (is j) (Placed a.index a.reply)) ∙ whole_note old.note op (Placed a.index a.reply)))
+    let answers = subst (λ (z : Operation). Tells store_meaning new.progress old.session (length old.note.answered)
+    (record { op = z; seen = length old.progress.history }) (Placed a.index a.reply)) is
+    (omega (arith, seen, low), told.1) in (
+      answers,
+      note ∙ ((λ j. answered_with (record (called_with old.note (is j)) { batch = [] }) (is j)
+          (Placed a.index a.reply)) ∙ whole_note old.note op (Placed a.index a.reply)),
+    )
 
 -- the note of who made this update has its call and its answer
 pub noted_by : (old new : SessionView) (op : Operation) (a : Answer) → HasUpdated old new op a
@@ -91,7 +96,8 @@ waits_adds old new op r told result value =
         (reply_is a reply is) adds
 
 pub update_adds : (old new : SessionView) (op : Operation) (refusal : Option StoreRefused)
-    (r : Result Answer StoreRefused) → IsRefused refusal r (new ≡ old) → (refusal ≡ None → AddsUpdate old new op r) → (result : Option Answer)
+    (r : Result Answer StoreRefused) → IsRefused refusal r (new ≡ old) → (refusal ≡ None → AddsUpdate old new op r)
+    → (result : Option Answer)
     → result ≡ result_ok r → IfSome result (λ a. Adds old new (call_and_back old.session op a))
 update_adds old new op None r early adds result value = waits_adds old new op r (adds refl) result value
 update_adds old new op (Some e) r early adds result value =
@@ -121,13 +127,16 @@ polled_adds {A} old mid new op refusal o a is early post r back result value =
 -- ---- a read
 
 by_read : (old new : SessionView) (op : Operation) (r : Result ReadAnswer StoreRefused) → AddsRead old new op r
-    → TellsSight (HasReply op) (λ (a : ReadAnswer). a.point) old new r → IfSome (result_ok r) (λ a. HasRead old new op a)
+    → TellsSight (HasReply op) (λ (a : ReadAnswer). a.point) old new r
+    → IfSome (result_ok r) (λ a. HasRead old new op a)
 by_read old new op (Ok a) adds told = record { adds = adds; sees = told.1.0 }
 by_read old new op (Err e) adds told = absurd told
 
-pub read_told : (old new : SessionView) (op : Operation) (refusal : Option StoreRefused) (r : Result ReadAnswer StoreRefused)
+pub read_told : (old new : SessionView) (op : Operation) (refusal : Option StoreRefused)
+    (r : Result ReadAnswer StoreRefused)
     → IsRefused refusal r (new ≡ old) → (refusal ≡ None → AddsRead old new op r)
-    → (refusal ≡ None → TellsSight (HasReply op) (λ (a : ReadAnswer). a.point) old new r) → (result : Option ReadAnswer) → result ≡ result_ok r
+    → (refusal ≡ None → TellsSight (HasReply op) (λ (a : ReadAnswer). a.point) old new r) → (result : Option ReadAnswer)
+    → result ≡ result_ok r
     → IfSome result (λ a. HasRead old new op a)
 read_told old new op None r early adds told result value =
     subst (λ z. IfSome z (λ a. HasRead old new op a)) (sym value) (by_read old new op r (adds refl) (told refl))
@@ -145,7 +154,8 @@ in_turn law store fresh one other later op a b first before second after =
     let has = ap (λ l. slice_get l (length own + 1)) first.own
     ∙ (behind own (call_and_back fresh.session op a) 1 ∙ ap (λ x. Some (Back x told)) (sym first.same)) in
     let comes : a.index + 1 ≤ b.index =
-    law store one other later (length own + 1) told Update op (Updated (Placed b.index b.reply)) has before second after in
+    law store one other later (length own + 1) told Update op
+    (Updated (Placed b.index b.reply)) has before second after in
     omega (arith, comes)
 
 -- ---- the closed store
@@ -160,12 +170,15 @@ comes_before old mid new op a b x y =
     omega (arith, low, top, far)
 
 -- and its read has seen the second
-pub sees_it : (mid new : SessionView) (op : Operation) (b : Answer) (point : ℕ) → HasUpdated mid new op b → new.progress.completed ≤ point
+pub sees_it : (mid new : SessionView) (op : Operation) (b : Answer) (point : ℕ) → HasUpdated mid new op b
+    → new.progress.completed ≤ point
     → b.index < point
 sees_it mid new op b point y far = let low = y.tells.0.1.0 in omega (arith, low, far)
 
 -- of a closed store, whose sessions 0 and 1 made these calls since it was opened
-module _ (store : StoreView) (op : Operation) (more : Trace) (heard : Heard) (sessions : List SessionView) (closed : ClosedView) (is : ClosesExplained store sessions closed) (waiting polls : SessionView) (i j : ℕ) (at : At i waiting sessions) (at2 : At j polls sessions) where
+module _ (store : StoreView) (op : Operation) (more : Trace) (heard : Heard) (sessions : List SessionView)
+    (closed : ClosedView) (is : ClosesExplained store sessions closed) (waiting polls : SessionView) (i j : ℕ)
+    (at : At i waiting sessions) (at2 : At j polls sessions) where
   pub are_explained : (fresh updated : SessionView) → HasUpdatedTwice fresh updated op heard.first heard.second
       → waiting.session ≡ 0 → own_events waiting ≡ two_calls 0 op heard.first heard.second ++ more
       → polls.session ≡ 1 → own_events polls ≡ call_and_back 1 op heard.polled

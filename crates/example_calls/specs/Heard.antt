@@ -38,7 +38,8 @@ pub record HasUpdatedTwice (old new : SessionView) (op : Operation) (first secon
   pub once : HasUpdated old between op first
   pub again : HasUpdated between new op second
 
--- what the clauses of a call say of the answer to a read: what it adds, and that it has seen all that its session knew to be completed
+-- what the clauses of a call say of the answer to a read: what it adds, and that it has seen all that its session knew
+-- to be completed
 pub record HasRead (old new : SessionView) (op : Operation) (a : ReadAnswer) : Type 0 where
   pub adds : Adds old new (read_and_back old.session op a)
   pub sees : old.progress.completed ≤ a.point
@@ -51,9 +52,11 @@ call_and_back session op a = Call session Update op ∷ Back session (Updated (P
 abbrev pub two_calls : ℕ → Operation → (first second : Answer) → Trace
 two_calls session op first second = call_and_back session op first ++ call_and_back session op second
 
--- The history explains a trace, in which session 0 has two updates with their answers, one after the other, and then these events; and session 1 has one
+-- The history explains a trace, in which session 0 has two updates with their answers, one after the other, and then
+-- these events; and session 1 has one
 -- update. The first of the two came before the second, and this is the state after the history.
-pub record AreExplained (opening : Setup) (op : Operation) (more : Trace) (heard : Heard) (state : StoreState) : Type 0 where
+pub record AreExplained (opening : Setup) (op : Operation) (more : Trace) (heard : Heard)
+    (state : StoreState) : Type 0 where
   pub history : History
   pub last : state ≡ state_after store_meaning opening.catalogue history (length history)
   pub trace : Trace
@@ -66,7 +69,8 @@ pub record AreExplained (opening : Setup) (op : Operation) (more : Trace) (heard
 -- the same of these programs, where what comes after is a read with its answer
 abbrev pub AllAreExplained : Setup → Programs → List ℕ → Heard → ReadAnswer → StoreState → Type 0
 AllAreExplained opening programs argument heard answer state =
-    AreExplained opening (op_of programs.update argument) (read_and_back 0 (op_of programs.read argument) answer) heard state
+    AreExplained opening (op_of programs.update argument)
+    (read_and_back 0 (op_of programs.read argument) answer) heard state
 
 -- what was opened with two slots of one node, on this catalogue
 abbrev pub two_of : CatalogueView → Setup

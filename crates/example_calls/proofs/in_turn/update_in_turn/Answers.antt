@@ -13,7 +13,8 @@ returns-clause-in_order g c =
     let b = c.in-Some-update.second in
     let later = c.update-2.new.session in
     let same = c.stand-one.ensures.same in
-    let second = subst (λ (z : SessionView). Adds z later (call_and_back z.session op b)) same.1 c.in-Some-update.ensures.adds in
+    let second = subst (λ (z : SessionView). Adds z later (call_and_back z.session op b)) same.1
+    c.in-Some-update.ensures.adds in
     let after = subst (λ z. AreExplained store (z ∷ later ∷ [])) same.0 c.stand-one-2.ensures.explained in
     in_turn c.calls_in_order.ensures.order store c.args.sessions.0 c.update.new.session c.args.sessions.1 later op a b
     c.in-Some.ensures.adds c.stand-one.ensures.explained second after
