@@ -45,8 +45,9 @@ use Rattle.schedule.specs.Trace.{Call, Event, IsIdle, Positions, Trace}
 use Rattle.schedule.specs.Trace as events
 use Rattle.schedule.specs.Worlds.{NodeView, WorldView, opened, own_of}
 use Rattle.schedule.proofs.Export.{opening_stands, run_stands}
-use Rattle.settlement.specs.Settling.{AllAnswered, EveryScheduleSettles, settling_store}
-use Rattle.promise.specs.Answered.{AnswersSuit, IsAbsent, IsDue, IsFree, MayAnswer, NamesNoSlot, Settles}
+use Rattle.settlement.specs.Settling.{AllAnswered, EveryScheduleSettles, NodeAnswered, settling, settling_store}
+use Rattle.settlement.proofs.Export.{node_settles}
+use Rattle.promise.specs.Answered.{AnswersSuit, IsAbsent, IsDue, IsFree, MayAnswer, NamesNoSlot, NodesSettle, Settles}
 use Rattle.promise.specs.Answered.{TakesCalls, TakesNoneAbsent}
 
 -- ---- the steps before one
@@ -404,6 +405,13 @@ module _ (reads_off : TraceIsReadOff) (m : Opening) (whole : IsCatalogue m.catal
       subst (λ (z : List StepAnswer). AllAnswered (read_off m.config (take k steps) z))
       (sym (answers_before m (opened m) steps k))
       (settles_last settles config (take k steps) before is)
+
+  pub nodes_settle : AreSizes m.config → (steps : List Step) → NodesSettle m.config steps (answers_to m (opened m) steps)
+  nodes_settle config steps k node before is =
+      let there = subst (λ (xs : List Step). NodeAnswered m.config node (trace_of m (opened m) [] xs)) (sym is) (node_settles m before node config whole) in
+      subst (λ (z : List StepAnswer). NodeAnswered m.config node (read_off m.config (take k steps) z))
+      (sym (answers_before m (opened m) steps k))
+      (subst (NodeAnswered m.config node) (trace_is (take k steps)) there)
 
 -- what the steps of a new store answer
 pub opened_answers : (m : Opening) (old : WorldState) (steps : List Step) (answers : List StepAnswer)

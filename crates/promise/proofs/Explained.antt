@@ -45,22 +45,23 @@ module _ (always : TypableProgramsRun) (m : Opening) (h : History) (positions : 
       (was.0, read_replies_at always c whole h x.updates a.point op a.reply was.0 was.1)
   right s mode op call back (Updated Ended) answers = x.right s mode op call back (Updated Ended) answers
 
+  -- the state that all operations leave
+  pub leaves : After c h (state_after store_meaning c h (length h))
+  leaves = subst (λ (z : History). After c z (state_after store_meaning c h (length h))) all (state_is always c whole h x.updates (length h) (omega arith))
+
   pub explains : Explains c m.config.limit h positions t
-  explains =
-      let k : ℕ = length h in
-      let after = state_is always c whole h x.updates k (omega arith) in
-      record {
-        within = few;
-        effects = (state_after store_meaning c h k, subst (λ (z : History). After c z (state_after store_meaning c h k)) all after);
-        each_placed = x.each_placed;
-        calls = λ i call r at placed. x.calls i call r at placed;
-        once = x.once;
-        right = right;
-        placed_later = x.placed_later;
-        read_later = x.read_later;
-        calls_in_turn = x.calls_in_turn;
-        answers_in_turn = x.answers_in_turn;
-      }
+  explains = record {
+    within = few;
+    effects = (state_after store_meaning c h (length h), leaves);
+    each_placed = x.each_placed;
+    calls = λ i call r at placed. x.calls i call r at placed;
+    once = x.once;
+    right = right;
+    placed_later = x.placed_later;
+    read_later = x.read_later;
+    calls_in_turn = x.calls_in_turn;
+    answers_in_turn = x.answers_in_turn;
+  }
 
 -- so what is read off the steps of a new store and their answers
 pub steps_linearized : TypableProgramsRun

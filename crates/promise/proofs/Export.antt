@@ -1,2 +1,2 @@
 -- The lemmas that other crates may cite.
-pub use Rattle.promise.proofs.Explained.{explains}
+pub use Rattle.promise.proofs.Explained.{explains, leaves}

@@ -12,7 +12,7 @@ use Rattle.schedule.specs.declared.steps.StepAnswer.TheVariants.{Back, Done, Not
 use Rattle.schedule.specs.ReadOff.{read_off}
 use Rattle.schedule.specs.Steps.{node_of}
 use Rattle.schedule.specs.Trace.{IsIdle, Trace}
-use Rattle.settlement.specs.Settling.{AllAnswered, settling_store}
+use Rattle.settlement.specs.Settling.{AllAnswered, NodeAnswered, settling, settling_store}
 
 -- the store has this slot, and the slot's session waits for no answer
 abbrev pub IsFree : Sizes → Trace → (node slot : ℕ) → Type 0
@@ -67,6 +67,13 @@ abbrev pub AnswersSuit : List Step → List StepAnswer → Type 0
 AnswersSuit steps answers =
     (i : ℕ) (step : Step) (answer : StepAnswer) → slice_get steps i ≡ Some step → slice_get answers i ≡ Some answer
     → MayAnswer answer step
+
+-- Wherever the steps by which one node settles have gone through, each call of its sessions before their end has its answer there, whatever the other
+-- nodes have done or not done.
+abbrev pub NodesSettle : Sizes → List Step → List StepAnswer → Type 0
+NodesSettle sizes steps answers =
+    (k node : ℕ) (before : List Step) → take k steps ≡ before ++ settling node sizes.slots
+    → NodeAnswered sizes node (read_off sizes (take k steps) (take k answers))
 
 -- wherever the steps by which each node in turn settles have gone through, each call before their end has its answer there
 abbrev pub Settles : Sizes → List Step → List StepAnswer → Type 0

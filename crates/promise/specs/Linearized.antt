@@ -1,5 +1,6 @@
--- What it is that one list of operations explains a trace: each call takes effect at one index of the list, between the
--- call and its answer (Herlihy and Wing, TOPLAS 1990: a linearization).
+-- What it is that one list of operations explains a trace (a linearization: Herlihy and Wing, TOPLAS 1990). An update
+-- takes effect at its index of the list, a read at a point between two of its operations, and both after all that had
+-- surely happened before the call. An update that has no answer yet may be in the list, or not.
 use Rattle.std.specs.Prelude.{◌≡◌, ◌≢◌, ℕ, ◌≤◌, length, take, Some, slice_get}
 use Rattle.verifier.specs.declared.refusal.Mode.{Mode}
 use Rattle.verifier.specs.declared.refusal.Mode.TheVariants.{Update}

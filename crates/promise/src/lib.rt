@@ -8,7 +8,8 @@
 //! What this does not say: which programs are accepted or may be installed (`verify` of `verifier`); that there is memory; when any other step
 //! is taken, such as an install, or a call of a program that was installed, and what the steps inside a node do (`World::step` of `schedule`).
 //! A store that takes no install, or keeps one set of maps for all its nodes, would meet it. An answer may be withheld until the steps of
-//! `settling_store` have gone through. The list explains all steps together: what it has for an early call may depend on later ones.
+//! `settling` have gone through for its node. The list explains all steps together: what it has for an early call may depend on later ones. Nor
+//! does it say that the first answers are the same whatever steps come later (`answers_to` of `schedule` does).
 #![tactic(auto)]
 
 mod programs;

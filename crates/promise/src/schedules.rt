@@ -5,7 +5,7 @@ ghost use Rattle.loader.specs.CatalogueView.{with_places};
 ghost use Rattle.oplog.specs.Limits.{IsConfig, sizes_in};
 ghost use Rattle.oplog.specs.declared.configuration.OpenError.TheVariants.{OtherState, OutOfLimits};
 ghost use Rattle.schedule.specs.ReadOff.{read_off};
-ghost use Rattle.promise.specs.Answered.{AnswersSuit, Settles, TakesCalls, TakesNoneAbsent};
+ghost use Rattle.promise.specs.Answered.{AnswersSuit, NodesSettle, Settles, TakesCalls, TakesNoneAbsent};
 ghost use Rattle.promise.specs.Linearized.{IsLinearized};
 
 use loader::Catalogue;
@@ -15,7 +15,8 @@ use std::alloc::Global;
 
 /// Opens a store, and takes these steps one after another, each if it may be taken then. One list of operations explains all calls and
 /// answers. A call of a program of the catalogue is taken, at each slot whose session waits for no answer. Wherever the steps of
-/// [`settling_store`](settlement::settling_store) have gone through, each call has its answer.
+/// [`settling`](settlement::settling) have gone through for a node, each call of its sessions has its answer; wherever those of
+/// [`settling_store`](settlement::settling_store) have, each call has.
 ///
 /// # Errors
 ///
@@ -55,6 +56,7 @@ pub fn run_schedule(
     ensures taken { IfOk result (λ a. TakesCalls (sizes_in config) (with_places catalogue config.spare) steps.now a.items) }
     ensures absent { IfOk result (λ a. TakesNoneAbsent (sizes_in config) steps.now a.items) }
     ensures suits { IfOk result (λ a. AnswersSuit steps.now a.items) }
+    ensures alone { IfOk result (λ a. NodesSettle (sizes_in config) steps.now a.items) }
     ensures settled { IfOk result (λ a. Settles (sizes_in config) steps.now a.items) }
 {
     machine::laws::typable_programs_run();

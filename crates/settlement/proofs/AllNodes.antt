@@ -9,13 +9,15 @@ use Rattle.schedule.specs.Worlds.{WorldView, opened}
 use Rattle.schedule.specs.Steps.{took, world_after, world_of, trace_of}
 use Rattle.schedule.specs.Taking.{IsStanding}
 use Rattle.schedule.proofs.Export.{run_stands, opening_stands, every_schedule}
-use Rattle.settlement.specs.Settling.{settling, settling_all, settling_store, taken_of, IsSettledAt, SettlesAlone, EveryScheduleSettles}
+use Rattle.oplog.specs.Limits.{AreSizes}
+use Rattle.loader.specs.CatalogueView.{IsCatalogue}
+use Rattle.settlement.specs.Settling.{settling, settling_all, settling_store, taken_of, IsSettledAt, NodeAnswered, SettlesAlone, EveryScheduleSettles}
 use Rattle.settlement.specs.Others.{AreOfOthers}
 use Rattle.settlement.proofs.OwnSteps.{the_store, other_step}
 use Rattle.settlement.proofs.NodeLists.{all_of_others}
 use Rattle.settlement.proofs.InTurn.{world_append, taken_append}
 use Rattle.settlement.proofs.Settled.{stands_after, settle_alone}
-use Rattle.settlement.proofs.Answered.{settled_answers}
+use Rattle.settlement.proofs.Answered.{node_answers, settled_answers}
 
 -- steps of others leave a node as it is
 untouched : (m : Opening) (k : ℕ) (steps : List Step) (w : WorldView) → AreOfOthers k steps → slice_get (world_of m w steps).nodes k ≡ slice_get w.nodes k
@@ -78,3 +80,15 @@ every_schedule_settles m steps config whole =
       explained = every_schedule m (steps ++ settling_store m.config) whole;
       few = all_few m 0 m.config.nodes (world_of m (opened m) steps) before (omega arith);
     }
+
+-- after any steps of a new store one node's list answers each call of its sessions
+pub node_settles : (m : Opening) (steps : List Step) (n : ℕ) → AreSizes m.config → IsCatalogue m.catalogue
+    → NodeAnswered m.config n (trace_of m (opened m) [] (steps ++ settling n m.config.slots))
+node_settles m steps n config whole x mode op c own call =
+    let opening : IsStanding (the_store m (opened m)) = record { config = config; history = []; positions = []; trace = []; stands = opening_stands m whole } in
+    let before = stands_after m (opened m) steps opening in
+    let all : List Step = steps ++ settling n m.config.slots in
+    let after = run_stands m all (opened m) [] [] [] (opening_stands m whole) in
+    let settled = (alone m (world_of m (opened m) steps) n before own.3).settled in
+    let there = subst (λ v. IsSettledAt v n) (sym (world_append m (opened m) steps (settling n m.config.slots))) settled in
+    node_answers m (world_of m (opened m) all) after.0 after.1 (trace_of m (opened m) [] all) n after.2 there x mode op c own call

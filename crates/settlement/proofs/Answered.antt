@@ -15,7 +15,7 @@ use Rattle.schedule.specs.Worlds.{NodeView, WorldView}
 use Rattle.schedule.specs.Steps.{is_idle, is_free, no_read}
 use Rattle.schedule.specs.Stands.{NodeStands, StageStands, Stands}
 use Rattle.schedule.proofs.Export.{get_take, get_taken, free_is, no_read_is}
-use Rattle.settlement.specs.Settling.{IsSettledAt, AllAnswered}
+use Rattle.settlement.specs.Settling.{IsSettledAt, AllAnswered, NodeAnswered}
 
 -- ---- the first event of a session behind its call
 
@@ -86,16 +86,18 @@ idle_slot m done h positions t n node s x inside idle =
     let seat = x.seats s y.0 None y.1 none in
     (subst (λ (st : Stage). StageStands m done h positions t (session m.config n s) node.batch (y.0).count st None) y.2 seat).0
 
+-- each call of a node's sessions has its answer where that node is settled
+pub node_answers : (m : Opening) (w : WorldView) (h : History) (positions : Positions) (t : Trace) (n : ℕ) → Stands m w h positions t
+    → IsSettledAt w n → NodeAnswered m.config n t
+node_answers m w h positions t n stands at x mode op c own call =
+    let node = stands.nodes n at.0 at.1 in
+    let slots = node.desk.slots in
+    let inside : own.0 < m.config.slots = own.1 in
+    let idle = idle_slot m w.log.done h positions t n at.0 own.0 node inside (at.2 own.0 (omega arith)) in
+    has_its_answer m h positions t x mode op c stands.explains (subst (λ y. IsIdle t y) (sym own.2) idle) call
+
 pub settled_answers : (m : Opening) (w : WorldView) (h : History) (positions : Positions) (t : Trace) → Stands m w h positions t
     → ((n : ℕ) → n < m.config.nodes → IsSettledAt w n) → AllAnswered t
 settled_answers m w h positions t stands settled x mode op c call =
     let who = stands.callers c x mode op call in
-    let n : ℕ = who.0 in
-    let s : ℕ = (who.1).0 in
-    let inside : s < m.config.slots = (who.1).1 in
-    let is : x ≡ session m.config n s = (who.1).2 in
-    let at = settled n (who.1).3 in
-    let node = stands.nodes n at.0 at.1 in
-    let slots = node.desk.slots in
-    let idle = idle_slot m w.log.done h positions t n at.0 s node inside (at.2 s (omega arith)) in
-    has_its_answer m h positions t x mode op c stands.explains (subst (λ y. IsIdle t y) (sym is) idle) call
+    node_answers m w h positions t who.0 stands (settled who.0 (who.1).3) x mode op c who.1 call

@@ -18,3 +18,4 @@ pub mod AllNodes
 pub mod Answered
 -- What calls need.
 pub mod OnCalls
+pub mod Export

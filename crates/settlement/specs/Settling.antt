@@ -6,6 +6,7 @@ use Rattle.oplog.specs.declared.configuration.Sizes.{Sizes}
 use Rattle.oplog.specs.Operations.{Operation}
 use Rattle.oplog.specs.History.{History}
 use Rattle.oplog.specs.Limits.{AreSizes}
+use Rattle.oplog.specs.Sessions.{IsSessionOf}
 use Rattle.schedule.specs.declared.parts.Opening.{Opening}
 use Rattle.schedule.specs.declared.steps.Step.{Step}
 use Rattle.schedule.specs.declared.steps.Step.TheVariants.{Claim, Append, Replay, Finish, Reply, Collect, ReadAnswer, Reclaim, Rebase}
@@ -93,6 +94,12 @@ settling_store config = settling_all 0 config.nodes config.slots
 abbrev pub AllAnswered : Trace → Type 0
 AllAnswered t =
     (x : ℕ) (mode : Mode) (op : Operation) (c : ℕ) → slice_get t c ≡ Some (Call x mode op) → (b : ℕ) × (answer : Answer) × Answers t x mode op c b answer
+
+-- so has each call of the sessions of this node
+abbrev pub NodeAnswered : Sizes → (node : ℕ) → Trace → Type 0
+NodeAnswered sizes node t =
+    (x : ℕ) (mode : Mode) (op : Operation) (c : ℕ) → IsSessionOf sizes node x → slice_get t c ≡ Some (Call x mode op)
+    → (b : ℕ) × (answer : Answer) × Answers t x mode op c b answer
 
 -- so has each call of a trace that stands for the store, followed by what is read off these steps and answers
 abbrev pub AnswersAll : WorldState → List Step → List StepAnswer → Type 0

@@ -34,11 +34,12 @@ use Rattle.store_steps.specs.Views.{SessionView, known_of}
 use Rattle.store_laws.specs.Gone.{GoneOn}
 use Rattle.store_laws.specs.RunEvents.{StoreRun, event_of, opening_of, own_trace, trace_of}
 use Rattle.store_laws.proofs.Export.{answers_are_in_run, notes_tell, runs_are_explained, since_begins, trace_goes_on, traces_are_theirs}
-use Rattle.promise.proofs.Export.{explains}
+use Rattle.promise.specs.Operations.{After}
+use Rattle.promise.proofs.Export.{explains, leaves}
 use Rattle.store.specs.Adding.{ListsAdd, LooksAddNothing, PollsAdd, PostsAdd}
 use Rattle.store.specs.Explained.{ClosesExplained}
 use Rattle.store.specs.Linear.{Adds, AddsAnswer, AddsPost, AddsRead, AddsTry, AddsUpdate, AreExplained, Explained, Linearizes, own_events, seen}
-use Rattle.store.specs.Opening.{ClosedView, IsClosed, setup_of}
+use Rattle.store.specs.Opening.{ClosedView, IsClosed, last_state, setup_of}
 use Rattle.store.specs.PolledPipelines.{IsTold}
 use Rattle.store.specs.Polled.{TellsAsked, TellsCompleted, TellsPost}
 use Rattle.store.specs.Sessions.{SessionGoesOn, StoreView, TellsUpdate}
@@ -271,26 +272,41 @@ pub stands_explained : TypableProgramsRun → (store : StoreView) (one other : S
 stands_explained always store one other whole t =
     let c = stands_in store one other t in (c.progress.history, explained_in always store (one ∷ other ∷ []) whole c)
 
+-- that of a closed store
+abbrev run_of_closed : (store : StoreView) (sessions : List SessionView) (closed : ClosedView) → IsClosed store sessions closed
+    → InOneRun store sessions
+run_of_closed store sessions closed c = record {
+  progress = c.progress;
+  notes = c.notes;
+  run = c.run;
+  leads = c.leads;
+  within = subst (λ (z : Sizes). length c.progress.history ≤ z.limit) c.of.0 c.well_formed.limit;
+  noted = c.noted;
+  goes_on = c.goes_on;
+  own = c.own;
+  ends = c.ends;
+}
+
 linearizes : TypableProgramsRun → (store : StoreView) (sessions : List SessionView) (closed : ClosedView)
     → IsCatalogue store.catalogue → (c : IsClosed store sessions closed) → Linearizes store sessions c.progress.history
 unfolding explained_in
 linearizes always store sessions closed whole c =
     let count = sessions_of store.config in
     let places = places_of store.config in record {
-      of = explained_in always store sessions whole (record {
-        progress = c.progress;
-        notes = c.notes;
-        run = c.run;
-        leads = c.leads;
-        within = subst (λ (z : Sizes). length c.progress.history ≤ z.limit) c.of.0 c.well_formed.limit;
-        noted = c.noted;
-        goes_on = c.goes_on;
-        own = c.own;
-        ends = c.ends;
-      });
+      of = explained_in always store sessions whole (run_of_closed store sessions closed c);
       only = All-weaker _ _ (λ e few. c.all (caller e) few) (trace_of c.run)
           (traces_are_theirs (opening_of (setup_of store)) count places c.run c.progress c.notes c.leads);
     }
+
+-- the state that its history leaves
+leaves_last : TypableProgramsRun → (store : StoreView) (sessions : List SessionView) (closed : ClosedView)
+    → IsCatalogue store.catalogue → (c : IsClosed store sessions closed) → After store.catalogue c.progress.history (last_state closed)
+leaves_last always store sessions closed whole c =
+    let m = opening_of (setup_of store) in
+    let explained = runs_are_explained m (sessions_of store.config) (places_of store.config) c.run c.progress c.notes c.leads in
+    let few = (run_of_closed store sessions closed c).within in
+    subst (After store.catalogue c.progress.history) (sym c.last)
+    (leaves always m c.progress.history explained.0 (trace_of c.run) whole explained.1 few)
 
 pub closes_explained : TypableProgramsRun → (store : StoreView) (sessions : List SessionView) (closed : ClosedView)
     → IsCatalogue store.catalogue → IsClosed store sessions closed → ClosesExplained store sessions closed
@@ -298,6 +314,7 @@ unfolding linearizes
 closes_explained always store sessions closed whole c = record {
   is = c;
   linear = linearizes always store sessions closed whole c;
+  leaves = leaves_last always store sessions closed whole c;
   told = λ a q s u at has.
       answers_are_in_run (opening_of (setup_of store)) (sessions_of store.config) (places_of store.config) c.run c.progress c.notes c.leads s.session q s.note u (c.noted a s at) has;
 }

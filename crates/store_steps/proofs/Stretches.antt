@@ -217,7 +217,7 @@ hands_over node k after b kept d grown stands mine claimed there did = record {
 }
 
 -- the answers are kept, and the replica is back
-module _ (node : ℕ) (k t a r f : K) (b : BatchView) (n v m : NodeReplica) (old new : RepliesView) (took : Extends k.progress t.progress) (found : Agrees t.progress n) (stands : Stands t) (first : AppendsBy t a b n v old)
+module _ (node : ℕ) (k t a r f : K) (mine : IsSessionOf k.progress.config node k.session) (b : BatchView) (n v m : NodeReplica) (old new : RepliesView) (took : Extends k.progress t.progress) (found : Agrees t.progress n) (stands : Stands t) (first : AppendsBy t a b n v old)
     (then : ReplaysBy a r first.back v m old new) (since : Extends t.progress a.progress) (up : Extends a.progress r.progress) (agrees : Agrees r.progress m) (back : Extends r.progress f.progress) (stands_f : Stands f) (within : m.replica.tail ≤ length r.progress.history)
     (w : Value) (w_is : replica_of w ≡ Some n) (took_it : HasStepped k (Took (1 + node) w) t) (q : ℕ) (there : q ≡ 1 + node) (put_it : HasStepped r (Put q (with_replica w m)) f) where
   answers_did : Did k f (answer_deeds (1 + node) first.room first.back m)
@@ -235,6 +235,7 @@ module _ (node : ℕ) (k t a r f : K) (b : BatchView) (n v m : NodeReplica) (old
 
   pub answers_by : AnswersBy node k f b new
   answers_by = record {
+    mine = mine;
     combined = record {
       ends = record {
         logs = record {

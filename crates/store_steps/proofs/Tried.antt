@@ -131,8 +131,13 @@ ends_since k m f s e = record {
   left_is = e.left_is;
 }
 
+-- its session has the node that it had
+mine_since : (node : ℕ) (k m : K) → IsStill k m → IsSessionOf m.progress.config node m.session → IsSessionOf k.progress.config node k.session
+mine_since node k m s own = subst (λ (z : Sizes × ℕ). IsSessionOf z.0 node z.1) (λ i. (sym s.extends.config i, s.session i)) own
+
 pub answers_since : (node : ℕ) (k m f : K) (b : BatchView) (kept : RepliesView) → IsStill k m → AnswersBy node m f b kept → AnswersBy node k f b kept
 answers_since node k m f b kept s a = record {
+  mine = mine_since node k m s a.mine;
   combined = record {
     ends = ends_since k m f s a.ends;
     room = a.room;
@@ -211,7 +216,7 @@ module _ (k m f : K) (s : IsStill k m) where
           at = at;
           shelf = record {
             node = r.node;
-            mine = subst (λ (z : Sizes × ℕ). IsSessionOf z.0 r.node z.1) (λ i. (sym s.extends.config i, s.session i)) r.mine;
+            mine = mine_since r.node k m s r.mine;
             tries = s.tries ++ r.tries;
             nothing = nothing_on s.nothing r.nothing;
             loaded = r.loaded;

@@ -39,7 +39,7 @@ MayTurn s caller p v = (k t : SessionKnown) × (o : Pending) × IsSession s t ×
 abbrev pub PutsBack : (t after : SessionKnown) → Type 0
 PutsBack t after = (p : ℕ) × (v : Value) × HasStepped t (Put p v) after
 
--- the session k took a place, its desk, by the very step behind all that the session `before` knows, and its next own step put that back
+-- The session k took a place by the very step after all that the session `before` knows, and its next own step put a place back.
 pub record TakesNext (before k after : SessionKnown) : Type 0 where
   pub place : ℕ
   pub value : Value

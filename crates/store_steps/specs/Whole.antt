@@ -206,9 +206,10 @@ pub record Combined (k after : SessionKnown) (b : BatchView) : Type 0 where
   pub tries : List (ShelfStep Part)
   pub nothing : ChangesNothing tries
 
--- a combine as far as its answers, with the replica of this node: the batch b is appended, replayed and completed, and the replica that did it is
--- put back; except for tries in vain the session took, put back and completed nothing else
+-- a combine as far as its answers, with the replica of this node, its own: the batch b is appended, replayed and completed, and the replica that did
+-- it is put back; except for tries in vain the session took, put back and completed nothing else
 pub record AnswersBy (node : ℕ) (k after : SessionKnown) (b : BatchView) (kept : RepliesView) : Type 0 where
+  pub mine : IsSessionOf k.progress.config node k.session
   pub combined : Combined k after b
   pub open combined use *
   pub goes : (d : DeskView) → Goes k.progress.catalogue (sees from log own (Held b) d) (answer_steps room up)

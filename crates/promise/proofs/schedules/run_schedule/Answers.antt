@@ -4,8 +4,8 @@ use Rattle.oplog.specs.Limits.{AreSizes, sizes_in}
 use Rattle.schedule.specs.declared.parts.Opening.{Opening}
 use Rattle.schedule.specs.Taking.{WorldState}
 use Rattle.schedule.specs.Worlds.{opening_of}
-use Rattle.promise.specs.Answered.{AnswersSuit, Settles, TakesCalls, TakesNoneAbsent}
-use Rattle.promise.proofs.Due.{opened_answers, settles_each, suits, takes_calls, takes_none}
+use Rattle.promise.specs.Answered.{AnswersSuit, NodesSettle, Settles, TakesCalls, TakesNoneAbsent}
+use Rattle.promise.proofs.Due.{nodes_settle, opened_answers, settles_each, suits, takes_calls, takes_none}
 use Rattle.promise.proofs.Explained.{steps_linearized}
 use Rattle.promise.proofs.schedules.run_schedule.Goals as goal
 
@@ -31,5 +31,6 @@ returns-in-Ok c =
       opens = w.within;
       absent = subst (TakesNoneAbsent m.config steps) answers (takes_none reads_off m whole steps);
       suits = subst (AnswersSuit steps) answers (suits reads_off m whole steps);
+      alone = subst (NodesSettle m.config steps) answers (nodes_settle reads_off m whole sizes steps);
       settled = subst (Settles m.config steps) answers (settles_each reads_off m whole settles sizes steps);
     }

@@ -87,7 +87,7 @@ returns-clause-combined c k is =
         ready = ready t.0 a.0 r.0 rs old v m new done r.2 _ f y refl claimed.some claimed.ascend;
         stands = f.stands;
       },
-      answers_by c.args.here.caller.node k t.0 a.0 r.0 q y n v m old new b.extends (b.agrees n c.replica_mut-node.ensures.replica) b.stands first then a.2.goes.extends r.2.goes.extends r.2.agrees f.extends f.stands r.2.within w c.replica_mut-node.ensures.replica b.steps
+      answers_by c.args.here.caller.node k t.0 a.0 r.0 q (c.args.here.caller.slot, free.within, free.own, free.near) y n v m old new b.extends (b.agrees n c.replica_mut-node.ensures.replica) b.stands first then a.2.goes.extends r.2.goes.extends r.2.agrees f.extends f.stands r.2.within w c.replica_mut-node.ensures.replica b.steps
           c.in-Some.held.place c.in-Some.ensures.place (stepped_by r.0 _ _ refl refl p.3),
     )
 
