@@ -17,7 +17,7 @@ use Rattle.combiner.specs.Claiming.{ClaimsSlot, claimed_up_to, requests_up_to, c
 abbrev desk_of : ℕ → List Slot → DeskView
 desk_of node xs = record { node = node; slots = xs }
 
-abbrev batch_with : List Record → List (Option Reply) → BatchView
+abbrev pub batch_with : List Record → List (Option Reply) → BatchView
 batch_with records answers = record { records = records; answers = answers }
 
 -- the next slot is still as it was
@@ -153,7 +153,7 @@ quiet_slot (Posted op) count h = absurd (false≢true (sym h))
 quiet_slot Claimed count h = refl
 quiet_slot (Answered reply) count h = refl
 
-quiet_request : (a count : ℕ) (stage : Stage) (rs : List Record) → is_posted stage ≡ false → rs ≡ requested a count stage rs
+pub quiet_request : (a count : ℕ) (stage : Stage) (rs : List Record) → is_posted stage ≡ false → rs ≡ requested a count stage rs
 quiet_request a count Empty rs h = refl
 quiet_request a count (Posted op) rs h = absurd (false≢true (sym h))
 quiet_request a count Claimed rs h = refl
@@ -169,7 +169,7 @@ claimed_early (suc n) (x ∷ xs) none =
     let each = or_parts (is_posted (claimed_slot x).stage) (list_any (λ y. is_posted y.stage) (claimed_up_to n xs)) none in
     ap (λ zs. claimed_slot x ∷ zs) (claimed_early n xs each.1)
 
-requests_early : (a n : ℕ) (xs : List Slot) → list_any (λ x. is_posted x.stage) (claimed_up_to n xs) ≡ false → requests_up_to a n xs ≡ requests_from a xs
+pub requests_early : (a n : ℕ) (xs : List Slot) → list_any (λ x. is_posted x.stage) (claimed_up_to n xs) ≡ false → requests_up_to a n xs ≡ requests_from a xs
 requests_early a zero [] none = refl
 requests_early a zero (x ∷ xs) none =
     let each = or_parts (is_posted x.stage) (list_any (λ y. is_posted y.stage) xs) none in

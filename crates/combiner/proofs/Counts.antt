@@ -46,7 +46,7 @@ number_few test a n fits is =
     let same : length (map (slot_in a.beside.items) (take a.count a.places)) ≡ a.count = length-map (take a.count a.places) (slot_in a.beside.items) ∙ length-take-le a.count a.places fits in
     omega arith
 
-how_many_set : (test : Stage → Bool) (xs : List Slot) (s : ℕ) (x y : Slot) → slice_get xs s ≡ Some x
+pub how_many_set : (test : Stage → Bool) (xs : List Slot) (s : ℕ) (x y : Slot) → slice_get xs s ≡ Some x
     → how_many test (slice_set xs s y) + as_number (test x.stage) ≡ how_many test xs + as_number (test y.stage)
 how_many_set test [] s x y at = absurd (none-some x at)
 how_many_set test (z ∷ xs) zero x y at = let same = ap (λ w. as_number (test w.stage)) (same_Some z x at) in omega arith
@@ -69,7 +69,7 @@ any_onto : (b : Bool) (rest : ℕ) (any : Bool) → nat_lt 0 rest ≡ any → na
 any_onto true rest any is = lt-ltb 0 (1 + rest) (omega arith)
 any_onto false rest any is = let same : 0 + rest ≡ rest = omega arith in ap (nat_lt 0) same ∙ is
 
-any_counted : (test : Stage → Bool) (xs : List Slot) → nat_lt 0 (how_many test xs) ≡ list_any (λ x. test x.stage) xs
+pub any_counted : (test : Stage → Bool) (xs : List Slot) → nat_lt 0 (how_many test xs) ≡ list_any (λ x. test x.stage) xs
 any_counted test [] = refl
 any_counted test (x ∷ xs) = any_onto (test x.stage) (how_many test xs) (list_any (λ y. test y.stage) xs) (any_counted test xs)
 
@@ -89,7 +89,7 @@ none_opened test (suc n) not = let rest = none_opened test n not in let first = 
 abbrev Same : Slot → Slot → Type 0
 Same x y = (as_number (is_posted y.stage) ≡ as_number (is_posted x.stage)) × (as_number (is_claimed y.stage) ≡ as_number (is_claimed x.stage))
 
-post_counts : (op : Operation) (x y : Slot) → posted_slot op x ≡ Some y
+pub post_counts : (op : Operation) (x y : Slot) → posted_slot op x ≡ Some y
     → (as_number (is_posted y.stage) ≡ as_number (is_posted x.stage) + 1) × (as_number (is_claimed y.stage) ≡ as_number (is_claimed x.stage))
 post_counts op x y h = at x.stage h
   where
@@ -137,20 +137,20 @@ collect_counts b (Some reply) p q from left =
 -- ---- the counts are right after each change
 
 -- a desk's numbers fit its slots
-abbrev Holds : ℕ → ℕ → ℕ → ℕ → List Slot → Type 0
+abbrev pub Holds : ℕ → ℕ → ℕ → ℕ → List Slot → Type 0
 Holds node count posted claimed xs = (node < MAX_NODES) × (count ≤ MAX_NODE_SLOTS) × (posted ≡ how_many is_posted xs) × (claimed ≡ how_many is_claimed xs)
 
 -- the slots, and those once a place is written
 abbrev slots_of : Inside → List Slot
 slots_of a = map (slot_in a.beside.items) (take a.count a.places)
 
-abbrev slots_with : Inside → List Place → ℕ → Place → List Slot
+abbrev pub slots_with : Inside → List Place → ℕ → Place → List Slot
 slots_with a rest s p = map (slot_in a.beside.items) (take a.count (slice_set (take a.count a.places) s p ++ rest))
 
-abbrev slot_at : Inside → ℕ → Place → Slot
+abbrev pub slot_at : Inside → ℕ → Place → Slot
 slot_at a s o = slot_in a.beside.items (slice_index_or (take a.count a.places) s o)
 
-abbrev Before : Inside → ℕ → DeskView → Type 0
+abbrev pub Before : Inside → ℕ → DeskView → Type 0
 Before a s d = (desk_in a ≡ d) × (a.count ≤ length a.places) × (s < length d.slots) × Holds a.node a.count a.posted_count a.claimed_count (slots_of a)
 
 abbrev posted_put : (a : Inside) (rest : List Place) (s : ℕ) (o p : Place) (d : DeskView) → Before a s d

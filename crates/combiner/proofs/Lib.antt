@@ -2,3 +2,4 @@ mod Placed
 mod Claims
 mod Counts
 mod Replies
+mod Single

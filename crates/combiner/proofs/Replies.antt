@@ -68,12 +68,12 @@ used_few (suc n) (x ∷ xs) = let e = used_few n xs in let one = uses_one x.stag
     uses_one Claimed = omega arith
     uses_one (Answered reply) = omega arith
 
-used_at_most : (n : ℕ) (xs : List Slot) → used_by n xs ≤ used_by (length xs) xs
+pub used_at_most : (n : ℕ) (xs : List Slot) → used_by n xs ≤ used_by (length xs) xs
 used_at_most zero xs = omega arith
 used_at_most (suc n) [] = omega arith
 used_at_most (suc n) (x ∷ xs) = let e = used_at_most n xs in omega arith
 
-used_in_all : (a : ℕ) (xs : List Slot) → used_by (length xs) xs ≡ length (claimed_from a xs)
+pub used_in_all : (a : ℕ) (xs : List Slot) → used_by (length xs) xs ≡ length (claimed_from a xs)
 used_in_all a [] = refl
 used_in_all a (x ∷ xs) = by_stage x.stage (used_in_all (suc a) xs)
   where
@@ -143,7 +143,7 @@ skips a r answer rs answers (x ∷ xs) lt =
     let other : r.author ≢ a = λ e. absurd (omega arith) in
     ap₂ (λ found zs. answered_slot found x ∷ zs) (ap (λ b. if b then answer else answer_for a rs answers) (unequal r.author a other)) (skips (suc a) r answer rs answers xs (omega arith))
 
-abbrev head_or : ℕ → List ℕ → ℕ
+abbrev pub head_or : ℕ → List ℕ → ℕ
 head_or d [] = d
 head_or d (n ∷ ns) = n
 

@@ -1,5 +1,5 @@
 -- A desk, a batch, and what post, claim, reply and collect make of them.
-use Rattle.std.specs.Prelude.{◌≡◌, ℕ, suc, ◌*◌, ◌<◌, ◌==◌, Bool, List, [], ◌∷◌, length, map, replicate, Option, Some, None, slice_get, slice_set, if◌then◌else◌, MatchOption}
+use Rattle.std.specs.Prelude.{◌≡◌, ℕ, suc, ◌*◌, ◌<◌, ◌==◌, Bool, true, ◌&&◌, not, List, [], ◌∷◌, length, map, replicate, Option, Some, None, slice_get, slice_set, if◌then◌else◌, MatchOption}
 use Rattle.std.specs.Option.{option_and_then, option_map}
 use Rattle.std.specs.List.{list_any}
 use Rattle.oplog.specs.Operations.{Operation}
@@ -53,9 +53,24 @@ has_request d = list_any (λ x. is_posted x.stage) d.slots
 abbrev pub claim_refusal : DeskView → Option DeskRefused
 claim_refusal d = if has_combiner d then Some CombinerAtWork else if has_request d then None else Some NothingPosted
 
+-- no slot has a request without an answer
+abbrev pub is_idle : DeskView → Bool
+is_idle d = not (has_request d) && not (has_combiner d)
+
+-- at slot s this operation is the only request without an answer: it was posted there when there was none
+abbrev pub IsOnlyAt : ℕ → Operation → DeskView → Type 0
+IsOnlyAt s op d = (before : DeskView) × (is_idle before ≡ true) × (posted s op before ≡ Some d)
+
 -- the posted requests as a batch without answers
 abbrev pub batch_of : DeskView → BatchView
 batch_of d = record { records = requests_from (first_author d) d.slots; answers = map (λ r. None) (requests_from (first_author d) d.slots) }
+
+-- a batch of this request alone, without its answer, and with this answer
+abbrev pub only : Record → BatchView
+only r = record { records = r ∷ []; answers = None ∷ [] }
+
+abbrev pub only_answered : Record → Reply → BatchView
+only_answered r reply = record { records = r ∷ []; answers = Some reply ∷ [] }
 
 -- the desk once its posted requests are claimed
 abbrev pub claimed : DeskView → DeskView

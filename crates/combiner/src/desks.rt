@@ -1,12 +1,14 @@
 // The desk of a node.
 
-ghost use Rattle.std.specs.Prelude.{◌≡◌, suc, ◌+◌, ◌<◌, ◌≤◌, ◌^◌, true, length, slice_get, Some, None, IfOk, OnOk, OnErr, MatchResult};
+ghost use Rattle.std.specs.Prelude.{◌≡◌, suc, ◌+◌, ◌<◌, ◌≤◌, ◌^◌, true, false, length, slice_get, Some, None, IfOk, OnOk, OnErr, MatchResult};
+ghost use Rattle.oplog.specs.Operations.{Operation};
+ghost use Rattle.oplog.specs.declared.records.Record.{Record};
 ghost use Rattle.oplog.specs.declared.configuration.TheConstants.{MAX_NODES, MAX_NODE_SLOTS};
 ghost use Rattle.combiner.specs.declared.slots.Slot.{Slot as TheSlot};
 ghost use Rattle.combiner.specs.declared.slots.DeskRefused.TheVariants.{SlotBusy};
 ghost use Rattle.combiner.specs.Slots.{claimed_slot, is_claimed};
 ghost use Rattle.combiner.specs.Claiming.{ClaimsSlot};
-ghost use Rattle.combiner.specs.Desks.{opened_desk, first_author, with_slot, posted, has_combiner, has_request, claim_refusal, batch_of, claimed, IsBatchOf, HasAnswer, IsAnswered, replied, TakesAnswer};
+ghost use Rattle.combiner.specs.Desks.{opened_desk, first_author, with_slot, posted, has_combiner, has_request, claim_refusal, batch_of, claimed, is_idle, only, only_answered, IsBatchOf, IsOnlyAt, HasAnswer, IsAnswered, replied, TakesAnswer};
 ghost use Rattle.combiner.specs.Answering.{answered_by, uses};
 
 use crate::batches::Batch;
@@ -112,6 +114,14 @@ impl Desk {
         self.posted_count > 0
     }
 
+    /// Whether no slot has a request without an answer.
+    #[inline(always)]
+    pub fn is_idle(&self) -> bool
+        ensures idle { result ≡ is_idle self.now }
+    {
+        self.posted_count == 0 && self.claimed_count == 0
+    }
+
     // How many slots the desk has.
     fn slot_count(&self) -> usize
         ensures count { result ≡ length self.now.slots }
@@ -120,8 +130,9 @@ impl Desk {
         self.places[..self.count].len()
     }
 
-    // The session of a slot, by its number among all.
-    fn author(&self, slot: usize) -> u16
+    /// The session of a slot, by its number among all.
+    #[inline(always)]
+    pub fn author(&self, slot: usize) -> u16
         requires slot { slot < length self.now.slots }
         ensures author { result ≡ first_author self.now + slot }
     {
@@ -144,6 +155,21 @@ impl Desk {
         }
         self.claim_posted(batch);
         Ok(())
+    }
+
+    /// [`Desk::claim`] where a slot has the only request without an answer. It answers how many records the session of the slot had before.
+    #[inline(always)]
+    pub fn claim_only(&mut self, slot: usize) -> u64
+        requires only { (op : Operation) × IsOnlyAt slot op self.old }
+        ensures claimed { self.new ≡ claimed self.old }
+        ensures free { (has_combiner self.old ≡ false) × (has_request self.old ≡ true) }
+        ensures batch { (o : Operation) → IsOnlyAt slot o self.old → batch_of self.old ≡ only (record { author = first_author self.old + slot; op = o; seq = result }) }
+    {
+        let places = &mut self.places[..self.count];
+        let count = places[slot].claim_only();
+        self.posted_count = 0;
+        self.claimed_count = 1;
+        count
     }
 
     // Why nothing can be claimed.
@@ -201,6 +227,17 @@ impl Desk {
             }
             next = self.answer_slot(slot, batch, next);
         }
+    }
+
+    /// [`Desk::reply`] where a slot has the only request that is claimed.
+    #[inline(always)]
+    pub fn reply_only(&mut self, slot: usize, reply: Reply)
+        requires own { (r : Record) × (r.author ≡ first_author self.old + slot) × IsBatchOf self.old (only r) }
+        ensures replied { (r : Record) → r.author ≡ first_author self.old + slot → self.new ≡ replied (only_answered r reply) self.old }
+    {
+        let places = &mut self.places[..self.count];
+        places[slot].reply_only(reply);
+        self.claimed_count = 0;
     }
 
     // The request of a slot, if it is claimed, gets the next answer of the batch. Gives the number of the answer after it.

@@ -4,6 +4,7 @@ ghost use Rattle.std.specs.Prelude.{ℕ, List, vec_capacity, OnOk, ◌≡◌, su
 ghost use Rattle.maps.specs.declared.shapes.TheConstants.{MOST_ARG_LEN};
 ghost use Rattle.oplog.specs.Laid.{IsFrom, IsWithin, KeepsApart};
 ghost use Rattle.oplog.specs.declared.configuration.TheConstants.{MAX_NODE_SLOTS};
+ghost use Rattle.combiner.specs.declared.places.PlaceStage.TheVariants as stands;
 ghost use Rattle.combiner.specs.declared.slots.Stage.TheVariants.{Empty, Posted};
 ghost use Rattle.combiner.specs.declared.slots.DeskRefused.TheVariants.{SlotBusy};
 ghost use Rattle.combiner.specs.Slots.{slot, is_posted, is_claimed, claimed_slot, counted};
@@ -114,6 +115,27 @@ impl Place {
             }
             _ => 0,
         }
+    }
+
+    // Claims the request in the place, which is posted. Answers how many answers were collected there before.
+    #[inline(always)]
+    pub(crate) fn claim_only(&mut self) -> u64
+        requires posted { self.old.stage ≡ stands.Posted }
+        ensures claimed { self.new ≡ record self.old { stage = stands.Claimed } }
+        ensures count { result ≡ self.old.count }
+    {
+        self.stage = PlaceStage::Claimed;
+        self.count
+    }
+
+    // Gives the request in the place, which is claimed, its answer.
+    #[inline(always)]
+    pub(crate) fn reply_only(&mut self, reply: Reply)
+        requires claimed { self.old.stage ≡ stands.Claimed }
+        ensures replied { self.new ≡ record self.old { stage = stands.Answered; reply = reply } }
+    {
+        self.reply = reply;
+        self.stage = PlaceStage::Answered;
     }
 
     // Gives the request in the place, if it is claimed, the next answer of the batch. Answers the number of the answer after it.

@@ -1,7 +1,7 @@
 -- How far the records of an author go, as records are appended and dropped.
 use Rattle.std.proofs.Common.{◌≡◌, ◌≢◌, ℕ, zero, suc, ◌+◌, ◌-◌, ◌≤◌, ◌++◌, ◌==◌, true, false, Bool, List, [], ◌∷◌, length, drop, replicate, refl, sym, ap, ◌∙◌, eq-eqb, subst, arith, ⊎_elim, get_or, set}
 use Rattle.std.proofs.lemmas.Bool.{cases_eq, ne_eqb}
-use Rattle.std.proofs.lemmas.List.{get_or-set_same, get_or-set_other}
+use Rattle.std.proofs.lemmas.List.{get_or-set_same, get_or-set_other, length-set}
 use Rattle.oplog.specs.declared.records.Record.{Record}
 use Rattle.oplog.specs.declared.configuration.TheConstants.{MAX_SESSIONS}
 use Rattle.oplog.specs.Fields.{HasEnds}
@@ -28,8 +28,10 @@ other_last : (a : ℕ) (rs : History) (r : Record) → r.author ≢ a → up_to_
 other_last a [] r other = ap (λ b. up_by b 0) (ne_eqb r.author a other)
 other_last a (x ∷ rs) r other = ap (up_by (x.author == a)) (other_last a rs r other)
 
-pub noted : (base : ℕ) (rs : History) (ends : List ℕ) (r : Record) (end : ℕ) → length ends ≡ MAX_SESSIONS → end ≡ base + length rs + 1 → HasEnds base rs ends → HasEnds base (rs ++ r ∷ []) (set ends r.author end)
-noted base rs ends r end long is has a low =
+set_noted : (base : ℕ) (rs : History) (ends : List ℕ) (r : Record) (end : ℕ)
+    → length ends ≡ MAX_SESSIONS → end ≡ base + length rs + 1 → HasEnds base rs ends
+    → HasEnds base (rs ++ r ∷ []) (set ends r.author end)
+set_noted base rs ends r end long is has a low =
     ⊎_elim
     (λ e.
     let here : get_or (set ends r.author end) a 0 ≡ end = subst (λ i. get_or (set ends r.author end) i 0 ≡ end) e (get_or-set_same ends r.author end 0 (omega (arith, e, long, low))) in
@@ -41,6 +43,15 @@ noted base rs ends r end long is has a low =
     let before = has a low in
     omega (arith, here, up, before))
     (cases_eq r.author a)
+
+-- as a call has it: the record was appended, and its end noted
+pub noted : (base : ℕ) (rs more : History) (ends new : List ℕ) (r : Record) (end : ℕ)
+    → more ≡ rs ++ r ∷ [] → new ≡ set ends r.author end → length new ≡ MAX_SESSIONS
+    → end ≡ base + length rs + 1 → HasEnds base rs ends → HasEnds base more new
+noted base rs more ends new r end appended is long at has =
+    let count : length ends ≡ MAX_SESSIONS = sym (length-set ends r.author end) ∙ (ap length (sym is) ∙ long) in
+    subst (λ (z : History). HasEnds base z new) (sym appended)
+    (subst (λ (z : List ℕ). HasEnds base (rs ++ r ∷ []) z) (sym is) (set_noted base rs ends r end count at has))
 
 -- ---- the first ones dropped
 

@@ -135,6 +135,25 @@ pub struct RecordRef<'a> {
     pub op: LaidRef<'a>,
 }
 
+/// A record that is in no history yet: its operation lies where its author has it.
+#[derive(Drop)]
+pub struct NewRecord<'a> {
+    /// The session whose record it is.
+    pub author: u16,
+    /// The number of the author's earlier records.
+    pub seq: u64,
+    /// The operation itself.
+    pub op: &'a OpRef<'a>,
+}
+
+impl<'a> Model for NewRecord<'a> {
+    ghost use Rattle.oplog.specs.declared.records.Record.{Record};
+
+    ghost Value = { Record };
+
+    ghost view = { λ r. record { author = r.author; op = r.op.now; seq = r.seq } };
+}
+
 /// Records of a history that are lent.
 #[derive(Drop)]
 pub struct Records<'a> {

@@ -23,7 +23,7 @@ pub use configuration::{
 };
 pub use hand::Hand;
 pub use laid::{LaidOp, LaidRef};
-pub use lent::{CallRef, OpRef, RecordRef, Records};
+pub use lent::{CallRef, NewRecord, OpRef, RecordRef, Records};
 pub use log_state::{LogRoom, LogState};
 pub use long::LongOp;
 pub use parts::OpParts;

@@ -1,11 +1,12 @@
 // The log.
 
-ghost use Rattle.std.specs.Prelude.{◌≡◌, ◌↔◌, ◌<◌, ◌≤◌, ◌+◌, ◌-◌, ◌++◌, length, set, take, min, max, IfOk, IsErr, OnErr};
+ghost use Rattle.std.specs.Prelude.{◌≡◌, ◌↔◌, ◌<◌, ◌≤◌, ◌+◌, ◌-◌, ◌++◌, ◌∷◌, [], length, set, take, min, max, IfOk, IsErr, OnErr, OnOk};
 ghost use Rattle.maps.specs.Maps.{HasShapes, shapes_of};
 ghost use Rattle.maps.specs.MapSets.{maps_of};
 ghost use Rattle.loader.specs.StoreState.{installed_in, state_of};
 ghost use Rattle.maps.specs.declared.shapes.TheConstants.{MOST_ARG_LEN};
 ghost use Rattle.oplog.specs.declared.configuration.TheConstants.{ENDLESS, MAX_SESSIONS};
+ghost use Rattle.oplog.specs.Operations.{FitsIn};
 ghost use Rattle.oplog.specs.History.{AllFit};
 ghost use Rattle.oplog.specs.Limits.{IsWindow, IsLimit};
 ghost use Rattle.oplog.specs.Logs.{IsLog, tail_of, room_in, left_of, records_from, opened_log, up_to_last};
@@ -14,7 +15,7 @@ ghost use Rattle.oplog.specs.CopyAnswers.{IfCopied, IfBelow};
 use crate::answers::{Appended, CopyAnswer, Ended};
 use crate::configuration::MAX_SESSIONS;
 use crate::hand::Hand;
-use crate::lent::Records;
+use crate::lent::{NewRecord, Records};
 use crate::record_list::RecordList;
 use loader::{Installed, StoreState};
 use maps::MapSet;
@@ -214,6 +215,30 @@ impl LogState {
             note(&mut self.ends, next.author, end);
         }
         Ok(Appended { first, count })
+    }
+
+    /// [`LogState::append`] of one record. It answers the record's index.
+    ///
+    /// # Errors
+    ///
+    /// L1 where the history has as many records as it may have.
+    #[inline(always)]
+    pub fn append_one(&mut self, new: &NewRecord<'_>) -> Result<u64, Ended>
+        requires room { min 1 (left_of self.old) ≤ room_in self.old }
+        requires fits { FitsIn self.old.long new.now.op }
+        ensures index { IfOk result (λ index. index ≡ tail_of self.old) }
+        ensures left { OnOk result (0 < left_of self.old) }
+        ensures records { OnOk result (self.new ≡ record self.old { records = self.old.records ++ new.now ∷ [] }) }
+        ensures ended { IsErr result ↔ (tail_of self.old ≡ self.old.limit) }
+        ensures same { OnErr result (self.new ≡ self.old) }
+    {
+        if self.left() == 0 {
+            return Err(Ended);
+        }
+        let index = self.tail();
+        self.records.push(new.author, new.seq, new.op);
+        note(&mut self.ends, new.author, index + 1);
+        Ok(index)
     }
 
     /// Copies all records from an index on into a hand, which was opened for a log of this room. Nothing is copied from below the base.

@@ -88,6 +88,7 @@ pub(crate) fn program_of<'a>(
 }
 
 // Runs a program that suits; else nothing is done, and the reply says so.
+#[inline(always)]
 pub(crate) fn run_suitable(
     machine: &mut Machine,
     program: Option<&Accepted>,
@@ -145,7 +146,7 @@ fn install(
 
 // Performs one operation.
 #[inline(always)]
-fn perform(on: &mut Ground, catalogue: &Catalogue, op: &OpRef<'_>) -> Outcome
+pub(crate) fn perform(on: &mut Ground, catalogue: &Catalogue, op: &OpRef<'_>) -> Outcome
     requires shapes { HasShapes catalogue.now.shapes (maps_of on.old.maps) }
     requires programs { IsFitFor catalogue.now on.old.programs }
     requires update { is_operation Update catalogue.now op.now ≡ true }
@@ -173,6 +174,7 @@ fn perform(on: &mut Ground, catalogue: &Catalogue, op: &OpRef<'_>) -> Outcome
 }
 
 // Performs the operations of records, the first of which has this index in the history, one after the other, and keeps what they answer.
+#[inline(never)]
 pub(crate) fn perform_each(
     on: &mut Ground,
     catalogue: &Catalogue,

@@ -1,6 +1,6 @@
 // A replica of the maps, and of the programs that were installed.
 
-ghost use Rattle.std.specs.Prelude.{◌≡◌, ◌+◌, ◌++◌, ◌<◌, ◌≤◌, ◌^◌, [], length, take, drop, Some};
+ghost use Rattle.std.specs.Prelude.{◌≡◌, ◌+◌, ◌++◌, ◌∷◌, ◌<◌, ◌≤◌, ◌^◌, [], length, take, drop, Some};
 ghost use Rattle.maps.specs.Maps.{shapes_of, HasShapes};
 ghost use Rattle.maps.specs.MapSets.{maps_of};
 ghost use Rattle.verifier.specs.declared.refusal.Mode.TheVariants.{Read};
@@ -9,14 +9,14 @@ ghost use Rattle.loader.specs.StoreState.{installed_in, sizes_of, state_of};
 ghost use Rattle.oplog.specs.History.{after};
 ghost use Rattle.oplog.specs.Logs.{records_from};
 ghost use Rattle.replica.specs.StoreMeaning.{store_meaning, call_of, run_of, ran_to, AreUpdates};
-ghost use Rattle.replica.specs.Replaying.{KeepsOutcomes};
+ghost use Rattle.replica.specs.Replaying.{IsAnswered, KeepsOutcomes};
 
-use crate::operations::{Ground, perform_each, program_of, run_suitable};
+use crate::operations::{Ground, perform, perform_each, program_of, run_suitable};
 use crate::replying::Replies;
 use loader::{Catalogue, Installed, StoreState};
 use machine::Outcome;
 use maps::MapSet;
-use oplog::{Hand, LogState, Records};
+use oplog::{Hand, LogState, NewRecord, Records};
 use std::marker::Model;
 use verifier::Mode;
 
@@ -125,6 +125,33 @@ impl Replica {
         perform_each(&mut self.ground, catalogue, self.tail, more, replies);
         self.tail += more.len() as u64;
         hand.clear(self.tail);
+    }
+
+    /// [`Replica::replay_with`] of one record: it answers the record's outcome, and nothing is kept of those of the hand.
+    #[inline(always)]
+    pub fn replay_one(
+        &mut self,
+        hand: &mut Hand,
+        new: &NewRecord<'_>,
+        catalogue: &Catalogue,
+    ) -> Outcome
+        requires begins { hand.old.begin ≡ self.old.tail }
+        requires sizes { sizes_of self.old.state ≡ sizes_for catalogue.now }
+        requires allowed { AreUpdates catalogue.now (hand.old.records ++ new.now ∷ []) }
+        requires fits { self.old.tail + length (hand.old.records ++ new.now ∷ []) < 2 ^ 64 }
+        ensures tail { self.new.tail ≡ self.old.tail + length (hand.old.records ++ new.now ∷ []) }
+        ensures state { self.new.state ≡ after store_meaning catalogue.now self.old.state (hand.old.records ++ new.now ∷ []) }
+        ensures sizes { sizes_of self.new.state ≡ sizes_of self.old.state }
+        ensures hand { hand.new ≡ record hand.old { begin = self.new.tail; records = [] } }
+        ensures outcome { IsAnswered catalogue.now new.now.op (after store_meaning catalogue.now self.old.state hand.old.records) result }
+    {
+        if !hand.is_empty() {
+            self.replay_first(hand, hand.len(), catalogue);
+        }
+        let outcome = perform(&mut self.ground, catalogue, new.op);
+        self.tail += 1;
+        hand.clear(self.tail);
+        outcome
     }
 
     /// Applies the first `count` records of a hand, which begins at the tail, and lets go of what they answer. Their operations are updates

@@ -1,9 +1,7 @@
-use Rattle.std.proofs.Common.{rules, ℕ, List, ◌≡◌, ◌+◌, ◌++◌, ◌∷◌, [], length, take, subst, sym, ap, ◌∙◌, arith}
-use Rattle.std.proofs.lemmas.List.{length-set, length-append, length-take-le, append_assoc}
+use Rattle.std.proofs.Common.{rules, ℕ, ◌≡◌, ◌+◌, ◌++◌, ◌∷◌, [], length, take, subst, sym, ap, ◌∙◌, arith}
+use Rattle.std.proofs.lemmas.List.{length-append, length-take-le, append_assoc}
 use Rattle.oplog.specs.declared.records.Record.{Record}
-use Rattle.oplog.specs.Fields.{HasEnds}
 use Rattle.oplog.specs.Operations.{FitsIn}
-use Rattle.oplog.specs.History.{History}
 use Rattle.oplog.specs.Lists.{RecordListView}
 use Rattle.oplog.specs.Logs.{Log, tail_of}
 use Rattle.oplog.proofs.Ends.{noted}
@@ -28,7 +26,6 @@ loop-k-preserved c =
     let few = c.min-count.ensures in
     let some : length (take k c.args.batch.now) ≡ k = length-take-le k c.args.batch.now (omega (arith, low, all, few)) in
     let count : length g.records.records ≡ length c.self.inside.records.records + k = ap length before.appended ∙ length-append c.self.inside.records.records (take k c.args.batch.now) ∙ ap (λ n. length c.self.inside.records.records + n) some in
-    let long : length g.ends ≡ 128 = sym (length-set g.ends r.author (c.loop-k.end + 1)) ∙ (ap length (sym c.note.ensures.noted) ∙ c.note.array_long) in
     let same : g.base ≡ c.self.inside.base = search rules in
     let pushed : c.push_laid.new.self.records ≡ g.records.records ++ r ∷ [] = ap (λ (v : RecordListView). v.records) c.push_laid.ensures.pushed in
     record {
@@ -37,6 +34,7 @@ loop-k-preserved c =
       long = search rules;
       appended = pushed ∙ ap (λ rs. rs ++ r ∷ []) before.appended ∙ append_assoc c.self.inside.records.records (take k c.args.batch.now) (r ∷ []) ∙ ap (λ rs. c.self.inside.records.records ++ rs) (sym (take_more c.args.batch.now k r c.at-next.ensures.there));
       end = omega (arith, here);
-      ends = subst (λ (z : History). HasEnds g.base z c.note.new.ends) (sym pushed)
-          (subst (λ (z : List ℕ). HasEnds g.base (g.records.records ++ r ∷ []) z) (sym c.note.ensures.noted) (noted g.base g.records.records g.ends r (c.loop-k.end + 1) long (omega (arith, first, here, count, same)) before.ends));
+      ends =
+          noted g.base g.records.records c.push_laid.new.self.records g.ends c.note.new.ends r (c.loop-k.end + 1)
+          pushed c.note.ensures.noted c.note.array_long (omega (arith, first, here, count, same)) before.ends;
     }
