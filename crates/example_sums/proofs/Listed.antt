@@ -1,6 +1,7 @@
 -- What the shelf of two sessions is opened with, and gives back.
-use Rattle.std.proofs.Common.{◌≡◌, ℕ, zero, suc, ◌+◌, ◌*◌, ◌<◌, ◌≤◌, ◌%◌, ◌^◌, List, [], ◌∷◌, ◌++◌, length, take, sym, refl, ap, ◌∙◌, subst, arith, Option, Some}
-use Rattle.std.specs.Option.{unwrap_or}
+use Rattle.std.proofs.Common.{◌≡◌, ℕ, zero, suc, ◌+◌, ◌*◌, ◌<◌, ◌≤◌, ◌%◌, ◌^◌, List, [], ◌∷◌, ◌++◌, length, take, sym, refl, ap, ◌∙◌, subst, arith, Option, Some, None}
+use Rattle.std.specs.Option.{option_to_list, unwrap_or}
+use Rattle.std.specs.Prelude.{Bool, true, false, IsSome}
 use mathlib.Core.Option.{some-injective}
 use lib.ListN.{get_elem?}
 use Rattle.ownlock.specs.declared.known.Known.{Known}
@@ -51,6 +52,60 @@ module _ (opened : Opened Progress ℕ) (view : List (Known Progress ℕ Value))
       let items = (there 0 (TheList list) (omega (arith, long)) at).1 in
       let w = closes.2.0 in let x = c.4 in let y = d.4 in
       omega (arith, ap length items, w, n, x, y)
+
+  -- the sum is that of as many numbers of the list as it says
+  pub summed : (list : numbers.Numbers) (sum : sums.RunningSum) → length slots ≡ 2 → At 0 (Some (TheList list)) slots
+      → At 1 (Some (Sum sum)) slots
+      → (sum.tail ≤ length list.items.items) × (sum.sum ≡ total (take sum.tail list.items.items) % 2 ^ 64)
+  summed list sum long first last =
+      let items = (there 0 (TheList list) (omega (arith, long)) first).1 in
+      let agrees = there 1 (Sum sum) (omega (arith, long)) last in
+      let low = closes.2.1 in
+      let far = agrees.1 in
+      (omega (arith, far, low, ap length items), agrees.2 ∙ ap (λ z. total (take sum.tail z) % 2 ^ 64) (sym items))
+
+-- the value at the second place is the sum, and that at the first the list
+module _ (opened : Opened Progress ℕ) (view : List (Known Progress ℕ Value)) (slots : List (Option Value))
+    (closes : Closes sum_rules opened view slots) (long : length slots ≡ 2) where
+  pub last_sum : (sum : sums.RunningSum) × At 1 (Some (Sum sum)) slots × AgreesWith 1 closes.0 closes.1 (Sum sum)
+  last_sum = let t = closes.5 1 (omega (arith, long)) in by t.0 t.1 t.2
+    where
+      by : (x : Value) → At 1 (Some x) slots → AgreesWith 1 closes.0 closes.1 x → (sum : sums.RunningSum)
+          × At 1 (Some (Sum sum)) slots × AgreesWith 1 closes.0 closes.1 (Sum sum)
+      by (TheList list) at agrees = let no = agrees.0 in absurd (omega (arith, no))
+      by (Sum sum) at agrees = (sum, at, agrees)
+
+  pub first_list : (list : numbers.Numbers) × At 0 (Some (TheList list)) slots
+      × AgreesWith 0 closes.0 closes.1 (TheList list)
+  first_list = let t = closes.5 0 (omega (arith, long)) in by t.0 t.1 t.2
+    where
+      by : (x : Value) → At 0 (Some x) slots → AgreesWith 0 closes.0 closes.1 x → (list : numbers.Numbers)
+          × At 0 (Some (TheList list)) slots × AgreesWith 0 closes.0 closes.1 (TheList list)
+      by (TheList list) at agrees = (list, at, agrees)
+      by (Sum sum) at agrees = absurd (agrees.0 refl)
+
+  pub pops_sum : (r : List (Option Value)) (o : Option (Option Value)) → slots ≡ r ++ option_to_list o → IsSome o
+      → o ≡ Some (Some (Sum last_sum.0))
+  pops_sum r None e some = absurd (let no : false ≡ true = some in cc)
+  pops_sum [] (Some a) e some = let few = ap length e in absurd (omega (arith, few, long))
+  pops_sum (x ∷ []) (Some a) e some = ap Some (some-injective _ _ (sym (ap (λ l. get_elem? l 1) e) ∙ last_sum.1))
+  pops_sum (x ∷ y ∷ ys) (Some a) e some = let much = ap length e in absurd (omega (arith, much, long, more ys))
+    where
+      more : (ys : List _) → 1 ≤ length (ys ++ a ∷ [])
+      more [] = omega arith
+      more (z ∷ zs) = omega arith
+
+  pub pops_list : (r : List (Option Value)) (o : Option (Option Value)) (b : Option Value) → slots ≡ r ++ b ∷ []
+      → (s : List (Option Value)) → r ≡ s ++ option_to_list o → IsSome o → o ≡ Some (Some (TheList first_list.0))
+  pops_list r None b e s f some = absurd (let no : false ≡ true = some in cc)
+  pops_list r (Some a) b e [] f some =
+      ap Some (some-injective _ _ (sym (ap (λ l. get_elem? l 0) (e ∙ ap (λ l. l ++ b ∷ []) f)) ∙ first_list.1))
+  pops_list r (Some a) b e (x ∷ xs) f some = let much =
+      ap length (e ∙ ap (λ l. l ++ b ∷ []) f) in absurd (omega (arith, much, long, more xs))
+    where
+      more : (xs : List _) → 2 ≤ length ((xs ++ a ∷ []) ++ b ∷ [])
+      more [] = omega arith
+      more (y ∷ ys) = let h = more ys in omega (arith, h)
 
 pub first_agree : (slots : List (Option Value)) (list : numbers.Numbers) (sum : sums.RunningSum) → slots ≡ Some (TheList list) ∷ Some (Sum sum) ∷ [] → list.items.items ≡ [] → sum.tail ≡ 0 → sum.sum ≡ 0 → AllAgree sum_rules empty_progress (0 ∷ 0 ∷ []) slots
 first_agree slots list sum is items at zero_sum = subst (λ s. AllAgree sum_rules empty_progress (0 ∷ 0 ∷ []) s) (sym is) both

@@ -1,5 +1,5 @@
 -- The shelf at the end.
-use Rattle.std.proofs.Common.{◌≡◌, ◌≢◌, ℕ, zero, suc, ◌<◌, ◌≤◌, eqb, true, false, List, [], ◌∷◌, map, length, get_or, sym, refl, ap, ◌∙◌, subst, arith, ne_eqb, true≢false, ◌||◌, ◌+◌, Option, Some, None}
+use Rattle.std.proofs.Common.{◌≡◌, ◌≢◌, ℕ, zero, suc, ◌<◌, ◌≤◌, eqb, true, false, List, [], ◌∷◌, map, length, sym, refl, ap, ◌∙◌, subst, ⊎_elim, arith, ne_eqb, true≢false, ◌||◌, ◌+◌, Option, Some, None}
 use mathlib.Core.Logic.{dite}
 use mathlib.Core.Option as kernel
 use mathlib.Core.Option.{some-injective, some-ne-none}
@@ -9,11 +9,11 @@ use Rattle.std.proofs.lemmas.Map.Steps.{length-le_from_distinct_below}
 use Rattle.atomic_table.specs.Table.{State, Final, Seen}
 use Rattle.ownlock.specs.declared.known.Known.{Known}
 use Rattle.ownlock.specs.Rules.{Rules}
-use Rattle.ownlock.specs.Words.{word_of, slot_of}
+use Rattle.ownlock.specs.Words.{slot_of}
 use Rattle.ownlock.specs.Spreading.{HasGaps, StandsIn}
 use Rattle.ownlock.specs.Seats.{At, Opened, HoldsNone}
 use Rattle.ownlock.specs.Knowledge.{AllAgree, Closes, IsOneRun}
-use Rattle.ownlock.specs.Invariant.{LockInvariant, HeldBySome}
+use Rattle.ownlock.specs.Invariant.{HasValue, HeldBySome, LockInvariant}
 use Rattle.ownlock.proofs.Keeps.{at_one}
 use Rattle.ownlock.proofs.Fronts.{at_below}
 
@@ -118,6 +118,7 @@ module _ {P N V : Type 0} (R : Rules P N V) (opened : Opened P N) where
       inside p below = let placed = r.placed in omega (arith, wide, same_count, placed, below)
 
       agree : AllAgree R r.progress r.notes values
-      agree p below = dite (ℕ_discrete (get_or s.words (word_of p) 0) 0)
-          (λ free. let t = r.free p (inside p below) free in (t.0, stands p (Some t.0) below (homes (slot_of p) (Some t.0) t.1), t.2))
-          (λ busy. absurd (no_one p (r.busy p (inside p below) busy)))
+      agree p below = ⊎_elim
+          (λ (t : HasValue R r.progress r.notes s.homes p).
+          (t.0, stands p (Some t.0) below (homes (slot_of p) (Some t.0) t.1), t.2))
+          (λ held. absurd (no_one p held)) (r.there p (inside p below))

@@ -1,24 +1,30 @@
--- A put keeps the invariant: first the look at its own word, then the freeing of that.
-use Rattle.std.proofs.Common.{◌≡◌, ◌≢◌, ℕ, ◌<◌, zero, suc, List, [], ◌∷◌, map, get_or, set, sym, refl, ap, ◌∙◌, inr, subst, arith, length-set, get_or-set_same, Option, Some, None}
+-- A put keeps the invariant: first the look that brings its slot to the front, then the step that leaves the place.
+use Rattle.std.proofs.Common.{◌≡◌, ◌≢◌, ℕ, ◌-◌, ◌^◌, ◌<◌, zero, suc, List, [], ◌∷◌, map, get_or, set, sym, refl, ap, ◌∙◌, inl, inr, subst, arith, length-set, Option, Some, None, bit_and, eqb}
+use Rattle.std.specs.Int.{bit_at}
+use mathlib.Core.Logic.{dite}
+use native.Mathlib.Decide.{ℕ_discrete}
 use mathlib.Core.Option as kernel
-use mathlib.Core.Option.{some-injective, some-ne-none}
+use mathlib.Core.Option.{some-injective}
+use prog.Atomic.{either}
+use Rattle.std.proofs.lemmas.Nat.Bits.{bit_at-zero}
 use lib.ListN.{get_elem?}
 use lib.Seq.{set-get_or}
 use Rattle.std.proofs.lemmas.Option.{same_Some}
-use Rattle.atomic_table.specs.Table.{Me, gives, keeps, step, stepped, Allows, Valid, carried_after, homes_after, rest}
-use Rattle.atomic_table.proofs.Lists.{set_here, set_else, set_again}
+use Rattle.atomic_table.specs.Table.{Act, Me, gives, keeps, step, stepped, Allows, Valid, carried_after, homes_after, rest}
+use Rattle.atomic_table.proofs.Lists.{set_here, set_else, set_again, exchanged}
 use Rattle.ownlock.specs.declared.known.Known.{Known}
 use Rattle.ownlock.specs.declared.known.SharedStep.{SharedStep}
 use Rattle.ownlock.specs.declared.known.ShelfStep.TheVariants.{Took, Put}
 use Rattle.ownlock.specs.Rules.{Rules, Laws, Move, IsAmong}
-use Rattle.ownlock.specs.Words.{word_of, slot_of}
+use Rattle.ownlock.specs.Words.{bit_of, line_word, slot_of, won_by}
 use Rattle.ownlock.specs.Runs.{Puts, Takes}
-use Rattle.ownlock.specs.Seats.{At, Opened, Run, OthersStepped, Adds, own_steps, place_of, without, left_with, settled_with, taken_by, TookLast}
+use Rattle.ownlock.specs.Seats.{At, Opened, Run, OthersStepped, own_steps, place_of, without, left_with, settled_with, taken_by, TookLast}
 use Rattle.ownlock.specs.Knowledge.{HeldAgree, Possible, MayPut}
-use Rattle.ownlock.specs.Invariant.{emptied, SessionInvariant, LockInvariant, StepsAs, fronted, freed, settled}
+use Rattle.ownlock.specs.Invariant.{emptied, SessionInvariant, LockInvariant, StepsAs, StepsLeft, fronted, freed, freed_alone, freed_won, settled}
 use Rattle.ownlock.proofs.Spread.{one_slot}
 use Rattle.ownlock.proofs.Run.{continues_self, continues_more, own_here, own_else}
-use Rattle.ownlock.proofs.Keeps.{LockState, LockSeat, SlotHomes, one_session, one_place, Goes, goes, mine_of, not_of_others, word_there, word_else, tail_else, place_there, slot_there}
+use Rattle.ownlock.proofs.Keeps.{LockState, LockSeat, SlotHomes, one_session, Goes, all_places, goes, line_there, mine_of, not_of_others, tail_else, slot_there, unmoved, word_is, word_set}
+use Rattle.ownlock.proofs.Marks.{Remarks, alone_remarks, bit_below, clear_bit, clear_remarks, looked, reworded, won_bit}
 use Rattle.ownlock.proofs.Without.{was_held, without_same, still_held, not_held, apart_without, part_of}
 use Rattle.ownlock.proofs.Fronts.{bring, brings, at_below}
 
@@ -91,8 +97,12 @@ module _ {P N V : Type 0} (R : Rules P N V) (laws : Laws R) (opened : Opened P N
       ends = record { seen = own_here k.session entry r.run refl ∙ ap (λ es. Put p y ∷ es) was.own; last = inr (r.run, entry, refl, refl, refl, refl) };
     }
 
-    gives_it : Goes R laws opened s r id p k giver progress_after notes_after (set s.words (word_of p) 0) homes_given r.holder (entry ∷ r.run)
-    gives_it = record {
+    -- the word of its line becomes n, in which the place has no mark
+    gives_it : (n : ℕ) → Remarks (bit_of opened.places p) (get_or s.words (line_word opened.places p) 0) n
+        → bit_at n (bit_of opened.places p) ≡ 0
+        → Goes R laws opened s r id p k giver progress_after notes_after (set s.words (line_word opened.places p) n)
+        homes_given r.holder (entry ∷ r.run)
+    gives_it n remarks none = record {
       here = at;
       session = refl;
       goes_on = continues_more r.run r.run entry (continues_self r.run);
@@ -106,19 +116,24 @@ module _ {P N V : Type 0} (R : Rules P N V) (laws : Laws R) (opened : Opened P N
       counted = length-set r.notes k.session note_after ∙ r.counted;
       homes_else = λ i ne. set_else s.homes (slot_of p) i (kernel.some (Some y)) ne;
       homes_long = length-set s.homes (slot_of p) (kernel.some (Some y));
-      words_else = λ q ne. word_else R laws opened s.words p q 0 ne;
-      tail_here = tail_else R laws opened s r p 0 below ∙ sym (laws.moves_completed move);
-      words_long = length-set s.words (word_of p) 0;
+      words_else = reworded opened.places p s.words n below (line_there R laws opened s r p below) remarks;
+      tail_here = tail_else R laws opened s r p n below ∙ sym (laws.moves_completed move);
+      words_long = length-set s.words (line_word opened.places p) n;
       holder_else = λ q _. refl;
       not_theirs = not_of_others R laws opened s r id p k at (was.out a (p, x) top).0;
       mine = give_fits;
-      free_here = λ _ _. (y, set_here s.homes (slot_of p) (kernel.some (Some y)) (slot_there R laws opened s r p below), (may r.progress r.notes was.possible).1);
-      busy_here = λ _ ne. absurd (ne (get_or-set_same s.words (word_of p) 0 0 (word_there R laws opened s r p (omega (arith, below)))));
+      there_here = λ _. inl (y, set_here s.homes (slot_of p) (kernel.some (Some y)) (slot_there R laws opened s r p below), (may r.progress r.notes was.possible).1);
+      busy_here = λ _ is. let here = sym (ap (λ z. bit_at z (bit_of opened.places p)) (word_set R laws opened s r p n below)) ∙ is in absurd (omega (arith, here, none));
+      marked_here = λ _ mine. absurd (other mine.0 mine.1 mine.2 mine.3);
       held_else = still_held p k.held;
+      held_back = λ b u e _. was_held p k.held b u e;
     }
 
-    gives_stand : (c : List (ℕ × Option V)) → LockInvariant R opened (stepped s (word_of p) 0 id ((slot_of p, Some y) ∷ c) (giver ∷ []) gives)
-    gives_stand c = goes R laws opened s r id p k giver progress_after notes_after (set s.words (word_of p) 0) homes_given r.holder (entry ∷ r.run) gives_it
+    gives_stand : (n : ℕ) → Remarks (bit_of opened.places p) (get_or s.words (line_word opened.places p) 0) n
+        → bit_at n (bit_of opened.places p) ≡ 0 → (c : List (ℕ × Option V))
+        → LockInvariant R opened
+        (stepped s (line_word opened.places p) n id ((slot_of p, Some y) ∷ c) (giver ∷ []) gives)
+    gives_stand n remarks none c = goes R laws opened s r id p k giver progress_after notes_after (set s.words (line_word opened.places p) n) homes_given r.holder (entry ∷ r.run) (gives_it n remarks none)
 
     -- the same, but the place is taken again at once
     abbrev again : K
@@ -155,6 +170,10 @@ module _ {P N V : Type 0} (R : Rules P N V) (laws : Laws R) (opened : Opened P N
     again_out zero u e = subst (λ q. (r.holder q ≡ k.session) × At (slot_of q) kernel.none s.homes) (ap (λ (z : ℕ × V). z.0) (some-injective (p, y) u e)) (was.out a (p, x) top)
     again_out (suc b) u e = let back = was_held p k.held b u e in was.out back.0 u back.1
 
+    again_back : (b : ℕ) (u : ℕ × V) → At b u again.held → u.0 ≢ p → (c : ℕ) × At c u k.held
+    again_back zero u e ne = absurd (ne (sym (ap (λ (z : ℕ × V). z.0) (some-injective (p, y) u e))))
+    again_back (suc b) u e ne = was_held p k.held b u e
+
     module _ (us : List (ℕ × V)) (first : k.held ≡ (p, x) ∷ us) where
       again_places : map place_of again.held ≡ map place_of k.held
       again_places = ap (λ l. p ∷ map place_of l) (ap (without p) first ∙ without_same p (p, x) us refl) ∙ sym (ap (map place_of) first)
@@ -169,9 +188,6 @@ module _ {P N V : Type 0} (R : Rules P N V) (laws : Laws R) (opened : Opened P N
         own = again_own;
         ends = record { seen = again_own; last = inr (entry ∷ r.run, entry_again, refl, refl, refl, refl) };
       }
-
-      busy_word : get_or s.words (word_of p) 0 ≢ 0
-      busy_word e = let t = r.free p below e in some-ne-none (Some t.0) (some-injective _ _ (sym t.1 ∙ (was.out a (p, x) top).1))
 
       settles_it : Goes R laws opened s r id p k again progress_after notes_after s.words s.homes r.holder run_again
       settles_it = record {
@@ -189,19 +205,22 @@ module _ {P N V : Type 0} (R : Rules P N V) (laws : Laws R) (opened : Opened P N
         counted = length-set r.notes k.session note_after ∙ r.counted;
         homes_else = λ i ne. refl;
         homes_long = refl;
-        words_else = λ q ne. refl;
+        words_else = record { others = λ q _ _. refl; winners = λ q _. refl };
         tail_here = r.tail ∙ sym (laws.moves_completed move);
         words_long = refl;
         holder_else = λ q _. refl;
         not_theirs = not_of_others R laws opened s r id p k at (was.out a (p, x) top).0;
         mine = again_fits;
-        free_here = λ _ e. absurd (busy_word e);
+        there_here = λ _. inr (0, (p, y), refl, refl);
         busy_here = λ _ _. (0, (p, y), refl, refl);
+        marked_here = λ low _. r.marked p low (id, k ∷ [], 0, k, a, (p, x), at, refl, top, refl);
         held_else = λ b u e ne. let t = still_held p k.held b u e ne in (suc t.0, t.1);
+        held_back = again_back;
       }
 
-      settles_stand : (c : List (ℕ × Option V)) → LockInvariant R opened (stepped s (word_of p) (get_or s.words (word_of p) 0) id c (again ∷ []) keeps)
-      settles_stand c = subst (λ (l : List ℕ). LockInvariant R opened record { words = l; homes = s.homes; views = set s.views id (again ∷ []) }) (sym (set-get_or s.words (word_of p) 0))
+      settles_stand : (word : ℕ) (c : List (ℕ × Option V))
+          → LockInvariant R opened (stepped s word (get_or s.words word 0) id c (again ∷ []) keeps)
+      settles_stand word c = subst (λ (l : List ℕ). LockInvariant R opened record { words = l; homes = s.homes; views = set s.views id (again ∷ []) }) (sym (set-get_or s.words word 0))
           (goes R laws opened s r id p k again progress_after notes_after s.words s.homes r.holder run_again settles_it)
 
   only_one : (k k2 : K) → (k ∷ []) ≡ (k2 ∷ []) → k ≡ k2
@@ -211,36 +230,159 @@ module _ {P N V : Type 0} (R : Rules P N V) (laws : Laws R) (opened : Opened P N
   one_out : (y z : V) (p q : ℕ) (c d : List (ℕ × Option V)) → ((slot_of p, Some y) ∷ c) ≡ ((slot_of q, Some z) ∷ d) → y ≡ z
   one_out y z p q c d e = same_Some y z (ap (λ (l : List (ℕ × Option V)). (get_or l 0 (slot_of p, Some y)).1) e)
 
-  frees_at : (slots id p : ℕ) (k : K) (y : V) (c : List (ℕ × Option V)) (grown : P → P) (noting : N → N) → slot_of p < slots → MayPut R grown noting k p y
-      → Allows (LockInvariant R opened) slots id (me k ((slot_of p, Some y) ∷ c)) (word_of p) (λ _. 0) (λ n. freed R grown noting (step slots (word_of p) 0 0 kernel.none) (me k ((slot_of p, Some y) ∷ c)) 0)
-  frees_at slots id p k y c grown noting below (x, a, top, may) s r long at _ = (
-    giver s r id p k at inside x y a top grown noting may ∷ [],
-    gives,
-    tt,
-    gives_stand s r id p k at inside x y a top grown noting may c,
-    λ k2 p2 y2 c2 sits same. subst
-        (λ (z : ℕ × K × V × List (ℕ × Option V)). (progress : P) × ((notes : List N) × Possible R z.1 progress notes)
-        × ((run : Run P N V) × Adds z.1 (Put z.0 z.2) (grown progress) (noting z.1.note) run
-        × (me (giver s r id p k at inside x y a top grown noting may) c ≡ me (left_with z.1 z.0 z.2 (grown progress) (noting z.1.note) run) z.3)))
-        (λ i. (one_place p p2 same i, only_one k k2 (ap (λ m. m.0) sits) i, one_out y y2 p p2 c c2 (ap (λ m. m.1) sits) i, ap (λ m. rest m.1) sits i))
-        (r.progress, (r.notes, (mine_of R laws opened s r id k at).possible), (entry s r id p k at inside x y a top grown noting may ∷ r.run, (r.run, ((mine_of R laws opened s r id k at).goes_on, (mine_of R laws opened s r id k at).own), refl), refl)),
-  )
-    where
-      inside : p < opened.places
-      inside = place_there R laws opened s r slots p long below
+  -- the place of the first slot that is out
+  place_out : (y z : V) (p q : ℕ) (c d : List (ℕ × Option V)) → ((slot_of p, Some y) ∷ c) ≡ ((slot_of q, Some z) ∷ d)
+      → p ≡ q
+  place_out y z p q c d e = one_slot p q (ap (λ (l : List (ℕ × Option V)). (get_or l 0 (0, None)).0) e)
 
-  settles_at : (slots id p : ℕ) (k : K) (y : V) (c : List (ℕ × Option V)) (grown : P → P) (noting : N → N) → slot_of p < slots → MayPut R grown noting k p y → TookLast p k
-      → Allows (LockInvariant R opened) slots id (me k ((slot_of p, Some y) ∷ c)) (word_of p) (λ n. n) (settled R grown noting (step slots (word_of p) 0 0 kernel.none) (me k ((slot_of p, Some y) ∷ c)))
-  settles_at slots id p k y c grown noting below may (x, us, first) s r long at _ = (
+  -- the session k, in state s, puts the value y back to the place p, of which it had taken x
+  module _ (s : LockState P N V) (r : LockInvariant R opened s) (id p : ℕ) (k : K) (at : At id (k ∷ []) s.views) (inside : p < opened.places) (y : V) (c : List (ℕ × Option V)) (grown : P → P) (noting : N → N) (m : MayPut R grown noting k p y) where
+    abbrev left : K
+    left = giver s r id p k at inside m.0 y m.1 m.2 grown noting m.3
+
+    -- what the step does, where it makes n of the word
+    abbrev Leaves : ℕ → (LockSeat P N V → Type 0) → Type 0
+    Leaves n Told = (w : List K) × (a : Act (Option V)) × Valid s.homes ((slot_of p, Some y) ∷ c) a
+        × LockInvariant R opened (stepped s (line_word opened.places p) n id ((slot_of p, Some y) ∷ c) w a)
+        × Told (w, carried_after ((slot_of p, Some y) ∷ c) a)
+
+    told : (k2 : K) (p2 : ℕ) (y2 : V) (c2 : List (ℕ × Option V)) → me k ((slot_of p, Some y) ∷ c) ≡ me k2 ((slot_of p2, Some y2) ∷ c2) → StepsLeft R grown noting k2 p2 y2 c2 (me left c)
+    told k2 p2 y2 c2 sits = subst
+        (λ (z : ℕ × K × V × List (ℕ × Option V)). StepsLeft R grown noting z.1 z.0 z.2 z.3 (me left c))
+        (λ i. (
+          place_out y y2 p p2 c c2 (ap (λ m. m.1) sits) i,
+          only_one k k2 (ap (λ m. m.0) sits) i,
+          one_out y y2 p p2
+              c c2 (ap (λ m. m.1) sits) i,
+          ap (λ m. rest m.1) sits i,
+        ))
+        (r.progress, (r.notes, (mine_of R laws opened s r id k at).possible), (entry s r id p k at inside m.0 y m.1 m.2 grown noting m.3 ∷ r.run, (r.run, ((mine_of R laws opened s r id k at).goes_on, (mine_of R laws opened s r id k at).own), refl), refl))
+
+    frees_in : get_or s.words (line_word opened.places p) 0 < 18446744073709551616 → Leaves (bit_and (get_or s.words (line_word opened.places p) 0) (18446744073709551615 - 2 ^ bit_of opened.places p)) (λ after. freed R grown noting (step 0 0 0 0 kernel.none) (me k ((slot_of p, Some y) ∷ c)) 0 after)
+    frees_in low =
+        let b = bit_of opened.places p in
+        let few = bit_below opened.places p in
+        let n : ℕ = get_or s.words (line_word opened.places p) 0 in (
+          left ∷ [],
+          gives,
+          tt,
+          gives_stand s r id p k at inside m.0 y m.1 m.2 grown noting m.3 (bit_and n (18446744073709551615 - 2 ^ b))
+              (clear_remarks n b few low) (clear_bit n b few) c,
+          told,
+        )
+
+    frees_alone_in : (mark : ℕ) → mark ≡ 2 ^ bit_of opened.places p
+        → Leaves
+        (either (eqb (get_or s.words (line_word opened.places p) 0) mark) 0
+        (get_or s.words (line_word opened.places p) 0))
+        (λ after. freed_alone R grown noting (step 0 0 mark 0 kernel.none) (me k ((slot_of p, Some y) ∷ c))
+        (get_or s.words (line_word opened.places p) 0) after)
+    frees_alone_in mark is =
+        exchanged (get_or s.words (line_word opened.places p) 0) mark 0
+        (λ n. Leaves n (λ after. freed_alone R grown noting (step 0 0 mark 0 kernel.none)
+        (me k ((slot_of p, Some y) ∷ c)) (get_or s.words (line_word opened.places p) 0) after))
+        (λ hit.
+        let b = bit_of opened.places p in
+        let few = bit_below opened.places p in
+        let marks = subst (λ z. Remarks b z 0) (sym (hit ∙ is)) (alone_remarks b few) in (
+          left ∷ [],
+          gives,
+          tt,
+          gives_stand s r id p k at inside m.0 y m.1 m.2 grown noting m.3 0 marks (bit_at-zero b) c,
+          λ k2 p2 y2 c2 sits. ((λ ne. absurd (ne hit)), (λ _. told k2 p2 y2 c2 sits)),
+        ))
+        (λ miss. (
+          k ∷ [],
+          keeps,
+          tt,
+          unmoved R laws opened s r id (line_word opened.places p) (k ∷ []) ((slot_of p, Some y) ∷ c) at,
+          λ k2 p2 y2 c2 sits. ((λ _. refl), (λ hit. absurd (miss hit))),
+        ))
+
+    frees_won_in : Leaves (get_or s.words (line_word opened.places p) 0) (λ after. freed_won R grown noting (step 0 0 0 0 kernel.none) (me k ((slot_of p, Some y) ∷ c)) (get_or s.words (line_word opened.places p) 0) after)
+    frees_won_in = dite (ℕ_discrete (get_or s.words (line_word opened.places p) 0) (won_by k.session))
+        (λ hit.
+        let b = bit_of opened.places p in
+        let none = ap (λ z. bit_at z b) hit ∙ won_bit k.session b (bit_below opened.places p) in (
+          left ∷ [],
+          gives,
+          tt,
+          gives_stand s r id p k at inside m.0 y m.1 m.2 grown noting m.3 (get_or s.words (line_word opened.places p) 0) (looked b (get_or s.words (line_word opened.places p) 0)) none c,
+          λ k2 p2 y2 c2 sits. ((λ ne. absurd (ne (hit ∙ ap (λ (z : K). won_by z.session) (only_one k k2 (ap (λ m. m.0) sits))))), (λ _. told k2 p2 y2 c2 sits)),
+        ))
+        (λ miss. (
+          k ∷ [],
+          keeps,
+          tt,
+          unmoved R laws opened s r id (line_word opened.places p) (k ∷ []) ((slot_of p, Some y) ∷ c) at,
+          λ k2 p2 y2 c2 sits. ((λ _. refl), (λ hit. absurd (miss (hit ∙ ap (λ (z : K). won_by z.session) (sym (only_one k k2 (ap (λ m. m.0) sits))))))),
+        ))
+
+  -- the mark of the place p is taken away, and the value y is at home
+  pub frees : (slots places id p word mask : ℕ) (m : LockSeat P N V) (k : K) (y : V) (c : List (ℕ × Option V)) (grown : P → P) (noting : N → N) → slots ≡ slot_of places → p < places → word ≡ line_word places p → mask ≡ 18446744073709551615 - 2 ^ bit_of places p
+      → m ≡ (k ∷ [], (slot_of p, Some y) ∷ c) → MayPut R grown noting k p y → Allows (LockInvariant R opened) slots id m word (λ n. bit_and n mask) (freed R grown noting (step slots word mask 0 kernel.none) m)
+  frees slots places id p word mask m k y c grown noting wide few is mask_is sits may s r long at low =
+      let same = all_places R laws opened s r slots places wide long in
+      let here = word_is R laws opened s r slots places p word wide long is in
+      let mask_here = mask_is ∙ ap (λ z. 18446744073709551615 - 2 ^ bit_of z p) same in
+      subst (λ (z : ℕ × ℕ × LockSeat P N V). (w : List K) × (a : Act (Option V)) × Valid s.homes z.2.1 a
+      × LockInvariant R opened (stepped s z.0 (bit_and (get_or s.words z.0 0) z.1) id z.2.1 w a)
+      × freed R grown noting (step slots word mask 0 kernel.none) z.2 (get_or s.words z.0 0)
+      (w, carried_after z.2.1 a)) (λ i. (sym here i, sym mask_here i, sym sits i))
+      (frees_in s r id p k (subst (λ (z : LockSeat P N V). At id z.0 s.views) sits at) (subst (λ z. p < z) same few) y
+      c grown noting may (subst (λ z. get_or s.words z 0 < 18446744073709551616) here low))
+
+  -- the same, where its mark is all that the word has
+  pub frees_alone : (slots places id p word mark : ℕ) (m : LockSeat P N V) (k : K) (y : V) (c : List (ℕ × Option V))
+      (grown : P → P) (noting : N → N) → slots ≡ slot_of places → p < places → word ≡ line_word places p
+      → mark ≡ 2 ^ bit_of places p → m ≡ (k ∷ [], (slot_of p, Some y) ∷ c) → MayPut R grown noting k p y
+      → Allows (LockInvariant R opened) slots id m word (λ n. either (eqb n mark) 0 n)
+      (freed_alone R grown noting (step slots word mark 0 kernel.none) m)
+  frees_alone slots places id p word mark m k y c grown noting wide few is mark_is sits may s r long at _ =
+      let same = all_places R laws opened s r slots places wide long in
+      let here = word_is R laws opened s r slots places p word wide long is in
+      subst (λ (z : ℕ × LockSeat P N V). (w : List K) × (a : Act (Option V)) × Valid s.homes z.1.1 a
+      × LockInvariant R opened
+      (stepped s z.0 (either (eqb (get_or s.words z.0 0) mark) 0 (get_or s.words z.0 0)) id z.1.1 w a)
+      × freed_alone R grown noting (step slots word mark 0 kernel.none) z.1 (get_or s.words z.0 0)
+      (w, carried_after z.1.1 a)) (λ i. (sym here i, sym sits i))
+      (frees_alone_in s r id p k (subst (λ (z : LockSeat P N V). At id z.0 s.views) sits at)
+      (subst (λ z. p < z) same few) y c grown noting may mark (mark_is ∙ ap (λ z. 2 ^ bit_of z p) same))
+
+  -- a look where the session has won the line
+  pub frees_won : (slots places id p word : ℕ) (m : LockSeat P N V) (k : K) (y : V) (c : List (ℕ × Option V))
+      (grown : P → P) (noting : N → N) → slots ≡ slot_of places → p < places → word ≡ line_word places p
+      → m ≡ (k ∷ [], (slot_of p, Some y) ∷ c) → MayPut R grown noting k p y → Allows (LockInvariant R opened) slots id m word (λ n. n) (freed_won R grown noting (step slots word 0 0 kernel.none) m)
+  frees_won slots places id p word m k y c grown noting wide few is sits may s r long at low =
+      let same = all_places R laws opened s r slots places wide long in
+      let here = word_is R laws opened s r slots places p word wide long is in
+      subst (λ (z : ℕ × LockSeat P N V). (w : List K) × (a : Act (Option V)) × Valid s.homes z.1.1 a
+      × LockInvariant R opened (stepped s z.0 (get_or s.words z.0 0) id z.1.1 w a)
+      × freed_won R grown noting (step slots word 0 0 kernel.none) z.1 (get_or s.words z.0 0)
+      (w, carried_after z.1.1 a)) (λ i. (sym here i, sym sits i))
+      (frees_won_in s r id p k (subst (λ (z : LockSeat P N V). At id z.0 s.views) sits at)
+      (subst (λ z. p < z) same few) y c grown noting may)
+
+  settles_at : (slots places id p word : ℕ) (k : K) (y : V) (c : List (ℕ × Option V)) (grown : P → P) (noting : N → N)
+      → slots ≡ slot_of places → p < places → MayPut R grown noting k p y → TookLast p k
+      → Allows (LockInvariant R opened) slots id (me k ((slot_of p, Some y) ∷ c)) word (λ n. n)
+      (settled R grown noting (step slots word 0 0 kernel.none) (me k ((slot_of p, Some y) ∷ c)))
+  settles_at slots places id p word k y c grown noting wide few may (x, us, first) s r long at _ = (
     again s r id p k at inside x y 0 top grown noting moves ∷ [],
     keeps,
     tt,
-    settles_stand s r id p k at inside x y 0 top grown noting moves us first ((slot_of p, Some y) ∷ c),
-    λ k2 p2 y2 c2 sits same. subst
+    settles_stand s r id p k at inside x y 0 top grown noting moves us first word ((slot_of p, Some y) ∷ c),
+    λ k2 p2 y2 c2 sits. subst
         (λ (z : ℕ × K × V × List (ℕ × Option V)). (progress : P) × ((notes : List N) × Possible R z.1 progress notes) × ((run : Run P N V) × OthersStepped z.1 run
         × ((notes : List N) × Possible R (settled_with z.1 z.0 z.2 (grown progress) (noting z.1.note) run) (grown progress) notes)
         × (me (settled_with k p y (grown r.progress) (noting k.note) r.run) ((slot_of p, Some y) ∷ c) ≡ me (settled_with z.1 z.0 z.2 (grown progress) (noting z.1.note) run) ((slot_of z.0, Some z.2) ∷ z.3))))
-        (λ i. (one_place p p2 same i, only_one k k2 (ap (λ m. m.0) sits) i, one_out y y2 p p2 c c2 (ap (λ m. m.1) sits) i, ap (λ m. rest m.1) sits i)) (
+        (λ i. (
+          place_out y y2 p p2 c c2 (ap (λ m. m.1) sits) i,
+          only_one k k2 (ap (λ m. m.0) sits) i,
+          one_out y y2 p p2
+              c c2 (ap (λ m. m.1) sits) i,
+          ap (λ m. rest m.1) sits i,
+        )) (
           r.progress,
           (r.notes, (mine_of R laws opened s r id k at).possible),
           (
@@ -253,7 +395,7 @@ module _ {P N V : Type 0} (R : Rules P N V) (laws : Laws R) (opened : Opened P N
   )
     where
       inside : p < opened.places
-      inside = place_there R laws opened s r slots p long below
+      inside = subst (λ z. p < z) (all_places R laws opened s r slots places wide long) few
 
       top : At 0 (p, x) k.held
       top = ap (λ (l : List (ℕ × V)). get_elem? l 0) first
@@ -267,28 +409,24 @@ module _ {P N V : Type 0} (R : Rules P N V) (laws : Laws R) (opened : Opened P N
           (taken_as may.1 may.0 may.2) may.3
 
   -- the value y of the place p, which was taken last, is put back and taken again
-  pub settles : (slots id p word : ℕ) (m : LockSeat P N V) (k : K) (y : V) (c : List (ℕ × Option V)) (grown : P → P) (noting : N → N) → word ≡ word_of p → m ≡ (k ∷ [], (slot_of p, Some y) ∷ c) → slot_of p < slots
+  pub settles : (slots places id p word : ℕ) (m : LockSeat P N V) (k : K) (y : V) (c : List (ℕ × Option V))
+      (grown : P → P) (noting : N → N) → slots ≡ slot_of places → p < places → m ≡ (k ∷ [], (slot_of p, Some y) ∷ c)
       → MayPut R grown noting k p y → TookLast p k → Allows (LockInvariant R opened) slots id m word (λ n. n) (settled R grown noting (step slots word 0 0 kernel.none) m)
-  settles slots id p word m k y c grown noting at is below may last =
-      subst (λ (z : ℕ × LockSeat P N V). Allows (LockInvariant R opened) slots id z.1 z.0 (λ n. n) (settled R grown noting (step slots z.0 0 0 kernel.none) z.1)) (λ i. (sym at i, sym is i)) (settles_at slots id p k y c grown noting below may last)
+  settles slots places id p word m k y c grown noting wide few is may last =
+      subst (λ (z : LockSeat P N V). Allows (LockInvariant R opened) slots id z word (λ n. n) (settled R grown noting (step slots word 0 0 kernel.none) z)) (sym is) (settles_at slots places id p word k y c grown noting wide few may last)
 
-  -- the word of the place p goes to 0, and the value y is at home
-  pub frees : (slots id p word : ℕ) (m : LockSeat P N V) (k : K) (y : V) (c : List (ℕ × Option V)) (grown : P → P) (noting : N → N) → word ≡ word_of p → m ≡ (k ∷ [], (slot_of p, Some y) ∷ c) → slot_of p < slots → MayPut R grown noting k p y
-      → Allows (LockInvariant R opened) slots id m word (λ _. 0) (λ n. freed R grown noting (step slots word 0 0 kernel.none) m 0)
-  frees slots id p word m k y c grown noting at is below may =
-      subst (λ (z : ℕ × LockSeat P N V). Allows (LockInvariant R opened) slots id z.1 z.0 (λ _. 0) (λ n. freed R grown noting (step slots z.0 0 0 kernel.none) z.1 0)) (λ i. (sym at i, sym is i)) (frees_at slots id p k y c grown noting below may)
-
-  -- a look at the word of a held place brings its slot to the front
-  fronts_at : (slots id p : ℕ) (k : K) (x : V) (a : ℕ) → At a (p, x) k.held → slot_of p < slots
-      → Allows (LockInvariant R opened) slots id (k ∷ [], map emptied k.held) (word_of p) (λ n. n) (fronted R (step slots (word_of p) 0 0 kernel.none) (k ∷ [], map emptied k.held))
-  fronts_at slots id p k x a top below s r long at _ = (
+  -- a look at any word brings the slot of a held place to the front
+  fronts_at : (slots id p word : ℕ) (k : K) (x : V) (a : ℕ) → At a (p, x) k.held
+      → Allows (LockInvariant R opened) slots id (k ∷ [], map emptied k.held) word (λ n. n)
+      (fronted R p (step slots word 0 0 kernel.none) (k ∷ [], map emptied k.held))
+  fronts_at slots id p word k x a top s r long at _ = (
     k ∷ [],
     bring p k.held,
     moved.0,
     subst (λ (z : List ℕ × SlotHomes V × List (List K)). LockInvariant R opened record { words = z.0; homes = z.1; views = z.2 })
-        (λ i. (sym (set-get_or s.words (word_of p) 0) i, sym moved.1 i, sym (set_again s.views id (k ∷ []) at) i)) r,
-    λ k2 p2 sits same. subst (λ (z : ℕ × K). me k (carried_after (map emptied k.held) (bring p k.held)) ≡ me z.1 ((slot_of z.0, None) ∷ map emptied (without z.0 z.1.held)))
-        (λ i. (one_place p p2 same i, one_session (k ∷ [], map emptied k.held) k k2 refl sits i)) (λ i. (k ∷ [], moved.2 i)),
+        (λ i. (sym (set-get_or s.words word 0) i, sym moved.1 i, sym (set_again s.views id (k ∷ []) at) i)) r,
+    λ k2 sits. subst (λ (z : K). me k (carried_after (map emptied k.held) (bring p k.held)) ≡ me z ((slot_of p, None) ∷ map emptied (without p z.held)))
+        (one_session (k ∷ [], map emptied k.held) k k2 refl sits) (λ i. (k ∷ [], moved.2 i)),
   )
     where
       fit : SessionInvariant R r.progress r.notes r.run s.homes r.holder k
@@ -297,10 +435,11 @@ module _ {P N V : Type 0} (R : Rules P N V) (laws : Laws R) (opened : Opened P N
       moved : Valid s.homes (map emptied k.held) (bring p k.held) × (homes_after s.homes (map emptied k.held) (bring p k.held) ≡ s.homes) × (carried_after (map emptied k.held) (bring p k.held) ≡ (slot_of p, None) ∷ map emptied (without p k.held))
       moved = brings p k.held a x top fit.apart s.homes (λ b u e. (fit.out b u e).1)
 
-  pub fronts : (slots id p word : ℕ) (m : LockSeat P N V) (k : K) (x : V) (a : ℕ) → word ≡ word_of p → StepsAs m k → At a (p, x) k.held → slot_of p < slots
-      → Allows (LockInvariant R opened) slots id m word (λ n. n) (fronted R (step slots word 0 0 kernel.none) m)
-  fronts slots id p word m k x a is sits top below =
-      subst (λ (z : ℕ × LockSeat P N V). Allows (LockInvariant R opened) slots id z.1 z.0 (λ n. n) (fronted R (step slots z.0 0 0 kernel.none) z.1)) (λ i. (sym is i, sym sits i)) (fronts_at slots id p k x a top below)
+  pub fronts : (slots id p word : ℕ) (m : LockSeat P N V) (k : K) (x : V) (a : ℕ) → StepsAs m k → At a (p, x) k.held
+      → Allows (LockInvariant R opened) slots id m word (λ n. n) (fronted R p (step slots word 0 0 kernel.none) m)
+  fronts slots id p word m k x a sits top =
+      subst (λ (z : LockSeat P N V). Allows (LockInvariant R opened) slots id z word (λ n. n)
+      (fronted R p (step slots word 0 0 kernel.none) z)) (sym sits) (fronts_at slots id p word k x a top)
 
 module _ {P N V : Type 0} where
   -- the slot of the place is the first of those that are out, and it is empty

@@ -1,28 +1,31 @@
 -- A place that one session of a seat puts back and the next one takes at once keeps the invariant.
-use Rattle.std.proofs.Common.{◌≡◌, ◌≢◌, ℕ, zero, suc, ◌<◌, ◌⊎◌, eqb, List, [], ◌∷◌, ◌++◌, map, length, get_or, set, sym, refl, ap, ◌∙◌, subst, ⊎_elim, inl, inr, arith, length-set, eq-eqb, ne_eqb, Option, Some, None}
+use Rattle.std.proofs.Common.{◌≡◌, ◌≢◌, ℕ, zero, suc, ◌^◌, ◌<◌, ◌⊎◌, eqb, List, [], ◌∷◌, ◌++◌, map, length, get_or, set, sym, refl, ap, ◌∙◌, subst, ⊎_elim, inl, inr, arith, length-set, eq-eqb, ne_eqb, Option, Some, None, bit_or}
+use Rattle.std.specs.Int.{bit_at}
+use Rattle.std.proofs.lemmas.Bool.{cases_lt}
 use mathlib.Core.Logic.{dite}
 use mathlib.Core.Option as kernel
 use mathlib.Core.Option.{some-injective, some-ne-none}
 use native.Mathlib.Decide.{ℕ_discrete}
 use lib.ListN.{get_elem?}
-use lib.Seq.{set-get_or}
 use prog.Atomic.{either}
 use Rattle.std.proofs.lemmas.Option.{same_Some}
-use Rattle.atomic_table.specs.Table.{keeps, step, stepped, Allows, rest}
+use Rattle.atomic_table.specs.Table.{Act, keeps, step, stepped, Allows, Valid, carried_after}
 use Rattle.atomic_table.proofs.Lists.{at_set, set_here, set_else, at_longer}
 use Rattle.ownlock.specs.declared.known.Known.{Known}
 use Rattle.ownlock.specs.declared.known.SharedStep.{SharedStep}
 use Rattle.ownlock.specs.declared.known.ShelfStep.TheVariants.{Took, Put}
 use Rattle.ownlock.specs.Rules.{Rules, Laws, Move, IsAmong}
-use Rattle.ownlock.specs.Words.{word_of, slot_of}
+use Rattle.ownlock.specs.Words.{IsMarked, bit_of, line_word, slot_of, winner_at}
 use Rattle.ownlock.specs.Runs.{Puts, Takes}
-use Rattle.ownlock.specs.Seats.{At, Opened, Run, Continues, OthersStepped, own_steps, HoldsNone, place_of, without, holding, putting, taking, taken_by, handed}
-use Rattle.ownlock.specs.Knowledge.{HeldAgree, Later, Possible, MayPut, MayHandOn}
-use Rattle.ownlock.specs.Invariant.{SessionInvariant, HeldBySome, KnownBySome, LockInvariant, handed_on, emptied, out_of}
-use Rattle.ownlock.proofs.Keeps.{LockState, LockSeat, at_one, one_place, place_there}
+use Rattle.ownlock.specs.Seats.{At, Opened, Run, Continues, own_steps, HoldsNone, place_of, putting, taking, taken_by}
+use Rattle.ownlock.specs.Knowledge.{HeldAgree, Possible, MayPut, MayHandOn}
+use Rattle.ownlock.specs.Invariant.{SessionInvariant, HasValue, HeldBySome, KnownBySome, LockInvariant, StepsOn, handed_marked, handed_on}
+use Rattle.ownlock.proofs.Keeps.{LockState, LockSeat, all_places, at_one, line_there, tail_else, unmoved, word_is, word_set}
+use Rattle.ownlock.proofs.Marks.{Remarks, Rewords, bit_below, looked, reworded, set_bit, set_remarks}
+use Rattle.ownlock.proofs.Spread.{one_slot}
 use Rattle.ownlock.proofs.Run.{continues_self, continues_more, own_here, own_else}
-use Rattle.ownlock.proofs.Seats.{at_snoc_last, at_behind, none_out, none_joined}
-use Rattle.ownlock.proofs.Without.{was_held, without_same, not_held, apart_without, part_of}
+use Rattle.ownlock.proofs.Seats.{at_snoc_last, at_behind}
+use Rattle.ownlock.proofs.Without.{was_held, not_held, apart_without, part_of}
 use Rattle.ownlock.proofs.Fronts.{at_below}
 
 module _ {P N V : Type 0} (R : Rules P N V) (laws : Laws R) (opened : Opened P N) where
@@ -286,14 +289,6 @@ module _ {P N V : Type 0} (R : Rules P N V) (laws : Laws R) (opened : Opened P N
         (λ (t : (j ≢ id) × At j v s.views). r.distinct j a b v z w t.1 at_a at_b e)
         (at_set s.views id j news v at_j)
 
-    busy_word : get_or s.words (word_of p) 0 ≢ 0
-    busy_word e = let t = r.free p below e in some-ne-none (Some t.0) (some-injective _ _ (sym t.1 ∙ (was.out 0 (p, x) top).1))
-
-    free_after : (q : ℕ) → q < opened.places → get_or s.words (word_of q) 0 ≡ 0 → (z : V) × At (slot_of q) (kernel.some (Some z)) s.homes × R.AgreesWith q progress_after notes_after z
-    free_after q here is = dite (ℕ_discrete q p)
-        (λ e. absurd (busy_word (subst (λ z. get_or s.words (word_of z) 0 ≡ 0) e is)))
-        (λ ne. let t = r.free q here is in (t.0, t.1, give_others q t.0 ne t.2))
-
     of_olds : (q i : ℕ) (z : K) (a : ℕ) (u : ℕ × V) → q ≢ p → At i z olds → At a u z.held → u.0 ≡ q → ⊥
     of_olds q zero z a u ne at_i at_a is = first a (subst (λ (l : List (ℕ × V)). At a u l) alone (subst (λ (z : K). At a u z.held) (sym (some-injective k z at_i)) at_a))
       where
@@ -302,15 +297,36 @@ module _ {P N V : Type 0} (R : Rules P N V) (laws : Laws R) (opened : Opened P N
         first (suc a) e = some-ne-none u (sym e)
     of_olds q (suc i) z a u ne at_i at_a is = none_at z (idle i z at_i) a u at_a
 
-    busy_after : (q : ℕ) → q < opened.places → get_or s.words (word_of q) 0 ≢ 0 → HeldBySome R q after
-    busy_after q here is = dite (ℕ_discrete q p)
-        (λ e. (id, news, 0, taker, 0, (p, y), news_at, refl, refl, sym e))
-        (λ ne. others ne (r.busy q here is))
+    mine_after : HeldBySome R p after
+    mine_after = (id, news, 0, taker, 0, (p, y), news_at, refl, refl, refl)
+
+    others_after : (q : ℕ) → q ≢ p → HeldBySome R q s.views → HeldBySome R q after
+    others_after q ne (j, v, i, z, a, u, at_j, at_i, at_a, same) = dite (ℕ_discrete j id)
+        (λ e. absurd (of_olds q i z a u ne (subst (λ (l : List K). At i z l) (at_one s.views id v olds (subst (λ n. At n v s.views) e at_j) at) at_i) at_a same))
+        (λ other. (j, v, i, z, a, u, set_else s.views id j news other ∙ at_j, at_i, at_a, same))
+
+    -- of the seat no session holds another place
+    none_news : (q i : ℕ) (z : K) (a : ℕ) (u : ℕ × V) → q ≢ p → At i z news → At a u z.held → u.0 ≡ q → ⊥
+    none_news q zero z a u ne at_i at_a is = taken a (subst (λ (z : K). At a u z.held) (sym (some-injective taker z at_i)) at_a)
       where
-        others : q ≢ p → HeldBySome R q s.views → HeldBySome R q after
-        others ne (j, v, i, z, a, u, at_j, at_i, at_a, same) = dite (ℕ_discrete j id)
-            (λ e. absurd (of_olds q i z a u ne (subst (λ (l : List K). At i z l) (at_one s.views id v olds (subst (λ n. At n v s.views) e at_j) at) at_i) at_a same))
-            (λ other. (j, v, i, z, a, u, set_else s.views id j news other ∙ at_j, at_i, at_a, same))
+        taken : (a : ℕ) → At a u taker.held → ⊥
+        taken zero e = ne (sym is ∙ sym (ap (λ (z : ℕ × V). z.0) (some-injective (p, y) u e)))
+        taken (suc a) e = none_at m next_none a u e
+    none_news q (suc i) z a u ne at_i at_a is = ⊎_elim
+        (λ (h : At i z ms). none_at z (idle (suc i) z h) a u at_a)
+        (λ (h : (i ≡ length ms) × (giver ≡ z)). giver_none a u (subst (λ (z : K). At a u z.held) (sym h.1) at_a))
+        (at_snoc_last ms giver z i at_i)
+
+    others_before : (q : ℕ) → q ≢ p → HeldBySome R q after → HeldBySome R q s.views
+    others_before q ne (j, v, i, z, a, u, at_j, at_i, at_a, same) = ⊎_elim
+        (λ (t : (j ≡ id) × (news ≡ v)). absurd (none_news q i z a u ne (subst (λ (l : List K). At i z l) (sym t.1) at_i) at_a same))
+        (λ (t : (j ≢ id) × At j v s.views). (j, v, i, z, a, u, t.1, at_i, at_a, same))
+        (at_set s.views id j news v at_j)
+
+    there_after : (q : ℕ) → q < opened.places → HasValue R progress_after notes_after s.homes q ⊎ HeldBySome R q after
+    there_after q here = dite (ℕ_discrete q p)
+        (λ e. inr (subst (λ z. HeldBySome R z after) (sym e) mine_after))
+        (λ ne. ⊎_elim (λ (t : HasValue R r.progress r.notes s.homes q). inl (t.0, t.1, give_others q t.0 ne t.2)) (λ h. inr (others_after q ne h)) (r.there q here))
 
     of_news : (c i : ℕ) (z : K) → At i z olds → z.session ≡ c → KnownBySome c after
     of_news c zero z at_i is = let t = at_behind ms (giver ∷ []) 0 giver refl in (id, suc t.0, news, giver, news_at, t.1, ap (λ (z : K). z.session) (some-injective k z at_i) ∙ is)
@@ -322,120 +338,153 @@ module _ {P N V : Type 0} (R : Rules P N V) (laws : Laws R) (opened : Opened P N
         (λ e. of_news c i z (subst (λ (l : List K). At i z l) (at_one s.views id v olds (subst (λ n. At n v s.views) e at_j) at) at_i) is)
         (λ other. (j, i, v, z, set_else s.views id j news other ∙ at_j, at_i, is))
 
-    hands_over : LockInvariant R opened record { words = s.words; homes = s.homes; views = after }
-    hands_over = record {
-      progress = progress_after;
-      notes = notes_after;
-      run = run_after;
-      leads = Takes (put_entry ∷ r.run) progress_after notes_after m.session p y m.note (Puts r.run r.notes move y r.leads among (may r.progress r.notes was.possible).1) (noted m.session m.note next_apart next.possible.1)
-          (may r.progress r.notes was.possible).1;
-      owner = r.owner;
-      holder = holder_after;
-      grown = laws.extends_on _ _ _ r.grown grows;
-      placed = r.placed;
-      accounts = give_accounts;
-      counted = length-set r.notes k.session note_after ∙ r.counted;
-      wide = r.wide;
-      tail = r.tail ∙ sym (laws.moves_completed move);
-      gaps = r.gaps;
-      free = free_after;
-      busy = busy_after;
-      each = each_after;
-      distinct = distinct_after;
-      all = λ c small. known_after c (r.all c small);
-    }
+    -- the word of its line becomes n, by which the place is marked
+    module _ (n : ℕ) (remarks : Remarks (bit_of opened.places p) (get_or s.words (line_word opened.places p) 0) n) (marks : bit_at n (bit_of opened.places p) ≡ 1) where
+      abbrev words_after : List ℕ
+      words_after = set s.words (line_word opened.places p) n
 
-    pub hands_stand : (c : List (ℕ × Option V)) → LockInvariant R opened (stepped s (word_of p) (get_or s.words (word_of p) 0) id c news keeps)
-    hands_stand c = subst (λ (l : List ℕ). LockInvariant R opened record { words = l; homes = s.homes; views = after }) (sym (set-get_or s.words (word_of p) 0)) hands_over
+      reworded_here : Rewords opened.places p s.words words_after
+      reworded_here = reworded opened.places p s.words n below (line_there R laws opened s r p below) remarks
+
+      busy_after : (q : ℕ) → q < opened.places → IsMarked opened.places words_after q → HeldBySome R q after
+      busy_after q here is = dite (ℕ_discrete q p)
+          (λ e. subst (λ z. HeldBySome R z after) (sym e) mine_after)
+          (λ ne. others_after q ne (r.busy q here (sym (reworded_here.others q here ne) ∙ is)))
+
+      marked_after : (q : ℕ) → q < opened.places → HeldBySome R q after → IsMarked opened.places words_after q ⊎ (winner_at opened.places words_after q ≡ suc (holder_after q))
+      marked_after q here h = dite (ℕ_discrete q p)
+          (λ e. inl (subst (IsMarked opened.places words_after) (sym e) (ap (λ z. bit_at z (bit_of opened.places p)) (word_set R laws opened s r p n below) ∙ marks)))
+          (λ ne. ⊎_elim (λ is. inl (reworded_here.others q here ne ∙ is)) (λ is. inr (reworded_here.winners q here ∙ (is ∙ ap suc (sym (holder_else q ne)))))
+          (r.marked q here (others_before q ne h)))
+
+      hands_over : LockInvariant R opened record { words = words_after; homes = s.homes; views = after }
+      hands_over = record {
+        progress = progress_after;
+        notes = notes_after;
+        run = run_after;
+        leads = Takes (put_entry ∷ r.run) progress_after notes_after m.session p y m.note (Puts r.run r.notes move y r.leads among (may r.progress r.notes was.possible).1) (noted m.session m.note next_apart next.possible.1)
+            (may r.progress r.notes was.possible).1;
+        owner = r.owner;
+        holder = holder_after;
+        grown = laws.extends_on _ _ _ r.grown grows;
+        placed = r.placed;
+        accounts = give_accounts;
+        counted = length-set r.notes k.session note_after ∙ r.counted;
+        wide = length-set s.words (line_word opened.places p) n ∙ r.wide;
+        tail = tail_else R laws opened s r p n below ∙ sym (laws.moves_completed move);
+        gaps = r.gaps;
+        there = there_after;
+        busy = busy_after;
+        marked = marked_after;
+        each = each_after;
+        distinct = distinct_after;
+        all = λ c small. known_after c (r.all c small);
+      }
 
   abbrev seat_of : List K → List (ℕ × Option V) → LockSeat P N V
   seat_of v c = (v, c)
 
-  hands_at : (slots id p : ℕ) (k m : K) (ms : List K) (y : V) (grown : P → P) (noting : N → N) → slot_of p < slots → MayPut R grown noting k p y → MayHandOn R p k m ms
-      → Allows (LockInvariant R opened) slots id (k ∷ m ∷ ms, (slot_of p, Some y) ∷ []) (word_of p) (λ n. n) (handed_on R grown noting (step slots (word_of p) 0 0 kernel.none) (k ∷ m ∷ ms, (slot_of p, Some y) ∷ []))
-  hands_at slots id p k m ms y grown noting below may (x, alone, idle, allowed) s r long at _ = (
-    news s r id p k m ms at inside x y alone idle grown noting moves allowed,
-    keeps,
-    tt,
-    hands_stand s r id p k m ms at inside x y alone idle grown noting moves allowed ((slot_of p, Some y) ∷ []),
-    λ k2 m2 ms2 p2 y2 sits same. subst
-        (λ (z : ℕ × K × K × List K × V). (progress : P) × ((notes : List N) × Possible R z.1 progress notes) × ((run : Run P N V) × OthersStepped z.1 run × OthersStepped z.2 (taken_by z.1 (Put z.0 z.4) (grown progress) (noting z.1.note) ∷ run)
-        × ((notes : List N) × Possible R (holding z.2 (grown progress) z.0 z.4 run) (grown progress) notes) × Later R z.2 (grown progress)
-        × (seat_of (handed k m ms p y (grown r.progress) (noting k.note) r.run) ((slot_of p, Some y) ∷ []) ≡ seat_of (handed z.1 z.2 z.3 z.0 z.4 (grown progress) (noting z.1.note) run) ((slot_of z.0, Some z.4) ∷ []))))
-        (λ i. (one_place p p2 same i, ap (λ v. get_or v.0 0 k) sits i, ap (λ v. get_or (tail_of v.0) 0 m) sits i, ap (λ v. tail_of (tail_of v.0)) sits i, same_value y y2 p p2 [] [] (ap (λ v. v.1) sits) i)) (
+  -- the sessions k and m, in state s, of which k puts the value y back to the place p, and m takes it
+  module _ (s : LockState P N V) (r : LockInvariant R opened s) (id p : ℕ) (k m : K) (ms : List K) (at : At id (k ∷ m ∷ ms) s.views) (inside : p < opened.places) (y : V) (grown : P → P) (noting : N → N) (may : MayPut R grown noting k p y) (hand : MayHandOn R p k m ms) where
+    moves : (progress : P) (notes : List N) → Possible R k progress notes → R.Moves p k.session hand.0 progress k.note (grown progress) (noting k.note) × R.AgreesWith p (grown progress) (set notes k.session (noting k.note)) y
+    moves = subst (λ z. (progress : P) (notes : List N) → Possible R k progress notes → R.Moves p k.session z progress k.note (grown progress) (noting k.note) × R.AgreesWith p (grown progress) (set notes k.session (noting k.note)) y)
+        (taken_as may.1 may.0 (subst (λ (l : List (ℕ × V)). At may.1 (p, may.0) l) hand.1 may.2)) may.3
+      where
+        taken_as : (b : ℕ) (z : V) → At {A = ℕ × V} b (p, z) ((p, hand.0) ∷ []) → z ≡ hand.0
+        taken_as zero z e = sym (ap (λ (u : ℕ × V). u.1) (some-injective (p, hand.0) (p, z) e))
+        taken_as (suc b) z e = absurd (some-ne-none (p, z) (sym e))
+
+    abbrev word_here : ℕ
+    word_here = get_or s.words (line_word opened.places p) 0
+
+    abbrev out_here : List (ℕ × Option V)
+    out_here = (slot_of p, Some y) ∷ []
+
+    -- what the step does, where it makes n of the word
+    abbrev Leaves : ℕ → (LockSeat P N V → Type 0) → Type 0
+    Leaves n Told = (w : List K) × (a : Act (Option V)) × Valid s.homes out_here a
+        × LockInvariant R opened (stepped s (line_word opened.places p) n id out_here w a) × Told (w, carried_after out_here a)
+
+    told : (k2 m2 : K) (ms2 : List K) (p2 : ℕ) (y2 : V) → seat_of (k ∷ m ∷ ms) out_here ≡ seat_of (k2 ∷ m2 ∷ ms2) ((slot_of p2, Some y2) ∷ [])
+        → StepsOn R grown noting k2 m2 ms2 p2 y2 (seat_of (news s r id p k m ms at inside hand.0 y hand.1 hand.2 grown noting moves hand.3) out_here)
+    told k2 m2 ms2 p2 y2 sits = subst
+        (λ (z : ℕ × K × K × List K × V). StepsOn R grown noting z.1 z.2 z.3 z.0 z.4 (seat_of (news s r id p k m ms at inside hand.0 y hand.1 hand.2 grown noting moves hand.3) out_here))
+        (λ i. (same_place y y2 p p2 [] [] (ap (λ v. v.1) sits) i, ap (λ v. get_or v.0 0 k) sits i, ap (λ v. get_or (tail_of v.0) 0 m) sits i, ap (λ v. tail_of (tail_of v.0)) sits i, same_value y y2 p p2 [] [] (ap (λ v. v.1) sits) i)) (
           r.progress,
           (r.notes, (r.each id 0 (k ∷ m ∷ ms) k at refl).0.possible),
           (
             r.run,
             ((r.each id 0 (k ∷ m ∷ ms) k at refl).0.goes_on, (r.each id 0 (k ∷ m ∷ ms) k at refl).0.own),
-            (continues_more m.run r.run _ (r.each id 1 (k ∷ m ∷ ms) m at refl).0.goes_on, next_own s r id p k m ms at inside x y alone idle grown noting moves allowed),
-            (notes_after s r id p k m ms at inside x y alone idle grown noting moves allowed, taker_possible s r id p k m ms at inside x y alone idle grown noting moves allowed),
+            (continues_more m.run r.run _ (r.each id 1 (k ∷ m ∷ ms) m at refl).0.goes_on, next_own s r id p k m ms at inside hand.0 y hand.1 hand.2 grown noting moves hand.3),
+            (notes_after s r id p k m ms at inside hand.0 y hand.1 hand.2 grown noting moves hand.3, taker_possible s r id p k m ms at inside hand.0 y hand.1 hand.2 grown noting moves hand.3),
             (
-              laws.extends_on m.progress r.progress (grown r.progress) (r.each id 1 (k ∷ m ∷ ms) m at refl).0.possible.0.0 (grows s r id p k m ms at inside x y alone idle grown noting moves allowed),
-              λ a u e _. absurd (none_at m (idle 0 m refl) a u e),
+              laws.extends_on m.progress r.progress (grown r.progress) (r.each id 1 (k ∷ m ∷ ms) m at refl).0.possible.0.0 (grows s r id p k m ms at inside hand.0 y hand.1 hand.2 grown noting moves hand.3),
+              λ a u e _. absurd (none_at m (hand.2 0 m refl) a u e),
             ),
             refl,
           ),
-        ),
-  )
-    where
-      tail_of : List K → List K
-      tail_of [] = []
-      tail_of (z ∷ zs) = zs
+        )
+      where
+        tail_of : List K → List K
+        tail_of [] = []
+        tail_of (z ∷ zs) = zs
 
-      same_value : (y z : V) (p q : ℕ) (c d : List (ℕ × Option V)) → ((slot_of p, Some y) ∷ c) ≡ ((slot_of q, Some z) ∷ d) → y ≡ z
-      same_value y z p q c d e = same_Some y z (ap (λ (l : List (ℕ × Option V)). (get_or l 0 (slot_of p, Some y)).1) e)
+        same_value : (y z : V) (p q : ℕ) (c d : List (ℕ × Option V)) → ((slot_of p, Some y) ∷ c) ≡ ((slot_of q, Some z) ∷ d) → y ≡ z
+        same_value y z p q c d e = same_Some y z (ap (λ (l : List (ℕ × Option V)). (get_or l 0 (slot_of p, Some y)).1) e)
 
-      inside : p < opened.places
-      inside = place_there R laws opened s r slots p long below
+        same_place : (y z : V) (p q : ℕ) (c d : List (ℕ × Option V)) → ((slot_of p, Some y) ∷ c) ≡ ((slot_of q, Some z) ∷ d) → p ≡ q
+        same_place y z p q c d e = one_slot p q (ap (λ (l : List (ℕ × Option V)). (get_or l 0 (0, None)).0) e)
 
-      moves : (progress : P) (notes : List N) → Possible R k progress notes → R.Moves p k.session x progress k.note (grown progress) (noting k.note) × R.AgreesWith p (grown progress) (set notes k.session (noting k.note)) y
-      moves = subst (λ z. (progress : P) (notes : List N) → Possible R k progress notes → R.Moves p k.session z progress k.note (grown progress) (noting k.note) × R.AgreesWith p (grown progress) (set notes k.session (noting k.note)) y)
-          (taken_as may.1 may.0 (subst (λ (l : List (ℕ × V)). At may.1 (p, may.0) l) alone may.2)) may.3
-        where
-          taken_as : (b : ℕ) (z : V) → At {A = ℕ × V} b (p, z) ((p, x) ∷ []) → z ≡ x
-          taken_as zero z e = sym (ap (λ (u : ℕ × V). u.1) (some-injective (p, x) (p, z) e))
-          taken_as (suc b) z e = absurd (some-ne-none (p, z) (sym e))
+    hands_by : (n : ℕ) → Remarks (bit_of opened.places p) word_here n → bit_at n (bit_of opened.places p) ≡ 1
+        → LockInvariant R opened (stepped s (line_word opened.places p) n id out_here (news s r id p k m ms at inside hand.0 y hand.1 hand.2 grown noting moves hand.3) keeps)
+    hands_by n remarks marks = hands_over s r id p k m ms at inside hand.0 y hand.1 hand.2 grown noting moves hand.3 n remarks marks
 
-  -- the value y of the place p is handed on
-  pub hands : (slots id p word : ℕ) (m0 : LockSeat P N V) (k m : K) (ms : List K) (y : V) (grown : P → P) (noting : N → N) → word ≡ word_of p → m0 ≡ (k ∷ m ∷ ms, (slot_of p, Some y) ∷ []) → slot_of p < slots
-      → MayPut R grown noting k p y → MayHandOn R p k m ms → Allows (LockInvariant R opened) slots id m0 word (λ n. n) (handed_on R grown noting (step slots word 0 0 kernel.none) m0)
-  hands slots id p word m0 k m ms y grown noting at is below may hand =
-      subst (λ (z : ℕ × LockSeat P N V). Allows (LockInvariant R opened) slots id z.1 z.0 (λ n. n) (handed_on R grown noting (step slots z.0 0 0 kernel.none) z.1)) (λ i. (sym at i, sym is i)) (hands_at slots id p k m ms y grown noting below may hand)
+    -- where nobody has won the line, the place is marked, for it is held
+    is_marked : word_here < 256 → bit_at word_here (bit_of opened.places p) ≡ 1
+    is_marked low = ⊎_elim (λ is. is) (λ is. absurd (omega (arith, is, low)))
+        (r.marked p inside (id, k ∷ m ∷ ms, 0, k, 0, (p, hand.0), at, refl, ap (λ (l : List (ℕ × V)). get_elem? l 0) hand.1, refl))
 
-module _ {P N V : Type 0} where
-  -- the slot of the place is the only one that is out, and it is empty; then it has the value; then it is empty again
-  pub only_out : (m : LockSeat P N V) (v : List (Known P N V)) (p slot : ℕ) → slot ≡ slot_of p → m ≡ (v, (slot_of p, None) ∷ []) → m.1 ≡ (slot, None) ∷ rest m.1
-  only_out m v p slot is left = ap (λ v. v.1) left ∙ (ap (λ q. (q, None) ∷ []) (sym is) ∙ ap (λ v. (slot, None) ∷ rest v.1) (sym left))
+    hands_marked_in : Leaves word_here (λ after. handed_marked R grown noting (step 0 0 0 0 kernel.none) (seat_of (k ∷ m ∷ ms) out_here) word_here after)
+    hands_marked_in = ⊎_elim
+        (λ (low : word_here < 256). (
+          news s r id p k m ms at inside hand.0 y hand.1 hand.2 grown noting moves hand.3,
+          keeps,
+          tt,
+          hands_by word_here (looked (bit_of opened.places p) word_here) (is_marked low),
+          λ k2 m2 ms2 p2 y2 sits. ((λ high. absurd (omega (arith, low, high))), (λ _. told k2 m2 ms2 p2 y2 sits)),
+        ))
+        (λ high. (
+          k ∷ m ∷ ms,
+          keeps,
+          tt,
+          unmoved R laws opened s r id (line_word opened.places p) (k ∷ m ∷ ms) out_here at,
+          λ k2 m2 ms2 p2 y2 sits. ((λ _. refl), (λ low. absurd (omega (arith, low, high)))),
+        ))
+        (cases_lt word_here 256)
 
-  pub only_none : (m : LockSeat P N V) (v : List (Known P N V)) (p slot : ℕ) (found : Option V) → m ≡ (v, (slot_of p, None) ∷ []) → m.1 ≡ (slot, found) ∷ rest m.1 → found ≡ None
-  only_none m v p slot found left is = ap (λ (l : List (ℕ × Option V)). (get_or l 0 (slot, found)).1) (sym is ∙ ap (λ v. v.1) left)
+    hands_in : Leaves (bit_or word_here (2 ^ bit_of opened.places p)) (λ after. handed_on R grown noting (step 0 0 0 0 kernel.none) (seat_of (k ∷ m ∷ ms) out_here) word_here after)
+    hands_in =
+        let b = bit_of opened.places p in
+        let few = bit_below opened.places p in
+        (news s r id p k m ms at inside hand.0 y hand.1 hand.2 grown noting moves hand.3, keeps, tt, hands_by (bit_or word_here (2 ^ b)) (set_remarks word_here b few) (set_bit word_here b few), told)
 
-  pub only_in : (m n : LockSeat P N V) (v : List (Known P N V)) (p slot : ℕ) (y : V) → slot ≡ slot_of p → m ≡ (v, (slot_of p, None) ∷ []) → n ≡ (m.0, (slot, Some y) ∷ rest m.1) → n ≡ (v, (slot_of p, Some y) ∷ [])
-  only_in m n v p slot y is left done = done ∙ (ap (λ q. (m.0, (q, Some y) ∷ rest m.1)) is ∙ ap (λ v. (v.0, (slot_of p, Some y) ∷ rest v.1)) left)
+  -- the value y of the place p is handed on, where its place is marked
+  pub hands_marked : (slots places id p word : ℕ) (m0 : LockSeat P N V) (k m : K) (ms : List K) (y : V) (grown : P → P) (noting : N → N) → slots ≡ slot_of places → p < places → word ≡ line_word places p → m0 ≡ (k ∷ m ∷ ms, (slot_of p, Some y) ∷ [])
+      → MayPut R grown noting k p y → MayHandOn R p k m ms → Allows (LockInvariant R opened) slots id m0 word (λ n. n) (handed_marked R grown noting (step slots word 0 0 kernel.none) m0)
+  hands_marked slots places id p word m0 k m ms y grown noting wide few is sits may hand s r long at _ =
+      let same = all_places R laws opened s r slots places wide long in
+      let here = word_is R laws opened s r slots places p word wide long is in
+      subst (λ (z : ℕ × LockSeat P N V). (w : List K) × (a : Act (Option V)) × Valid s.homes z.1.1 a × LockInvariant R opened (stepped s z.0 (get_or s.words z.0 0) id z.1.1 w a)
+      × handed_marked R grown noting (step slots word 0 0 kernel.none) z.1 (get_or s.words z.0 0) (w, carried_after z.1.1 a)) (λ i. (sym here i, sym sits i))
+      (hands_marked_in s r id p k m ms (subst (λ (z : LockSeat P N V). At id z.0 s.views) sits at) (subst (λ z. p < z) same few) y grown noting may hand)
 
-  pub only_full : (m : LockSeat P N V) (v : List (Known P N V)) (p slot : ℕ) (y : V) → slot ≡ slot_of p → m ≡ (v, (slot_of p, Some y) ∷ []) → m.1 ≡ (slot, Some y) ∷ rest m.1
-  only_full m v p slot y is left = ap (λ v. v.1) left ∙ (ap (λ q. (q, Some y) ∷ []) (sym is) ∙ ap (λ v. (slot, Some y) ∷ rest v.1) (sym left))
-
-  pub only_back : (m n : LockSeat P N V) (v : List (Known P N V)) (p slot : ℕ) (y : V) (found : Option V) → slot ≡ slot_of p → m ≡ (v, (slot_of p, Some y) ∷ []) → m.1 ≡ (slot, found) ∷ rest m.1 → n ≡ (m.0, (slot, None) ∷ rest m.1)
-      → (found ≡ Some y) × (n ≡ (v, (slot_of p, None) ∷ []))
-  only_back m n v p slot y found is left top done = (
-    ap (λ (l : List (ℕ × Option V)). (get_or l 0 (slot, found)).1) (sym top ∙ ap (λ v. v.1) left),
-    done ∙ (ap (λ q. (m.0, (q, None) ∷ rest m.1)) is ∙ ap (λ v. (v.0, (slot_of p, None) ∷ rest v.1)) left),
-  )
-
-  -- what is out with a seat whose first session holds the place alone
-  pub one_alone : (m : LockSeat P N V) (v : List (Known P N V)) (k z : Known P N V) (zs : List (Known P N V)) (p : ℕ) (x : V) → m.0 ≡ v → v ≡ k ∷ z ∷ zs → m.1 ≡ out_of m.0 → k.held ≡ (p, x) ∷ [] → HoldsNone (z ∷ zs) → m ≡ (k ∷ z ∷ zs, (slot_of p, None) ∷ [])
-  one_alone m v k z zs p x same is out alone idle =
-      let first : m.0 ≡ k ∷ z ∷ zs = same ∙ is in
-      let second : m.1 ≡ (slot_of p, None) ∷ [] = out ∙ (ap out_of first ∙ (ap (λ l. map emptied l ++ out_of (z ∷ zs)) alone ∙ ap (λ l. (slot_of p, None) ∷ l) (none_out (z ∷ zs) idle))) in
-      λ i. (first i, second i)
-
-  -- and what is out once it has handed the place on
-  pub out_handed : (k z : Known P N V) (zs : List (Known P N V)) (p : ℕ) (x y : V) (progress : P) (note : N) (run : Run P N V) → k.held ≡ (p, x) ∷ [] → HoldsNone (z ∷ zs) → out_of (handed k z zs p y progress note run) ≡ (slot_of p, None) ∷ []
-  out_handed k z zs p x y progress note run alone idle =
-      ap (λ l. map emptied ((p, y) ∷ l) ++ out_of (zs ++ putting k p y progress note run ∷ [])) (idle 0 z refl) ∙ ap (λ l. (slot_of p, None) ∷ l) (none_out (zs ++ putting k p y progress note run ∷ []) (none_joined zs (putting k p y progress note run ∷ []) (λ i q at. idle (suc i) q at) left_none))
-    where
-      left_none : HoldsNone (putting k p y progress note run ∷ [])
-      left_none zero q at = ap (λ (z : Known P N V). z.held) (sym (some-injective (putting k p y progress note run) q at)) ∙ (ap (without p) alone ∙ without_same p (p, x) [] refl)
-      left_none (suc i) q at = absurd (some-ne-none q (sym at))
+  -- and where it is marked by the same step
+  pub hands : (slots places id p word mark : ℕ) (m0 : LockSeat P N V) (k m : K) (ms : List K) (y : V) (grown : P → P) (noting : N → N) → slots ≡ slot_of places → p < places → word ≡ line_word places p → mark ≡ 2 ^ bit_of places p → m0 ≡ (k ∷ m ∷ ms, (slot_of p, Some y) ∷ [])
+      → MayPut R grown noting k p y → MayHandOn R p k m ms → Allows (LockInvariant R opened) slots id m0 word (λ n. bit_or n mark) (handed_on R grown noting (step slots word mark 0 kernel.none) m0)
+  hands slots places id p word mark m0 k m ms y grown noting wide few is mark_is sits may hand s r long at _ =
+      let same = all_places R laws opened s r slots places wide long in
+      let here = word_is R laws opened s r slots places p word wide long is in
+      let mark_here = mark_is ∙ ap (λ z. 2 ^ bit_of z p) same in
+      subst (λ (z : ℕ × ℕ × LockSeat P N V). (w : List K) × (a : Act (Option V)) × Valid s.homes z.2.1 a × LockInvariant R opened (stepped s z.0 (bit_or (get_or s.words z.0 0) z.1) id z.2.1 w a)
+      × handed_on R grown noting (step slots word mark 0 kernel.none) z.2 (get_or s.words z.0 0) (w, carried_after z.2.1 a)) (λ i. (sym here i, sym mark_here i, sym sits i))
+      (hands_in s r id p k m ms (subst (λ (z : LockSeat P N V). At id z.0 s.views) sits at) (subst (λ z. p < z) same few) y grown noting may hand)

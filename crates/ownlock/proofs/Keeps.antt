@@ -1,5 +1,5 @@
 -- Each step of a shelf keeps its rule.
-use Rattle.std.proofs.Common.{◌≡◌, ◌≢◌, ℕ, zero, suc, ◌+◌, ◌<◌, ◌≤◌, List, [], ◌∷◌, length, get_or, get_or-set_other, set, sym, refl, ap, ◌∙◌, subst, ⊎_elim, arith, IfSome, Option, Some, None}
+use Rattle.std.proofs.Common.{◌≡◌, ◌≢◌, ℕ, zero, suc, ◌+◌, ◌<◌, ◌≤◌, ◌⊎◌, List, [], ◌∷◌, length, get_or, get_or-set_other, get_or-set_same, set, sym, refl, ap, ◌∙◌, subst, ⊎_elim, inl, inr, arith, IfSome, Option, Some, None}
 use mathlib.Core.Logic.{dite}
 use mathlib.Core.Option as kernel
 use mathlib.Core.Option.{some-injective, some-ne-none}
@@ -10,10 +10,11 @@ use Rattle.atomic_table.specs.Table.{State, Me, Allows, keeps, step, stepped}
 use Rattle.atomic_table.proofs.Lists.{at_set, set_here, set_else, set_again}
 use Rattle.ownlock.specs.declared.known.Known.{Known}
 use Rattle.ownlock.specs.Rules.{Rules, Laws, leader}
-use Rattle.ownlock.specs.Words.{word_of, slot_of}
+use Rattle.ownlock.specs.Words.{IsMarked, line_word, slot_of, winner_at, word_of}
 use Rattle.ownlock.specs.Runs.{Runs}
 use Rattle.ownlock.specs.Seats.{At, Opened, Run, Continues, own_steps}
-use Rattle.ownlock.specs.Invariant.{SessionInvariant, HeldBySome, KnownBySome, LockInvariant, StandsThere, StepsAs, stood}
+use Rattle.ownlock.specs.Invariant.{SessionInvariant, HasValue, HeldBySome, KnownBySome, LockInvariant, StandsThere, StepsAs, stood}
+use Rattle.ownlock.proofs.Marks.{Rewords, line_below}
 use Rattle.ownlock.proofs.Spread.{one_slot}
 use Rattle.ownlock.proofs.Run.{continues_on}
 use Rattle.ownlock.proofs.Fronts.{at_below}
@@ -25,10 +26,6 @@ module _ {A : Type 0} where
 
   pub at_one : (l : List A) (i : ℕ) (x y : A) → At i x l → At i y l → x ≡ y
   at_one l i x y e f = some-injective x y (sym e ∙ f)
-
--- a word is that of one place at most
-pub one_place : (p q : ℕ) → word_of p ≡ word_of q → p ≡ q
-one_place p q e = omega (arith, e)
 
 -- a seat is one session at most
 pub one_session : {P N V : Type 0} (m : Me (Option V) (List (Known P N V))) (k k2 : Known P N V) → StepsAs m k
@@ -50,6 +47,10 @@ module _ {P N V : Type 0} (R : Rules P N V) (laws : Laws R) (opened : Opened P N
   abbrev K : Type 0
   K = Known P N V
 
+  -- the session holds the place
+  abbrev pub HeldBy : K → ℕ → Type 0
+  HeldBy k p = (a : ℕ) × (u : ℕ × V) × At a u k.held × (u.0 ≡ p)
+
   -- what a step of the session k at the place p owes
   pub record Goes (s : LockState P N V) (r : LockInvariant R opened s) (id p : ℕ) (k k' : K) (progress : P) (notes : List N) (words : List ℕ) (homes : SlotHomes V) (holder : ℕ → ℕ) (run : Run P N V) : Type 0 where
     pub here : At id (k ∷ []) s.views
@@ -65,18 +66,23 @@ module _ {P N V : Type 0} (R : Rules P N V) (laws : Laws R) (opened : Opened P N
     pub counted : length notes ≡ length opened.notes
     pub homes_else : (i : ℕ) → i ≢ slot_of p → get_elem? homes i ≡ get_elem? s.homes i
     pub homes_long : length homes ≡ length s.homes
-    pub words_else : (q : ℕ) → q ≢ p → get_or words (word_of q) 0 ≡ get_or s.words (word_of q) 0
+    pub words_else : Rewords opened.places p s.words words
     pub tail_here : get_or words (word_of opened.places) 0 ≡ R.completed progress
     pub words_long : length words ≡ length s.words
     pub holder_else : (q : ℕ) → q ≢ p → holder q ≡ r.holder q
     pub not_theirs : (j i : ℕ) (v : List K) (m : K) (a : ℕ) (u : ℕ × V) → j ≢ id → At j v s.views → At i m v
         → At a u m.held → u.0 ≢ p
     pub mine : SessionInvariant R progress notes run homes holder k'
-    pub free_here : p < opened.places → get_or words (word_of p) 0 ≡ 0
-        → (x : V) × At (slot_of p) (kernel.some (Some x)) homes × R.AgreesWith p progress notes x
-    pub busy_here : p < opened.places → get_or words (word_of p) 0 ≢ 0
-        → (a : ℕ) × (u : ℕ × V) × At a u k'.held × (u.0 ≡ p)
+    -- at the place itself: its value is there, or the session holds it; if it is marked, the session does; and if so,
+    -- it is marked, or the session has
+    -- won the line
+    pub there_here : p < opened.places → HasValue R progress notes homes p ⊎ HeldBy k' p
+    pub busy_here : p < opened.places → IsMarked opened.places words p → HeldBy k' p
+    pub marked_here : p < opened.places → HeldBy k' p
+        → IsMarked opened.places words p ⊎ (winner_at opened.places words p ≡ suc (holder p))
+    -- of the other places it holds those that it held
     pub held_else : (a : ℕ) (u : ℕ × V) → At a u k.held → u.0 ≢ p → (b : ℕ) × At b u k'.held
+    pub held_back : (a : ℕ) (u : ℕ × V) → At a u k'.held → u.0 ≢ p → (b : ℕ) × At b u k.held
 
   module _ (s : LockState P N V) (r : LockInvariant R opened s) (id p : ℕ) (k k' : K) (progress : P) (notes : List N) (words : List ℕ) (homes : SlotHomes V) (holder : ℕ → ℕ) (run : Run P N V) (g : Goes s r id p k k' progress notes words homes holder run) where
     abbrev after : List (List K)
@@ -128,11 +134,8 @@ module _ {P N V : Type 0} (R : Rules P N V) (laws : Laws R) (opened : Opened P N
         (λ (t : (j ≢ id) × At j v s.views). r.distinct j a b v x y t.1 at_a at_b e)
         (at_set s.views id j (k' ∷ []) v at_j)
 
-    free_after : (q : ℕ) → q < opened.places → get_or words (word_of q) 0 ≡ 0
-        → (x : V) × At (slot_of q) (kernel.some (Some x)) homes × R.AgreesWith q progress notes x
-    free_after q below is = dite (ℕ_discrete q p)
-        (λ e. subst (λ z. (x : V) × At (slot_of z) (kernel.some (Some x)) homes × R.AgreesWith z progress notes x) (sym e) (g.free_here (subst (λ z. z < opened.places) e below) (subst (λ z. get_or words (word_of z) 0 ≡ 0) e is)))
-        (λ ne. let was = r.free q below (sym (g.words_else q ne) ∙ is) in (was.0, g.homes_else (slot_of q) (λ e. ne (one_slot q p e)) ∙ was.1, g.others q was.0 ne was.2))
+    mine_some : (q : ℕ) → HeldBy k' q → HeldBySome R q after
+    mine_some q mine = (id, k' ∷ [], 0, k', mine.0, mine.1, mine_at, refl, mine.2, mine.3)
 
     still_held : (q : ℕ) → q ≢ p → HeldBySome R q s.views → HeldBySome R q after
     still_held q ne (j, v, i, m, a, u, at_j, at_i, at_a, is) = dite (ℕ_discrete j id)
@@ -144,10 +147,52 @@ module _ {P N V : Type 0} (R : Rules P N V) (laws : Laws R) (opened : Opened P N
         (id, k' ∷ [], 0, k', kept.0, u, mine_at, refl, kept.1, is))
         (λ other. (j, v, i, m, a, u, set_else s.views id j (k' ∷ []) other ∙ at_j, at_i, at_a, is))
 
-    busy_after : (q : ℕ) → q < opened.places → get_or words (word_of q) 0 ≢ 0 → HeldBySome R q after
+    -- who holds another place held it
+    was_held : (q : ℕ) → q ≢ p → HeldBySome R q after → HeldBySome R q s.views
+    was_held q ne (j, v, i, m, a, u, at_j, at_i, at_a, is) = ⊎_elim
+        (λ (t : (j ≡ id) × ((k' ∷ []) ≡ v)).
+        let only = at_only k' m i (subst (λ (z : List K). At i m z) (sym t.1) at_i) in
+        let kept = g.held_back a u (subst (λ (z : K). At a u z.held) (sym only.1) at_a) (λ h. ne (sym is ∙ h)) in
+        (id, k ∷ [], 0, k, kept.0, u, g.here, refl, kept.1, is))
+        (λ (t : (j ≢ id) × At j v s.views). (j, v, i, m, a, u, t.1, at_i, at_a, is))
+        (at_set s.views id j (k' ∷ []) v at_j)
+
+    -- and who holds the place itself is the session
+    held_here : HeldBySome R p after → HeldBy k' p
+    held_here (j, v, i, m, a, u, at_j, at_i, at_a, is) = ⊎_elim
+        (λ (t : (j ≡ id) × ((k' ∷ []) ≡ v)).
+        let only = at_only k' m i (subst (λ (z : List K). At i m z) (sym t.1) at_i) in
+        (a, u, subst (λ (z : K). At a u z.held) (sym only.1) at_a, is))
+        (λ (t : (j ≢ id) × At j v s.views). absurd (g.not_theirs j i v m a u t.0 t.1 at_i at_a is))
+        (at_set s.views id j (k' ∷ []) v at_j)
+
+    there_after : (q : ℕ) → q < opened.places → HasValue R progress notes homes q ⊎ HeldBySome R q after
+    there_after q below = dite (ℕ_discrete q p)
+        (λ e. subst (λ z. HasValue R progress notes homes z ⊎ HeldBySome R z after) (sym e)
+        (⊎_elim (λ h. inl h) (λ h. inr (mine_some p h)) (g.there_here (subst (λ z. z < opened.places) e below))))
+        (λ ne. ⊎_elim
+        (λ (was : HasValue R r.progress r.notes s.homes q). inl
+        (was.0, g.homes_else (slot_of q) (λ e. ne (one_slot q p e)) ∙ was.1, g.others q was.0 ne was.2))
+        (λ h. inr (still_held q ne h)) (r.there q below))
+
+    busy_after : (q : ℕ) → q < opened.places → IsMarked opened.places words q → HeldBySome R q after
     busy_after q below is = dite (ℕ_discrete q p)
-        (λ e. let mine = g.busy_here (subst (λ z. z < opened.places) e below) (λ h. is (ap (λ z. get_or words (word_of z) 0) e ∙ h)) in (id, k' ∷ [], 0, k', mine.0, mine.1, mine_at, refl, mine.2, mine.3 ∙ sym e))
-        (λ ne. still_held q ne (r.busy q below (λ h. is (g.words_else q ne ∙ h))))
+        (λ e. subst (λ z. HeldBySome R z after) (sym e)
+        (mine_some p
+        (g.busy_here (subst (λ z. z < opened.places) e below) (subst (IsMarked opened.places words) e is))))
+        (λ ne. still_held q ne (r.busy q below (sym (g.words_else.others q below ne) ∙ is)))
+
+    abbrev Claims : ℕ → Type 0
+    Claims q = IsMarked opened.places words q ⊎ (winner_at opened.places words q ≡ suc (holder q))
+
+    marked_after : (q : ℕ) → q < opened.places → HeldBySome R q after → Claims q
+    marked_after q below h = dite (ℕ_discrete q p)
+        (λ e. subst Claims (sym e)
+        (g.marked_here (subst (λ z. z < opened.places) e below)
+        (held_here (subst (λ z. HeldBySome R z after) e h))))
+        (λ ne. ⊎_elim (λ is. inl (g.words_else.others q below ne ∙ is))
+        (λ is. inr (g.words_else.winners q below ∙ (is ∙ ap suc (sym (g.holder_else q ne)))))
+        (r.marked q below (was_held q ne h)))
 
     still_known : (c : ℕ) → KnownBySome c s.views → KnownBySome c after
     still_known c (j, i, v, m, at_j, at_i, is) = dite (ℕ_discrete j id)
@@ -172,8 +217,9 @@ module _ {P N V : Type 0} (R : Rules P N V) (laws : Laws R) (opened : Opened P N
       wide = g.words_long ∙ r.wide;
       tail = g.tail_here;
       gaps = λ q a below low high. g.homes_else (slot_of q + a) (λ e. omega (arith, e, low, high)) ∙ r.gaps q a below low high;
-      free = free_after;
+      there = there_after;
       busy = busy_after;
+      marked = marked_after;
       each = each_after;
       distinct = distinct_after;
       all = λ c small. still_known c (r.all c small);
@@ -194,25 +240,36 @@ module _ {P N V : Type 0} (R : Rules P N V) (laws : Laws R) (opened : Opened P N
       let same : m.session ≡ k.session = sym (known.0.out a u at_a).0 ∙ (ap r.holder e ∙ holds) in
       other (sym known.1 ∙ (ap r.owner same ∙ (r.each id 0 (k ∷ []) k at refl).1))
 
-  -- the word of a place, or that of the completed tail, is there
-  pub word_there : (s : LockState P N V) (r : LockInvariant R opened s) (p : ℕ) → p ≤ opened.places
-      → word_of p < length s.words
-  word_there s r p below = let long = r.wide in omega (arith, long, below)
+  -- the word of a line, or that of the completed tail, is there
+  pub word_there : (s : LockState P N V) (r : LockInvariant R opened s) (line : ℕ) → line ≤ opened.places
+      → word_of line < length s.words
+  word_there s r line below = let long = r.wide in omega (arith, long, below)
 
-  -- the words of two places are two
-  pub word_else : (words : List ℕ) (p q n : ℕ) → q ≢ p
-      → get_or (set words (word_of p) n) (word_of q) 0 ≡ get_or words (word_of q) 0
-  word_else words p q n ne = get_or-set_other words (word_of p) (word_of q) n 0 (λ e. ne (omega (arith, e)))
+  pub line_there : (s : LockState P N V) (r : LockInvariant R opened s) (p : ℕ) → p < opened.places
+      → line_word opened.places p < length s.words
+  line_there s r p below = let low = line_below opened.places p below in word_there s r _ (omega (arith, low))
+
+  pub word_set : (s : LockState P N V) (r : LockInvariant R opened s) (p n : ℕ) → p < opened.places
+      → get_or (set s.words (line_word opened.places p) n) (line_word opened.places p) 0 ≡ n
+  word_set s r p n below = get_or-set_same s.words (line_word opened.places p) n 0 (line_there s r p below)
 
   -- a step at a place leaves the word of the completed tail as it is
   pub tail_else : (s : LockState P N V) (r : LockInvariant R opened s) (p n : ℕ) → p < opened.places
-      → get_or (set s.words (word_of p) n) (word_of opened.places) 0 ≡ R.completed r.progress
-  tail_else s r p n below = word_else s.words p opened.places n (λ e. omega (arith, e, below)) ∙ r.tail
+      → get_or (set s.words (line_word opened.places p) n) (word_of opened.places) 0 ≡ R.completed r.progress
+  tail_else s r p n below =
+      let low = line_below opened.places p below in
+      get_or-set_other s.words (line_word opened.places p) (word_of opened.places) n 0 (λ e. omega (arith, e, low))
+      ∙ r.tail
 
-  -- a place whose slot the table has is one of those that the shelf was opened with, and its slot is there
-  pub place_there : (s : LockState P N V) (r : LockInvariant R opened s) (slots p : ℕ) → length s.homes ≡ slots
-      → slot_of p < slots → p < opened.places
-  place_there s r slots p long below = let placed = r.placed in omega (arith, long, below, placed)
+  -- the table has the slots of as many places as the shelf was opened with, and so the word of a place is where that
+  -- shelf has it
+  pub all_places : (s : LockState P N V) (r : LockInvariant R opened s) (slots places : ℕ) → slots ≡ slot_of places
+      → length s.homes ≡ slots → places ≡ opened.places
+  all_places s r slots places wide long = let placed = r.placed in omega (arith, wide, long, placed)
+
+  pub word_is : (s : LockState P N V) (r : LockInvariant R opened s) (slots places p word : ℕ) → slots ≡ slot_of places
+      → length s.homes ≡ slots → word ≡ line_word places p → word ≡ line_word opened.places p
+  word_is s r slots places p word wide long is = is ∙ ap (λ z. line_word z p) (all_places s r slots places wide long)
 
   pub slot_there : (s : LockState P N V) (r : LockInvariant R opened s) (p : ℕ) → p < opened.places
       → slot_of p < length s.homes
@@ -222,6 +279,17 @@ module _ {P N V : Type 0} (R : Rules P N V) (laws : Laws R) (opened : Opened P N
   pub unmoved : (s : LockState P N V) (r : LockInvariant R opened s) (id w : ℕ) (v : List K) (c : List (ℕ × Option V))
       → At id v s.views → LockInvariant R opened (stepped s w (get_or s.words w 0) id c v keeps)
   unmoved s r id w v c at = subst (λ (z : List ℕ × List (List K)). LockInvariant R opened record { words = z.0; homes = s.homes; views = z.1 }) (λ i. (sym (set-get_or s.words w 0) i, sym (set_again s.views id v at) i)) r
+
+  -- no session holds what another one holds: who holds the place of a session that is the holder's is that session
+  pub held_own : (s : LockState P N V) (r : LockInvariant R opened s) (id p : ℕ) (k : K) → At id (k ∷ []) s.views
+      → HeldBySome R p s.views → r.holder p ≡ k.session → HeldBy k p
+  held_own s r id p k at (j, v, i, m, a, u, at_j, at_i, at_a, is) holds =
+      let known = r.each j i v m at_j at_i in
+      let same : m.session ≡ k.session = sym (known.0.out a u at_a).0 ∙ (ap r.holder is ∙ holds) in
+      let seat : j ≡ id = sym known.1 ∙ (ap r.owner same ∙ (r.each id 0 (k ∷ []) k at refl).1) in
+      let view = at_one s.views id v (k ∷ []) (subst (λ z. At z v s.views) seat at_j) at in
+      let only = at_only k m i (subst (λ (z : List K). At i m z) view at_i) in
+      (a, u, subst (λ (z : K). At a u z.held) (sym only.1) at_a, is)
 
   -- a look at any word tells in which state the seat stands
   pub stands_there : (may : Option (Opened P N)) → IfSome may (λ o. o ≡ opened) → (slots id w : ℕ) (m : LockSeat P N V)

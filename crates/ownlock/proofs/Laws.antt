@@ -1,16 +1,14 @@
 -- What the invariant says between two steps.
-use Rattle.std.proofs.Common.{◌≡◌, ◌≢◌, ℕ, ◌<◌, List, get_or, sym, refl, ap, ◌∙◌, subst, inl, inr, Option, Some}
-use mathlib.Core.Logic.{dite}
+use Rattle.std.proofs.Common.{◌≡◌, ℕ, suc, ◌<◌, List, sym, refl, ap, ◌∙◌, subst, ⊎_elim, inl, inr, Option, Some}
 use mathlib.Core.Option as kernel
 use mathlib.Core.Option.{some-injective, some-ne-none}
-use native.Mathlib.Decide.{ℕ_discrete}
 use Rattle.atomic_table.specs.Table.{State}
 use Rattle.ownlock.specs.declared.known.Known.{Known}
 use Rattle.ownlock.specs.Rules.{Rules, leader}
-use Rattle.ownlock.specs.Words.{word_of, slot_of}
+use Rattle.ownlock.specs.Words.{slot_of}
 use Rattle.ownlock.specs.Seats.{At, Opened}
-use Rattle.ownlock.specs.Invariant.{LockInvariant, HeldBySome}
-use Rattle.ownlock.specs.Between.{Between, Holds, IsHome, IsHeld, IsHomeOrHeld}
+use Rattle.ownlock.specs.Invariant.{HasValue, HeldBySome, LockInvariant}
+use Rattle.ownlock.specs.Between.{Between, HeldByNobody, Holds, IsHome, IsHeld, IsHomeOrHeld}
 use Rattle.ownlock.proofs.Keeps.{at_one}
 
 module _ {P N V : Type 0} (R : Rules P N V) (opened : Opened P N) (s : State (Option V) (List (Known P N V))) (r : LockInvariant R opened s) where
@@ -40,16 +38,40 @@ module _ {P N V : Type 0} (R : Rules P N V) (opened : Opened P N) (s : State (Op
   not_both : (p : ℕ) (o : Option V) → At p (kernel.some o) s.homes → At p kernel.none s.homes → ⊥
   not_both p o e f = some-ne-none o (some-injective _ _ (sym e ∙ f))
 
-  free : (p : ℕ) → p < opened.places → get_or s.words (word_of p) 0 ≡ 0 → IsHome R s r.progress r.notes p
-  free p below is = let t = r.free p below is in (is, t, (λ j i a k x h. not_both (slot_of p) (Some t.0) t.1 (out j i a k p x h)))
+  nobody : (p : ℕ) → HasValue R r.progress r.notes s.homes p → HeldByNobody s p
+  nobody p t j i a k x h = not_both (slot_of p) (Some t.0) t.1 (out j i a k p x h)
 
-  held : (p : ℕ) → get_or s.words (word_of p) 0 ≢ 0 → HeldBySome R p s.views → IsHeld R s r.progress r.notes p
-  held p busy (j, v, i, k, a, u, at_j, at_i, at_a, is) =
+  some_holds : (p : ℕ) → HeldBySome R p s.views → HeldByNobody s p → ⊥
+  some_holds p (j, v, i, k, a, u, at_j, at_i, at_a, is) none =
+      none j i a k u.1 (v, at_j, at_i, subst (λ q. At a (q, u.1) k.held) is at_a)
+
+  free : (p : ℕ) → p < opened.places → HasValue R r.progress r.notes s.homes p
+      → IsHome R s r.progress r.notes opened.places p
+  free p below t = ((λ marked. some_holds p (r.busy p below marked) (nobody p t)), t, nobody p t)
+
+  held : (p : ℕ) → p < opened.places → HeldBySome R p s.views → IsHeld R s r.progress r.notes opened.places p
+  held p below (j, v, i, k, a, u, at_j, at_i, at_a, is) =
       let h : Holds s j i a k p u.1 = (v, at_j, at_i, subst (λ q. At a (q, u.1) k.held) is at_a) in
-      (busy, out j i a k p u.1 h, (j, i, a, k, u.1, h, (λ j' i' a' k' x' h'. once j i a k p u.1 j' i' a' k' x' h h'), agrees j i a k p u.1 h))
+      let holder : r.holder p ≡ k.session = ((r.each j i v k at_j at_i).0.out a (p, u.1) h.3).0 in
+      let claimed =
+      ⊎_elim (λ marked. inl marked) (λ won. inr (won ∙ ap suc holder))
+      (r.marked p below (j, v, i, k, a, u, at_j, at_i, at_a, is)) in (
+        out j i a k p u.1 h,
+        (
+          j,
+          i,
+          a,
+          k,
+          u.1,
+          h,
+          (λ j' i' a' k' x' h'. once j i a k p u.1 j' i' a' k' x' h h'),
+          agrees j i a k p u.1 h,
+          claimed,
+        ),
+      )
 
-  either_way : (p : ℕ) → p < opened.places → IsHomeOrHeld R s r.progress r.notes p
-  either_way p below = dite (ℕ_discrete (get_or s.words (word_of p) 0) 0) (λ is. inl (free p below is)) (λ busy. inr (held p busy (r.busy p below busy)))
+  either_way : (p : ℕ) → p < opened.places → IsHomeOrHeld R s r.progress r.notes opened.places p
+  either_way p below = ⊎_elim (λ t. inl (free p below t)) (λ h. inr (held p below h)) (r.there p below)
 
   pub between : Between R s opened
   between = (

@@ -1,12 +1,17 @@
+pub mod Marks
+pub mod Spots
 pub mod Spread
 pub mod Without
 pub mod Fronts
 pub mod Run
 pub mod Keeps
 pub mod Tries
+pub mod Wins
 pub mod Frees
 pub mod Seats
 pub mod Hands
+pub mod OnlyOut
+pub mod Passing
 pub mod Ends
 pub mod Unload
 pub mod Tail

@@ -1,5 +1,7 @@
 -- The first seat, and how seats are split and joined.
-use Rattle.std.proofs.Common.{◌≡◌, ◌≢◌, ℕ, zero, suc, ◌+◌, ◌<◌, eqb, ◌⊎◌, List, [], ◌∷◌, ◌++◌, map, length, append-nil, get_or, set, replicate, sym, refl, ap, ◌∙◌, subst, ⊎_elim, inl, inr, arith, eq-eqb, ne_eqb, Option, Some, None}
+use Rattle.std.proofs.Common.{◌≡◌, ◌≢◌, ℕ, zero, suc, ◌+◌, ◌<◌, eqb, ◌⊎◌, List, [], ◌∷◌, ◌++◌, map, length, append-nil, get_or, set, sym, refl, ap, ◌∙◌, subst, ⊎_elim, inl, inr, arith, eq-eqb, ne_eqb, Option, Some, None}
+use Rattle.std.specs.Int.{bit_at}
+use Rattle.std.proofs.lemmas.Nat.Bits.{bit_at-zero}
 use mathlib.Core.Logic.{dite}
 use mathlib.Core.Option as kernel
 use mathlib.Core.Option.{some-injective, some-ne-none}
@@ -10,13 +12,13 @@ use Rattle.atomic_table.specs.Table.{Me, opening, Splits, Joins}
 use Rattle.atomic_table.proofs.Lists.{at_set, set_here, set_else, at_longer, at_last, at_map}
 use Rattle.ownlock.specs.declared.known.Known.{Known}
 use Rattle.ownlock.specs.Rules.{Rules, Laws}
-use Rattle.ownlock.specs.Words.{word_of, slot_of}
+use Rattle.ownlock.specs.Words.{bit_of, line_word, slot_of, word_of}
 use Rattle.ownlock.specs.Spreading.{spread}
 use Rattle.ownlock.specs.Seats.{At, Opened, opened_with, SeatView, IsSession, own_steps, all_sessions, HoldsNone}
 use Rattle.ownlock.specs.Knowledge.{AllAgree}
 use Rattle.ownlock.specs.Runs.{Begins}
 use Rattle.ownlock.specs.Invariant.{SessionInvariant, HeldBySome, KnownBySome, LockInvariant, first_of, others_of, out_of, emptied, StepsAs}
-use Rattle.ownlock.proofs.Spread.{long_spread, at_spread, none_between}
+use Rattle.ownlock.proofs.Spread.{blanks, zeros, long_spread, at_spread, none_between}
 use Rattle.ownlock.proofs.Keeps.{LockState, at_only, at_one}
 use Rattle.ownlock.proofs.Fronts.{at_below}
 
@@ -39,14 +41,6 @@ module _ {A : Type 0} where
 -- a seat is one session at most
 pub one_known : {P N V : Type 0} (s : SeatView P N V) (k m : Known P N V) → IsSession s k → IsSession s m → k ≡ m
 one_known s k m e f = ap (λ l. get_or l 0 k) (sym e ∙ f)
-
-abbrev blanks : ℕ → List ℕ
-blanks n = replicate n 0
-
-zeros : (n p : ℕ) → get_or (blanks n) p 0 ≡ 0
-zeros zero p = refl
-zeros (suc n) zero = refl
-zeros (suc n) (suc p) = zeros n p
 
 module _ {P N V : Type 0} where
   -- sessions that hold no place have no slot out
@@ -148,8 +142,9 @@ module _ {P N V : Type 0} (R : Rules P N V) (laws : Laws R) where
     wide = ap length blank ∙ omega (arith, length_replicate (word_of (length values + 1)), count);
     tail = zero_at (word_of places) ∙ sym none;
     gaps = λ p a below low high. at_map kernel.some (spread values) (slot_of p + a) None (none_between values p a (omega (arith, below, count)) low high);
-    free = λ p below _. let t = agree p (omega (arith, below, count)) in (t.0, at_map kernel.some (spread values) (slot_of p) (Some t.0) (at_spread values p (Some t.0) t.1), t.2);
-    busy = λ p below ne. absurd (ne (zero_at (word_of p)));
+    there = λ p below. let t = agree p (omega (arith, below, count)) in inl (t.0, at_map kernel.some (spread values) (slot_of p) (Some t.0) (at_spread values p (Some t.0) t.1), t.2);
+    busy = λ p below is. let none = ap (λ z. bit_at z (bit_of places p)) (zero_at (line_word places p)) ∙ bit_at-zero (bit_of places p) in absurd (omega (arith, is, none));
+    marked = λ p below h. absurd (nobody p h);
     each = holds_of;
     distinct = apart;
     all = λ c small. let t = all_sessions_there progress 0 notes c small in let number = t.2 in (0, c, all_sessions progress 0 notes, t.0, refl, t.1, omega (arith, number));
@@ -168,6 +163,11 @@ module _ {P N V : Type 0} (R : Rules P N V) (laws : Laws R) where
 
       none_held : (k : K) → k.held ≡ [] → (a : ℕ) (u : ℕ × V) → At a u k.held → ⊥
       none_held k e a u h = some-ne-none u (sym h ∙ ap (λ l. get_elem? l a) e)
+
+      nobody : (p : ℕ) → HeldBySome R p (all_sessions progress 0 notes ∷ []) → ⊥
+      nobody p (j, v, i, k, a, u, at_j, at_i, at_a, is) =
+          let only = at_only (all_sessions progress 0 notes) v j at_j in
+          none_held k (all_sessions_at progress 0 notes i k (subst (λ z. At i k z) (sym only.1) at_i)).2 a u at_a
 
       holds_of : (j i : ℕ) (v : List K) (k : K) → At j v (all_sessions progress 0 notes ∷ []) → At i k v → SessionInvariant R progress notes [] (map kernel.some (spread values)) (λ _. 0) k × (0 ≡ j)
       holds_of j i v k at_j at_i =
@@ -203,12 +203,14 @@ module _ {P N V : Type 0} (R : Rules P N V) (laws : Laws R) where
     abbrev IsSeated : K → List (List K) → Type 0
     IsSeated m views = (j i : ℕ) × (v : List K) × At j v views × At i m v
 
-    -- the rule is kept where only the seats change: each session is in some seat still, and whose session each is, and no two are the same
+    -- the rule is kept where only the seats change: each session is in some seat still, and was in one, and whose session each is, and no two are the
+    -- same
     seated : (s : LockState P N V) (r : LockInvariant R opened s) (views : List (List K)) (owner : ℕ → ℕ) → ((j i : ℕ) (v : List K) (m : K) → At j v s.views → At i m v → IsSeated m views)
+        → ((j i : ℕ) (v : List K) (m : K) → At j v views → At i m v → IsSeated m s.views)
         → ((j i : ℕ) (v : List K) (k : K) → At j v views → At i k v → SessionInvariant R r.progress r.notes r.run s.homes r.holder k × (owner k.session ≡ j))
         → ((j a b : ℕ) (v : List K) (k m : K) → At j v views → At a k v → At b m v → k.session ≡ m.session → a ≡ b)
         → LockInvariant R opened record { words = s.words; homes = s.homes; views = views }
-    seated s r views owner there each distinct = record {
+    seated s r views owner there was each distinct = record {
       progress = r.progress;
       notes = r.notes;
       run = r.run;
@@ -222,8 +224,9 @@ module _ {P N V : Type 0} (R : Rules P N V) (laws : Laws R) where
       wide = r.wide;
       tail = r.tail;
       gaps = r.gaps;
-      free = r.free;
-      busy = λ p below ne. still_held p (r.busy p below ne);
+      there = λ p below. ⊎_elim (λ h. inl h) (λ h. inr (still_held p h)) (r.there p below);
+      busy = λ p below is. still_held p (r.busy p below is);
+      marked = λ p below h. r.marked p below (was_held p h);
       each = each;
       distinct = distinct;
       all = λ c small. still_known c (r.all c small);
@@ -232,12 +235,15 @@ module _ {P N V : Type 0} (R : Rules P N V) (laws : Laws R) where
         still_held : (p : ℕ) → HeldBySome R p s.views → HeldBySome R p views
         still_held p (j, v, i, m, a, u, at_j, at_i, at_a, is) = let t = there j i v m at_j at_i in (t.0, t.2, t.1, m, a, u, t.3, t.4, at_a, is)
 
+        was_held : (p : ℕ) → HeldBySome R p views → HeldBySome R p s.views
+        was_held p (j, v, i, m, a, u, at_j, at_i, at_a, is) = let t = was j i v m at_j at_i in (t.0, t.2, t.1, m, a, u, t.3, t.4, at_a, is)
+
         still_known : (c : ℕ) → KnownBySome c s.views → KnownBySome c views
         still_known c (j, i, v, m, at_j, at_i, is) = let t = there j i v m at_j at_i in (t.0, t.1, t.2, m, t.3, t.4, is)
 
     -- the first session of a seat goes to a new seat
     pub splits : (id : ℕ) (k : K) (ks : List K) → Splits (LockInvariant R opened) id (k ∷ ks) (others_of (k ∷ ks)) (first_of (k ∷ ks))
-    splits id k ks s r at = seated s r (left ++ (k ∷ []) ∷ []) owner there each distinct
+    splits id k ks s r at = seated s r (left ++ (k ∷ []) ∷ []) owner there was each distinct
       where
         left : List (List K)
         left = set s.views id ks
@@ -299,6 +305,15 @@ module _ {P N V : Type 0} (R : Rules P N V) (laws : Laws R) where
         of_seat zero m at_i = (length left, 0, k ∷ [], new_at, at_i)
         of_seat (suc i) m at_i = (id, i, ks, at_longer left ((k ∷ []) ∷ []) id ks ks_at, at_i)
 
+        was : (j i : ℕ) (v : List K) (m : K) → At j v (left ++ (k ∷ []) ∷ []) → At i m v → IsSeated m s.views
+        was j i v m at_j at_i = ⊎_elim
+            (λ h. ⊎_elim
+            (λ (t : (j ≡ id) × (ks ≡ v)). (id, suc i, k ∷ ks, at, subst (λ z. At i m z) (sym t.1) at_i))
+            (λ (t : (j ≢ id) × At j v s.views). (j, i, v, t.1, at_i))
+            (at_set s.views id j ks v h))
+            (λ (t : (j ≡ length left) × ((k ∷ []) ≡ v)). let only = at_only k m i (subst (λ z. At i m z) (sym t.1) at_i) in (id, 0, k ∷ ks, at, ap kernel.some only.1))
+            (at_snoc_last left (k ∷ []) v j at_j)
+
         there : (j i : ℕ) (v : List K) (m : K) → At j v s.views → At i m v → IsSeated m (left ++ (k ∷ []) ∷ [])
         there j i v m at_j at_i = dite (ℕ_discrete j id)
             (λ e. of_seat i m (subst (λ z. At i m z) (at_one s.views id v (k ∷ ks) (subst (λ z. At z v s.views) e at_j) at) at_i))
@@ -306,7 +321,7 @@ module _ {P N V : Type 0} (R : Rules P N V) (laws : Laws R) where
 
     -- the sessions behind the first of a seat go to a new seat
     pub splits_off : (id : ℕ) (k : K) (ks : List K) → Splits (LockInvariant R opened) id (k ∷ ks) (first_of (k ∷ ks)) (others_of (k ∷ ks))
-    splits_off id k ks s r at = seated s r (left ++ ks ∷ []) owner there each distinct
+    splits_off id k ks s r at = seated s r (left ++ ks ∷ []) owner there was each distinct
       where
         left : List (List K)
         left = set s.views id (k ∷ [])
@@ -374,6 +389,15 @@ module _ {P N V : Type 0} (R : Rules P N V) (laws : Laws R) where
         of_seat zero m at_i = (id, 0, k ∷ [], at_longer left (ks ∷ []) id (k ∷ []) first_at, at_i)
         of_seat (suc i) m at_i = (length left, i, ks, new_at, at_i)
 
+        was : (j i : ℕ) (v : List K) (m : K) → At j v (left ++ ks ∷ []) → At i m v → IsSeated m s.views
+        was j i v m at_j at_i = ⊎_elim
+            (λ h. ⊎_elim
+            (λ (t : (j ≡ id) × ((k ∷ []) ≡ v)). let only = at_only k m i (subst (λ z. At i m z) (sym t.1) at_i) in (id, 0, k ∷ ks, at, ap kernel.some only.1))
+            (λ (t : (j ≢ id) × At j v s.views). (j, i, v, t.1, at_i))
+            (at_set s.views id j (k ∷ []) v h))
+            (λ (t : (j ≡ length left) × (ks ≡ v)). (id, suc i, k ∷ ks, at, subst (λ z. At i m z) (sym t.1) at_i))
+            (at_snoc_last left ks v j at_j)
+
         there : (j i : ℕ) (v : List K) (m : K) → At j v s.views → At i m v → IsSeated m (left ++ ks ∷ [])
         there j i v m at_j at_i = dite (ℕ_discrete j id)
             (λ e. of_seat i m (subst (λ z. At i m z) (at_one s.views id v (k ∷ ks) (subst (λ z. At z v s.views) e at_j) at) at_i))
@@ -381,7 +405,7 @@ module _ {P N V : Type 0} (R : Rules P N V) (laws : Laws R) where
 
     -- a seat takes in the sessions of another
     pub joins : (id : ℕ) (v : List K) (other : ℕ) (w : List K) → Joins (LockInvariant R opened) id v other w (v ++ w) []
-    joins id v other w s r at apart there = seated s r last owner moved each distinct
+    joins id v other w s r at apart there = seated s r last owner moved was each distinct
       where
         mid : List (List K)
         mid = set s.views id (v ++ w)
@@ -444,6 +468,21 @@ module _ {P N V : Type 0} (R : Rules P N V) (laws : Laws R) where
             (λ (t : (j ≢ other) × At j z mid). ⊎_elim
             (λ (u : (j ≡ id) × ((v ++ w) ≡ z)). distinct_both a b x y (subst (λ l. At a x l) (sym u.1) at_a) (subst (λ l. At b y l) (sym u.1) at_b) e)
             (λ (u : (j ≢ id) × At j z s.views). r.distinct j a b z x y u.1 at_a at_b e)
+            (at_set s.views id j (v ++ w) z t.1))
+            (at_set mid other j [] z at_j)
+
+        was_both : (i : ℕ) (m : K) → At i m (v ++ w) → IsSeated m s.views
+        was_both i m at_i = ⊎_elim
+            (λ (t : (i < length v) × At i m v). (id, i, v, at, t.1))
+            (λ (t : (b : ℕ) × (i ≡ length v + b) × At b m w). (other, t.0, w, w_at, t.2))
+            (at_append v w i m at_i)
+
+        was : (j i : ℕ) (z : List K) (m : K) → At j z last → At i m z → IsSeated m s.views
+        was j i z m at_j at_i = ⊎_elim
+            (λ (t : (j ≡ other) × ([] ≡ z)). let none : At i m [] = subst (λ l. At i m l) (sym t.1) at_i in absurd (some-ne-none m (sym none)))
+            (λ (t : (j ≢ other) × At j z mid). ⊎_elim
+            (λ (u : (j ≡ id) × ((v ++ w) ≡ z)). was_both i m (subst (λ l. At i m l) (sym u.1) at_i))
+            (λ (u : (j ≢ id) × At j z s.views). (j, i, z, u.1, at_i))
             (at_set s.views id j (v ++ w) z t.1))
             (at_set mid other j [] z at_j)
 

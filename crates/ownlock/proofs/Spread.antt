@@ -1,5 +1,5 @@
 -- The slots of the places, and those between.
-use Rattle.std.proofs.Common.{◌≡◌, ℕ, zero, suc, ◌+◌, ◌<◌, List, [], ◌∷◌, ◌++◌, append-nil, length, get_or, drop, sym, refl, ap, ◌∙◌, subst, arith, Option, None}
+use Rattle.std.proofs.Common.{◌≡◌, ℕ, zero, suc, ◌+◌, ◌<◌, List, [], ◌∷◌, ◌++◌, append-nil, length, get_or, replicate, drop, sym, refl, ap, ◌∙◌, subst, arith, Option, None}
 use Rattle.std.proofs.lemmas.List.{length_push}
 use mathlib.Core.Logic.{dite}
 use native.Mathlib.Decide.{ℕ_discrete}
@@ -79,3 +79,12 @@ stands_more {A} xs slots x place slot long is stands here p o below at = dite (�
     (λ e. let same : x ≡ o = some-injective x o (sym here ∙ (ap (λ z. get_elem? slots z) (is ∙ ap slot_of (sym e)) ∙ at)) in
     subst (λ z. At p z (xs ++ x ∷ [])) same (at_last xs x p (long ∙ sym e)))
     (λ ne. at_longer xs (x ∷ []) p o (stands p o (let more = length_push xs x in omega (arith, ne, below, more, long)) at))
+
+-- a word of a table that is opened
+abbrev pub blanks : ℕ → List ℕ
+blanks n = replicate n 0
+
+pub zeros : (n p : ℕ) → get_or (blanks n) p 0 ≡ 0
+zeros zero p = refl
+zeros (suc n) zero = refl
+zeros (suc n) (suc p) = zeros n p

@@ -14,7 +14,8 @@ use Rattle.ownlock.specs.Seats.{At, Opened, Run, Adds, having_raised, having_rea
 use Rattle.ownlock.specs.Knowledge.{Later, MayAsk, Possible}
 use Rattle.ownlock.specs.Invariant.{SessionInvariant, LockInvariant, done_read, done_raised}
 use Rattle.ownlock.proofs.Run.{continues_self, continues_more, own_here, own_else}
-use Rattle.ownlock.proofs.Keeps.{LockState, LockSeat, Goes, goes, mine_of, word_there, word_else}
+use Rattle.ownlock.proofs.Keeps.{LockState, LockSeat, Goes, all_places, goes, mine_of, word_there}
+use Rattle.ownlock.proofs.Marks.{tail_rewords}
 use Rattle.ownlock.proofs.Fronts.{at_below}
 
 module _ {P N V : Type 0} (R : Rules P N V) (laws : Laws R) (opened : Opened P N) where
@@ -59,7 +60,7 @@ module _ {P N V : Type 0} (R : Rules P N V) (laws : Laws R) (opened : Opened P N
       counted = counted;
       homes_else = λ i _. refl;
       homes_long = refl;
-      words_else = λ q ne. word_else R laws opened s.words last q n ne;
+      words_else = tail_rewords last last s.words n;
       tail_here = get_or-set_same s.words (word_of last) n 0 (word_there R laws opened s r last (omega arith)) ∙ sym completed;
       words_long = length-set s.words (word_of last) n;
       holder_else = λ q _. refl;
@@ -73,9 +74,11 @@ module _ {P N V : Type 0} (R : Rules P N V) (laws : Laws R) (opened : Opened P N
         own = own_here k.session entry r.run refl ∙ ap (λ es. step_taken ∷ es) seen.own;
         ends = record { seen = own_here k.session entry r.run refl ∙ ap (λ es. step_taken ∷ es) seen.own; last = inr (r.run, entry, refl, refl, refl, refl) };
       };
-      free_here = λ below _. absurd (omega (arith, below));
+      there_here = λ below. absurd (omega (arith, below));
       busy_here = λ below _. absurd (omega (arith, below));
+      marked_here = λ below _. absurd (omega (arith, below));
       held_else = λ a u e _. (a, e);
+      held_back = λ a u e _. (a, e);
     }
 
     tail_stands : (c : List (ℕ × Option V)) → LockInvariant R opened (stepped s (word_of last) n id c (later ∷ []) keeps)
@@ -97,14 +100,10 @@ module _ {P N V : Type 0} (R : Rules P N V) (laws : Laws R) (opened : Opened P N
   only_one : (k k2 : K) → (k ∷ []) ≡ (k2 ∷ []) → k ≡ k2
   only_one k k2 e = ap (λ l. get_or l 0 k) e
 
-  -- the table has the slots of as many places as the shelf was opened with
-  all_places : (s : LockState P N V) (r : LockInvariant R opened s) (slots places : ℕ) → slots ≡ slot_of places → length s.homes ≡ slots → places ≡ opened.places
-  all_places s r slots places wide long = let placed = r.placed in omega (arith, wide, long, placed)
-
   reads_at : (slots places id : ℕ) (k : K) (noted : ℕ → N → N) (c : List (ℕ × Option V)) → slots ≡ slot_of places → MayAsk R noted k
       → Allows (LockInvariant R opened) slots id (me k c) (word_of places) (λ n. n) (done_read R noted (step slots (word_of places) 0 0 kernel.none) (me k c))
   reads_at slots places id k noted c wide may s r long at _ =
-      let same = all_places s r slots places wide long in
+      let same = all_places R laws opened s r slots places wide long in
       let found : ℕ = get_or s.words (word_of places) 0 in
       let tail : found ≡ R.completed r.progress = ap (λ z. get_or s.words (word_of z) 0) same ∙ r.tail in
       let fit = mine_of R laws opened s r id k at in
@@ -129,7 +128,7 @@ module _ {P N V : Type 0} (R : Rules P N V) (laws : Laws R) (opened : Opened P N
   raises_at : (slots places id n : ℕ) (k : K) (c : List (ℕ × Option V)) → slots ≡ slot_of places → R.Reaches k.progress n
       → Allows (LockInvariant R opened) slots id (me k c) (word_of places) (λ m. max m n) (done_raised R (step slots (word_of places) n 0 kernel.none) (me k c))
   raises_at slots places id n k c wide reaches s r long at _ =
-      let same = all_places s r slots places wide long in
+      let same = all_places R laws opened s r slots places wide long in
       let tail : get_or s.words (word_of places) 0 ≡ R.completed r.progress = ap (λ z. get_or s.words (word_of z) 0) same ∙ r.tail in
       let progress : P = R.raised r.progress n in
       let up : R.completed progress ≡ max (get_or s.words (word_of places) 0) n = laws.raised_completed r.progress n ∙ ap (λ z. max z n) (sym tail) in

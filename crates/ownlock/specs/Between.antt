@@ -1,10 +1,10 @@
 -- What a reader may rely on between any two atomic steps on a shelf.
-use Rattle.std.specs.Prelude.{◌≡◌, ◌≢◌, ℕ, ◌<◌, ◌⊎◌, List, map, length, slice_index, Option, Some}
+use Rattle.std.specs.Prelude.{◌≡◌, ℕ, suc, ◌<◌, ◌⊎◌, List, map, length, slice_index, Option, Some}
 use mathlib.Core.Option as kernel
 use Rattle.atomic_table.specs.Table.{State}
 use Rattle.ownlock.specs.declared.known.Known.{Known}
 use Rattle.ownlock.specs.Rules.{Rules, leader}
-use Rattle.ownlock.specs.Words.{word_of, completed_word, slot_of}
+use Rattle.ownlock.specs.Words.{IsMarked, completed_word, slot_of, winner_at}
 use Rattle.ownlock.specs.Knowledge.{IsOneRun}
 use Rattle.ownlock.specs.Seats.{At, View, Opened, place_of}
 
@@ -26,16 +26,26 @@ module _ {P N V : Type 0} (s : ShelfState P N V) where
   HeldOnce j i a p = (j' i' a' : ℕ) (k' : Known P N V) (x' : V) → Holds j' i' a' k' p x' → (j' ≡ j) × (i' ≡ i) × (a' ≡ a)
 
 module _ {P N V : Type 0} (R : Rules P N V) (s : ShelfState P N V) (progress : P) (notes : List N) where
-  -- the word is 0, the value is on the shelf and agrees, and nobody holds the place
-  abbrev pub IsHome : ℕ → Type 0
-  IsHome p = (slice_index s.words (word_of p) ≡ 0) × ((x : V) × At (slot_of p) (kernel.some (Some x)) s.homes × R.AgreesWith p progress notes x) × HeldByNobody s p
+  -- of so many places this one is not marked, its value is on the shelf and agrees, and nobody holds the place
+  abbrev pub IsHome : (places : ℕ) → ℕ → Type 0
+  IsHome places p =
+      (IsMarked places s.words p → ⊥)
+      × ((x : V) × At (slot_of p) (kernel.some (Some x)) s.homes × R.AgreesWith p progress notes x)
+      × HeldByNobody s p
 
-  -- the word is not 0, nothing is on the shelf, and one session of one seat holds the place; the value that it took agrees
-  abbrev pub IsHeld : ℕ → Type 0
-  IsHeld p = (slice_index s.words (word_of p) ≢ 0) × At (slot_of p) kernel.none s.homes × ((j i a : ℕ) × (k : Known P N V) × (x : V) × Holds s j i a k p x × HeldOnce s j i a p × R.AgreesWith p progress notes x)
+  -- the place is marked, or this session has won its line
+  abbrev pub IsClaimed : (places : ℕ) → Known P N V → ℕ → Type 0
+  IsClaimed places k p = IsMarked places s.words p ⊎ (winner_at places s.words p ≡ suc k.session)
 
-  abbrev pub IsHomeOrHeld : ℕ → Type 0
-  IsHomeOrHeld p = IsHome p ⊎ IsHeld p
+  -- nothing is on the shelf, and one session of one seat holds the place; the value that it took agrees
+  abbrev pub IsHeld : (places : ℕ) → ℕ → Type 0
+  IsHeld places p =
+      At (slot_of p) kernel.none s.homes
+      × ((j i a : ℕ) × (k : Known P N V) × (x : V) × Holds s j i a k p x × HeldOnce s j i a p
+      × R.AgreesWith p progress notes x × IsClaimed places k p)
+
+  abbrev pub IsHomeOrHeld : (places : ℕ) → ℕ → Type 0
+  IsHomeOrHeld places p = IsHome places p ⊎ IsHeld places p
 
   -- the progress has grown from what the session knows, the session's note is the one that it knows, and it may hold what it holds
   abbrev pub IsKnown : Known P N V → Type 0
@@ -56,7 +66,7 @@ abbrev pub Between : {P N V : Type 0} → Rules P N V → ShelfState P N V → O
 Between {P} {N} {V} R s opened =
     (progress : P) × (notes : List N) × R.Accounts progress notes
     × R.Extends opened.progress progress × (length s.homes ≡ slot_of opened.places) × (length notes ≡ length opened.notes)
-    × ((p : ℕ) → p < opened.places → IsHomeOrHeld R s progress notes p)
+    × ((p : ℕ) → p < opened.places → IsHomeOrHeld R s progress notes opened.places p)
     × ((j i : ℕ) (v : View P N V) (k : Known P N V) → At j v s.views → At i k v → IsKnown R s progress notes k)
     × IsCompletedTail R s progress notes opened.places
     × HistoryStandsStill R s progress notes

@@ -26,6 +26,17 @@ impl<P, N> Change<P, N> for Brand {
     ghost note = { λ n. n };
 }
 
+/// At which place a step is. It stands in contracts alone. Pass `Brand`, and pick it at the call.
+pub trait AtPlace {
+    ghost use Rattle.std.specs.Prelude.{ℕ};
+
+    ghost place: { ℕ };
+}
+
+impl AtPlace for Brand {
+    ghost place = { 0 };
+}
+
 /// What a shelf was opened with, for a look that tells of that shelf. Pass `Brand`, and pick it at the call.
 pub trait Start<P, N> {
     ghost use Rattle.std.specs.Prelude.{Option};

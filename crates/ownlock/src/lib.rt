@@ -14,6 +14,7 @@ mod shelf;
 mod shelved;
 mod spreading;
 mod steps;
+mod winning;
 mod words;
 
 pub use change::{Ask, Change};
@@ -23,3 +24,5 @@ pub use law::between_steps;
 pub use seat::Seat;
 pub use shelf::{Held, LEADER, Shelf};
 pub use shelved::Shelved;
+pub use winning::Won;
+pub use words::Spot;

@@ -1,9 +1,10 @@
 // The rule of the table under a shelf, and what each step on a word tells.
 ghost use Rattle.std.specs.Prelude.{[], ◌++◌};
 ghost use Rattle.ownlock.specs.Seats.{all_sessions, opened_with};
-ghost use Rattle.ownlock.specs.Invariant.{LockInvariant, tried, fronted, stood, freed, settled, handed_on, done_read, done_raised, first_of, others_of};
+ghost use Rattle.ownlock.specs.Invariant.{LockInvariant, tried, tried_won, fronted, stood, freed, freed_alone, freed_won, kept, settled};
+ghost use Rattle.ownlock.specs.Invariant.{handed_on, handed_marked, done_read, done_raised, first_of, others_of};
 
-use crate::change::{Ask, Change, Start};
+use crate::change::{Ask, AtPlace, Change, Start};
 use crate::known::Known;
 use crate::shelved::Shelved;
 use atomic_table::{Join, Play, Seat, Shared, Split, TableRule};
@@ -27,18 +28,38 @@ impl<V: Shelved> TableRule<Option<V>, View<V>, V::Setup> for LockRule<V> {
     ghost first = { λ setup. all_sessions (V.first_progress setup) 0 (V.first_notes setup) };
 }
 
-// A try at a place: a failed one, or a won one.
-pub struct Try;
-
-impl<V: Shelved> Play<Option<V>, View<V>> for Try {
-    ghost then = { tried V.rules };
+// A try at a place: a failed one, or one that takes it.
+pub struct Try<W> {
+    marker: PhantomData<W>,
 }
 
-// A look at the word of a place that the seat itself holds: it is taken.
-pub struct OwnRetry;
+impl<V: Shelved, W: AtPlace> Play<Option<V>, View<V>> for Try<W> {
+    ghost then = { tried V.rules W.place };
+}
 
-impl<V: Shelved> Play<Option<V>, View<V>> for OwnRetry {
-    ghost then = { fronted V.rules };
+// A look at a place, which takes it where the session has won its line.
+pub struct TryWon<W> {
+    marker: PhantomData<W>,
+}
+
+impl<V: Shelved, W: AtPlace> Play<Option<V>, View<V>> for TryWon<W> {
+    ghost then = { tried_won V.rules W.place };
+}
+
+// A look by a seat that itself holds the place.
+pub struct OwnRetry<W> {
+    marker: PhantomData<W>,
+}
+
+impl<V: Shelved, W: AtPlace> Play<Option<V>, View<V>> for OwnRetry<W> {
+    ghost then = { fronted V.rules W.place };
+}
+
+// A line is won, or let go.
+pub struct Keep;
+
+impl<V: Shelved> Play<Option<V>, View<V>> for Keep {
+    ghost then = { kept V.rules };
 }
 
 // A look at any word: the seat stands in a state of the shelf.
@@ -50,13 +71,31 @@ impl<V: Shelved, M: Start<V::Progress, V::SessionNote>> Play<Option<V>, View<V>>
     ghost then = { stood V.rules M.opened };
 }
 
-// The word of a held place is freed.
+// The mark of a held place is taken away.
 pub struct Free<M> {
     marker: PhantomData<M>,
 }
 
 impl<V: Shelved, M: Change<V::Progress, V::SessionNote>> Play<Option<V>, View<V>> for Free<M> {
     ghost then = { freed V.rules M.progress M.note };
+}
+
+// The mark of a held place is taken away where it is all that the word has; else nothing changes.
+pub struct FreeAlone<M> {
+    marker: PhantomData<M>,
+}
+
+impl<V: Shelved, M: Change<V::Progress, V::SessionNote>> Play<Option<V>, View<V>> for FreeAlone<M> {
+    ghost then = { freed_alone V.rules M.progress M.note };
+}
+
+// A look by which a held place is put back where the session has won its line.
+pub struct FreeWon<M> {
+    marker: PhantomData<M>,
+}
+
+impl<V: Shelved, M: Change<V::Progress, V::SessionNote>> Play<Option<V>, View<V>> for FreeWon<M> {
+    ghost then = { freed_won V.rules M.progress M.note };
 }
 
 // The value of a held place is put back and taken again.
@@ -75,6 +114,16 @@ pub struct HandOn<M> {
 
 impl<V: Shelved, M: Change<V::Progress, V::SessionNote>> Play<Option<V>, View<V>> for HandOn<M> {
     ghost then = { handed_on V.rules M.progress M.note };
+}
+
+// The same by a look, where nobody has won the line.
+pub struct HandMarked<M> {
+    marker: PhantomData<M>,
+}
+
+impl<V: Shelved, M: Change<V::Progress, V::SessionNote>> Play<Option<V>, View<V>>
+    for HandMarked<M> {
+    ghost then = { handed_marked V.rules M.progress M.note };
 }
 
 // The completed tail is read.

@@ -7,7 +7,7 @@ use Rattle.ownlock.specs.Seats.{At, IsSession}
 use Rattle.loader.specs.CatalogueView.{CatalogueView}
 use Rattle.loader.specs.Installed.{InstalledView}
 use Rattle.oplog.specs.declared.configuration.Sizes.{Sizes}
-use Rattle.oplog.specs.declared.configuration.TheConstants.{MAX_NODES}
+use Rattle.oplog.specs.declared.configuration.TheConstants.{MAX_NODES, MAX_NODE_SLOTS}
 use Rattle.oplog.specs.Limits.{AreSizes}
 use Rattle.oplog.specs.Operations.{Operation}
 use Rattle.combiner.specs.declared.slots.Reply.{Reply}
@@ -31,7 +31,7 @@ use Rattle.store_steps.proofs.Export.{goes_seen, seen_as, view_known, was_at}
 use Rattle.store.specs.declared.answers.Answer.{Answer}
 use Rattle.store.specs.Opening.{AreOf}
 use Rattle.store.specs.Pipelines.{AreInOrder, AreJoined, EachGoes, EachGoesOn, LooksAndUpdates, LooksPostsCollects, OthersStay, TellsEach, views_of}
-use Rattle.store.specs.Sessions.{HasRoom, IsOf, SessionGoesOn, StoreView, TellsUpdate, said}
+use Rattle.store.specs.Sessions.{HasRoom, IsOf, SessionGoesOn, StoreView, TellsUpdate, said, HasNodes}
 use Rattle.store.proofs.Between.{goes_still}
 use Rattle.store.proofs.Gone.{gone_then, update_goes, visits_go}
 use Rattle.store.proofs.Invoked.{Invoked, goes_on, has_grown, invoked, is_idle, may_ask, tells_update}
@@ -48,7 +48,7 @@ Said = Result Answer StoreRefused
 pub record IsShared (store : StoreView) (shared : Shared) : Type 0 where
   pub shelf : shared.shelf.now.id ≡ store.id
   pub places : shared.shelf.now.places ≡ 1 + store.config.nodes + store.config.nodes
-  pub nodes : (shared.nodes ≡ store.config.nodes) × (store.config.nodes ≤ MAX_NODES)
+  pub nodes : HasNodes shared store
   pub config : AreSizes store.config
   pub catalogue : shared.catalogue.now ≡ store.catalogue
 
@@ -72,6 +72,11 @@ module _ (store : StoreView) (shared : Shared) (is : IsShared store shared) (ms 
           places_are = is.places ∙ ap (λ n. 1 + n + n) (sym is.nodes.0);
           few = subst (λ n. n ≤ MAX_NODES) (sym is.nodes.0) is.nodes.1;
           nodes_are = ap (λ (z : Sizes). z.nodes) config ∙ sym is.nodes.0;
+          slots_are = (
+            ap (λ (z : Sizes). z.slots) config
+                ∙ sym is.nodes.2,
+            subst (λ n. n ≤ MAX_NODE_SLOTS) (sym is.nodes.2) is.nodes.3,
+          );
           catalogue_is = ap (λ (z : SessionView). z.progress.catalogue) (sym (seen_as m.seat i.known i.is)) ∙ ((of_store j m at).catalogue ∙ sym is.catalogue);
         },
       )
@@ -93,7 +98,7 @@ module _ (store : StoreView) (shared : Shared) (is : IsShared store shared) (ms 
 -- the sessions of a store's first members
 pub shared_of : (store : StoreView) (shared : Shared) → shared.shelf.now.id ≡ store.id
     → shared.shelf.now.places ≡ 1 + store.config.nodes + store.config.nodes
-    → (shared.nodes ≡ store.config.nodes) × (store.config.nodes ≤ MAX_NODES) → AreSizes store.config
+    → HasNodes shared store → AreSizes store.config
     → shared.catalogue.now ≡ store.catalogue → IsShared store shared
 shared_of store shared shelf places nodes config catalogue = record { shelf = shelf; places = places; nodes = nodes; config = config; catalogue = catalogue }
 

@@ -6,7 +6,7 @@ use Rattle.loader.specs.CatalogueView.{CatalogueView}
 use Rattle.oplog.specs.Operations.{Operation}
 use Rattle.oplog.specs.Limits.{AreSizes}
 use Rattle.oplog.specs.declared.configuration.Sizes.{Sizes}
-use Rattle.oplog.specs.declared.configuration.TheConstants.{MAX_NODES}
+use Rattle.oplog.specs.declared.configuration.TheConstants.{MAX_NODES, MAX_NODE_SLOTS}
 use Rattle.loader.specs.Installed.{InstalledView}
 use Rattle.combiner.specs.Desks.{BatchView}
 use Rattle.replica.specs.StoreMeaning.{store_meaning}
@@ -24,7 +24,7 @@ use Rattle.store_steps.specs.Requests.{HasPosted}
 use Rattle.store_steps.specs.Stages.{IsAsked, IsAsking, IsOnItsWay, IsOut, IsPolled}
 use Rattle.store.specs.Polled.{HasPostedFor}
 use Rattle.store_steps.specs.Views.{IsIdle, SessionView, known_of, session_view}
-use Rattle.store.specs.Sessions.{HasRoom, IsOf, SessionGoesOn, StoreView}
+use Rattle.store.specs.Sessions.{HasRoom, IsOf, SessionGoesOn, StoreView, HasNodes}
 use Rattle.store_steps.specs.Standing.{SessionKnown, StoreSeat}
 use Rattle.store_laws.specs.Gone.{GoneOn}
 use Rattle.store_steps.proofs.Export.{asks, both, goes_seen, seen_as, free_by, store_laws, well_formed}
@@ -68,13 +68,19 @@ goes_then store old mid new a b = record {
 -- the shelf and the catalogue of a session's store are these
 pub on_store : (s : S) (k : K) → IsSession s k → (shared : Shared) (store : StoreView) → IsOf store (session_view s)
     → shared.shelf.now.places ≡ 1 + store.config.nodes + store.config.nodes
-    → (shared.nodes ≡ store.config.nodes) × (store.config.nodes ≤ MAX_NODES) → shared.catalogue.now ≡ store.catalogue
+    → HasNodes shared store → shared.catalogue.now ≡ store.catalogue
     → IsOn shared k
 on_store s k is shared store own places nodes same =
     let seen = seen_as s k is in record {
       places_are = places ∙ ap (λ n. 1 + n + n) (sym nodes.0);
       few = subst (λ n. n ≤ MAX_NODES) (sym nodes.0) nodes.1;
       nodes_are = ap (λ (z : SessionView). z.progress.config.nodes) (sym seen) ∙ (ap (λ (z : Sizes). z.nodes) own.config ∙ sym nodes.0);
+      slots_are = (
+        ap (λ (z : SessionView). z.progress.config.slots) (sym seen)
+            ∙ (ap (λ (z : Sizes). z.slots) own.config ∙ sym nodes.2),
+        subst (λ n. n ≤ MAX_NODE_SLOTS) (sym nodes.2)
+            nodes.3,
+      );
       catalogue_is = ap (λ (z : SessionView). z.progress.catalogue) (sym seen) ∙ (own.catalogue ∙ sym same);
     }
 
@@ -120,7 +126,7 @@ module _ (s : S) (caller : Caller) where
 
     pub on_at : (shared : Shared) (store : StoreView) (stage : Stage) → IsPolled s caller b kept stage
         → IsOf store (session_view s) → shared.shelf.now.places ≡ 1 + store.config.nodes + store.config.nodes
-        → (shared.nodes ≡ store.config.nodes) × (store.config.nodes ≤ MAX_NODES)
+        → HasNodes shared store
         → shared.catalogue.now ≡ store.catalogue → Knows s (IsOn shared)
     on_at shared store stage v own places nodes same = let k = known_at stage v in (k.0, k.1, on_store s k.0 k.1 shared store own places nodes same)
 

@@ -3,7 +3,6 @@ use Rattle.std.proofs.Common.{◌≡◌, ℕ, ◌+◌, ◌≤◌, [], Option, So
 use Rattle.std.specs.Prelude.{Result, Ok, Err, IfErr, IfOk}
 use Rattle.loader.specs.CatalogueView.{CatalogueView}
 use Rattle.loader.specs.StoreState.{StoreState}
-use Rattle.oplog.specs.declared.configuration.TheConstants.{MAX_NODES}
 use Rattle.combiner.specs.Desks.{BatchView}
 use Rattle.ownlock.specs.Seats.{IsSession}
 use Rattle.replica.specs.Views.{RepliesView}
@@ -25,7 +24,7 @@ use Rattle.store_steps.specs.Views.{IsIdle, SessionView, known_of, session_view}
 use Rattle.store_steps.specs.Whole.{LooksBy}
 use Rattle.store_steps.proofs.Export.{both, goes_seen, on_known}
 use Rattle.loader.specs.Installed.{InstalledView}
-use Rattle.store.specs.Sessions.{HasRoom, IsFresh, IsOf, SessionGoesOn, StoreView}
+use Rattle.store.specs.Sessions.{HasRoom, IsFresh, IsOf, SessionGoesOn, StoreView, HasNodes}
 use Rattle.store.proofs.Gone.{gone_did}
 use Rattle.store.proofs.Between.{Rests, StaysIdle, goes_on, idle_at, idle_stage, on_at, room_on, stays_idle, stays_with}
 
@@ -102,7 +101,7 @@ module _ (s : StoreSeat) (caller : Caller) (b : BatchView) (kept : RepliesView) 
 
   pub may_look : (shared : Shared) (store : StoreView) → IsOf store was
       → shared.shelf.now.places ≡ 1 + store.config.nodes + store.config.nodes
-      → (shared.nodes ≡ store.config.nodes) × (store.config.nodes ≤ MAX_NODES)
+      → HasNodes shared store
       → shared.catalogue.now ≡ store.catalogue → Knows s (λ k. IsFree caller k × IsOn shared k × IsAtRest k.note)
   may_look shared store own places nodes same =
       let i = idle_now in

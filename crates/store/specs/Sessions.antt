@@ -4,6 +4,7 @@ use Rattle.ownlock.specs.Seats.{ShelfId, tails_in}
 use Rattle.loader.specs.CatalogueView.{CatalogueView}
 use Rattle.loader.specs.Installed.{InstalledView}
 use Rattle.oplog.specs.declared.configuration.Sizes.{Sizes}
+use Rattle.oplog.specs.declared.configuration.TheConstants.{MAX_NODES, MAX_NODE_SLOTS}
 use Rattle.verifier.specs.declared.refusal.Mode.{Mode}
 use Rattle.verifier.specs.declared.refusal.Mode.TheVariants.{Update}
 use Rattle.oplog.specs.Calls.{NewProgram}
@@ -20,6 +21,7 @@ use Rattle.store.specs.declared.answers.Answer.{Answer}
 use Rattle.store_laws.specs.Gone.{GoneOn}
 use Rattle.replica.specs.declared.refusals.StoreRefused.{StoreRefused}
 use Rattle.replica.specs.declared.refusals.StoreRefused.TheVariants.{Ended as TheEnd}
+use Rattle.store_steps.specs.declared.steps.Shared.{Shared}
 use Rattle.store_steps.specs.Standing.{SessionKnown, StoreSeat}
 use Rattle.store_steps.specs.Views.{SessionView, request_of, session_view}
 pub use Rattle.store_steps.specs.Views.{known_of}
@@ -29,6 +31,12 @@ pub record StoreView : Type 0 where
   pub id : ShelfId
   pub config : Sizes
   pub catalogue : CatalogueView
+
+-- a store's sessions share so many nodes, each with so many slots, as the store has
+abbrev pub HasNodes : Shared → StoreView → Type 0
+HasNodes shared store =
+    (shared.nodes ≡ store.config.nodes) × (store.config.nodes ≤ MAX_NODES)
+    × (shared.slots ≡ store.config.slots) × (store.config.slots ≤ MAX_NODE_SLOTS)
 
 -- the session is one of this store
 pub record IsOf (store : StoreView) (s : SessionView) : Type 0 where

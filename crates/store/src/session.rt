@@ -181,6 +181,7 @@ impl Session {
 
     // Has an update performed that is not refused, as the next operation of the history. By six takes: it posts, and then completes. Or by four
     // (`at_once`): it posts and claims in one hold of the desk, and answers its batch and collects in another.
+    #[inline(always)]
     pub(crate) fn perform<R: Wait>(
         &mut self,
         rt: &R,
@@ -211,6 +212,7 @@ impl Session {
     }
 
     // Has an update program run that is not refused, by six takes or by four.
+    #[inline(always)]
     fn call<R: Wait>(
         &mut self,
         rt: &R,

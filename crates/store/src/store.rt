@@ -2,11 +2,10 @@
 
 ghost use Rattle.std.specs.Prelude.{◌≡◌, ◌≢◌, ◌↔◌, ◌+◌, ◌<◌, ◌≤◌, [], ◌∷◌, length, IfOk, IfErr, MatchResult};
 ghost use Rattle.oplog.specs.declared.configuration.OpenError.TheVariants.{OtherState, OutOfLimits};
-ghost use Rattle.oplog.specs.declared.configuration.TheConstants.{MAX_NODES};
 ghost use Rattle.loader.specs.CatalogueView.{MayOpenOn, OpensOn, opened_on, with_long_places, with_places};
 ghost use Rattle.oplog.specs.Limits.{sizes_in, AreSizes, IsConfig};
 ghost use Rattle.store_steps.specs.Shelving.{sessions_of};
-ghost use Rattle.store.specs.Sessions.{IsOf, fresh_sessions};
+ghost use Rattle.store.specs.Sessions.{HasNodes, IsOf, fresh_sessions};
 ghost use Rattle.store.specs.Explained.{ClosesExplained};
 ghost use Rattle.store.specs.Linear.{AreExplained, AreLinearized, AreNew};
 ghost use Rattle.store.specs.Opening.{AreOf, AreIdle, IsClosed, known_back};
@@ -405,7 +404,7 @@ impl Store {
     pub fn shared(&self) -> Shared<'_>
         ensures shelf { result.shelf.now.id ≡ self.now.id }
         ensures places { result.shelf.now.places ≡ 1 + self.now.config.nodes + self.now.config.nodes }
-        ensures nodes { (result.nodes ≡ self.now.config.nodes) × (self.now.config.nodes ≤ MAX_NODES) }
+        ensures nodes { HasNodes result self.now }
         ensures config { AreSizes self.now.config }
         ensures catalogue { result.catalogue.now ≡ self.now.catalogue }
     {

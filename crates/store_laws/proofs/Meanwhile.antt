@@ -1,5 +1,5 @@
 -- The lock's invariant, for the rules of a store.
-use Rattle.std.proofs.Common.{◌<◌, sym, ◌∙◌, subst, ⊎_elim}
+use Rattle.std.proofs.Common.{◌<◌, sym, ◌∙◌, subst}
 use Rattle.std.proofs.lemmas.List.{length-replicate}
 use Rattle.ownlock.specs.Invariant.{LockInvariant}
 use Rattle.ownlock.specs.Between.{Between}
@@ -26,8 +26,7 @@ meanwhile opening s r = told (between store_rules (store_opening opening) s r)
       grown = λ j i v k at_j at_i. (b.7 j i v k at_j at_i).0;
       noted = λ j i v k at_j at_i. (b.7 j i v k at_j at_i).1;
       holds = λ j i v k at_j at_i. (b.7 j i v k at_j at_i).2;
-      free = λ p lt zero. ⊎_elim (λ home. (home.1, home.2)) (λ held. absurd (held.0 zero)) (b.6 p lt);
-      held = λ p lt other. ⊎_elim (λ home. absurd (other home.0)) (λ held. (held.1, held.2)) (b.6 p lt);
+      each = b.6;
       completed = b.8;
       still = b.9;
       run = b.10.run;

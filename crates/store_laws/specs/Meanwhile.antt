@@ -1,24 +1,23 @@
 -- What holds of a store between any two atomic steps of its sessions' threads.
-use Rattle.std.specs.Prelude.{◌≡◌, ◌≢◌, ℕ, ◌*◌, ◌<◌, List, map, length, slice_index, Option, Some}
-use mathlib.Core.Option as kernel
+use Rattle.std.specs.Prelude.{◌≡◌, ℕ, ◌*◌, ◌<◌, List, map, length, slice_index, Option}
 use Rattle.atomic_table.specs.Table.{State}
 use Rattle.loader.specs.CatalogueView.{CatalogueView}
 use Rattle.ownlock.specs.declared.known.Known.{Known}
-use Rattle.ownlock.specs.Words.{word_of, completed_word, slot_of}
+use Rattle.ownlock.specs.Words.{completed_word, slot_of}
 use Rattle.ownlock.specs.Runs.{Runs}
 use Rattle.ownlock.specs.Seats.{At, Continues, EndsWithOwn, Run, View, own_steps, place_of}
-use Rattle.ownlock.specs.Between.{Holds, HeldByNobody, HeldOnce}
+use Rattle.ownlock.specs.Between.{Holds, IsHomeOrHeld}
 use Rattle.replica.specs.StoreMeaning.{store_meaning}
 use Rattle.accounts.specs.declared.sessions.AnsweredUpdate.{AnsweredUpdate}
 use Rattle.accounts.specs.declared.sessions.Progress.{Progress}
 use Rattle.accounts.specs.declared.sessions.SessionNote.{SessionNote}
 use Rattle.accounts.specs.Accounts.{Accounts, Extends}
-use Rattle.accounts.specs.Agreement.{AgreesWith, log_place}
+use Rattle.accounts.specs.Agreement.{log_place}
 use Rattle.accounts.specs.Moves.{MayHold}
 use Rattle.accounts.specs.Told.{StandsOnce}
 use Rattle.store_steps.specs.declared.values.Setup.{Setup}
 use Rattle.store_steps.specs.declared.values.Value.{Value}
-use Rattle.store_steps.specs.Shelving.{view_of, IsSized, places_of, store_opening, store_rules}
+use Rattle.store_steps.specs.Shelving.{places_of, store_opening, store_rules}
 
 -- what one session knows: the progress that it saw last, its note, and the places that it holds, each with its value as it was taken
 abbrev pub StoreKnown : Type 0
@@ -27,11 +26,6 @@ StoreKnown = Known (Progress CatalogueView) SessionNote Value
 -- the words and the slots of the store's shelf, and what the sessions of each seat know
 abbrev pub StoreState : Type 0
 StoreState = State (Option Value) (View (Progress CatalogueView) SessionNote Value)
-
--- the value is the one of that place, the log, a node's replica or a node's desk, agrees with the history and the notes, and has the
--- store's sizes
-abbrev pub IsValueAt : ℕ → Progress CatalogueView → List SessionNote → Value → Type 0
-IsValueAt p l ns v = AgreesWith store_meaning p l ns (view_of v) × IsSized l.config l.catalogue v
 
 -- a store that was opened with this configuration and this catalogue is in this state
 pub record Meanwhile (opening : Setup) (s : StoreState) : Type 0 where
@@ -52,12 +46,9 @@ pub record Meanwhile (opening : Setup) (s : StoreState) : Type 0 where
   pub grown : (j i : ℕ) (v : List StoreKnown) (k : StoreKnown) → At j v s.views → At i k v → Extends k.progress progress
   pub noted : (j i : ℕ) (v : List StoreKnown) (k : StoreKnown) → At j v s.views → At i k v → At k.session k.note notes
   pub holds : (j i : ℕ) (v : List StoreKnown) (k : StoreKnown) → At j v s.views → At i k v → MayHold k.progress k.session (map place_of k.held)
-  -- a place whose word is 0 is free: its value is on the shelf and agrees, and nobody holds it
-  pub free : (p : ℕ) → p < places_of opening.config → slice_index s.words (word_of p) ≡ 0
-      → ((x : Value) × At (slot_of p) (kernel.some (Some x)) s.homes × IsValueAt p progress notes x) × HeldByNobody s p
-  -- any other is held by one session alone, and the value as that took it agrees
-  pub held : (p : ℕ) → p < places_of opening.config → slice_index s.words (word_of p) ≢ 0
-      → At (slot_of p) kernel.none s.homes × ((j i a : ℕ) × (k : StoreKnown) × (x : Value) × Holds s j i a k p x × HeldOnce s j i a p × IsValueAt p progress notes x)
+  -- each place is free, with its value, or one session alone holds it; the value, as it is or as that took it, agrees
+  pub each : (p : ℕ) → p < places_of opening.config
+      → IsHomeOrHeld store_rules s progress notes (places_of opening.config) p
   -- the word behind those of the places is the completed tail
   pub completed : slice_index s.words (completed_word (places_of opening.config)) ≡ progress.completed
   -- one run of the steps of all sessions leads there from what the store was opened with, and the rules allow each step; it goes on from the

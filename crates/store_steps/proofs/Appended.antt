@@ -175,6 +175,7 @@ module _ (k t m : K) (n0 : NodeReplica) (g : Box LogView) (h : LogView) (h2 : Bo
       stands = record { notes = put.notes; accounts = put.accounts; here = put.here };
       rest = rest;
       count = count_low;
+      last = let first = first_is in let long = long_history in omega (arith, first, long);
       within = let top = x.3 in let tail = log_f.tail in let long = long_history in let first = first_is in omega (arith, top, tail, long, first);
       above = let stays = ap (λ (z : NodeReplica). z.replica.tail) x.1 in let low = p.follows.within in let first = first_is in omega (arith, stays, low, first);
       note = note;

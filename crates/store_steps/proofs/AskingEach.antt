@@ -82,8 +82,14 @@ may_ask_then shared old new same looks may j q at =
     let p = was_at old new same j q at in
     let m = may j p.0 p.1 in
     let l = looks j m.0 (p.0, p.1, m.1) in
-    let is : IsSession q.seat l.0 = subst (λ (z : Member). IsSession z.seat l.0) (at_one new j l.1.0 q l.1.1 at) l.1.2 in
-    (l.0, is, subst (λ c. IsFree c l.0) (ap (λ z. z.0) (sym p.2)) (free_by p.0.caller m.0 l.0 l.2.session (l.2.held ∙ m.2.held) l.2.extends m.2), alone_then m.0 l.0 l.2 m.3, shelf_then _ _ _ m.0 l.0 l.2.extends m.4)
+    let is : IsSession q.seat l.0 = subst (λ (z : Member). IsSession z.seat l.0) (at_one new j l.1.0 q l.1.1 at) l.1.2 in (
+      l.0,
+      is,
+      subst (λ c. IsFree c l.0) (ap (λ z. z.0) (sym p.2))
+          (free_by p.0.caller m.0 l.0 l.2.session (l.2.held ∙ m.2.held) l.2.extends m.2),
+      alone_then m.0 l.0 l.2 m.3,
+      shelf_then _ _ _ _ m.0 l.0 l.2.extends m.4,
+    )
 
 -- a session that looked, and then posted, has posted
 abbrev pub posted_then : (k m asked : K) (op : Operation) → HasLooked k m → HasPosted m asked op → HasPosted k asked op
@@ -179,7 +185,7 @@ module _ (shared : Shared) (old new : List Member) (calls : List Question) (batc
   free_looked j w = free_by w.member.caller w.k w.l w.looked.session (w.looked.held ∙ w.free.held) w.looked.extends w.free
 
   pub on_looked : (j : ℕ) (w : MemberOf j) → IsOn shared w.l
-  on_looked j w = shelf_then _ _ _ w.k w.l w.looked.extends w.on
+  on_looked j w = shelf_then _ _ _ _ w.k w.l w.looked.extends w.on
 
   pub claims_of : (w : MemberOf 0) → ClaimsAt new w.l (asked_op w.q) batch
   claims_of w = p.posts.first w.l w.q w.at_q w.mid
@@ -190,7 +196,9 @@ module _ (shared : Shared) (old new : List Member) (calls : List Question) (batc
     first_free = free_back w.member.caller (claims_of w).asked (claims_of w).after (free_back w.member.caller w.l (claims_of w).asked (free_looked 0 w) (claims_of w).posted.back) (claims_of w).turned.back
 
     pub first_on : IsOn shared (claims_of w).after
-    first_on = shelf_then _ _ _ (claims_of w).asked (claims_of w).after (claims_of w).turned.back.extends (shelf_then _ _ _ w.l (claims_of w).asked (claims_of w).posted.back.extends (on_looked 0 w))
+    first_on =
+        shelf_then _ _ _ _ (claims_of w).asked (claims_of w).after (claims_of w).turned.back.extends
+        (shelf_then _ _ _ _ w.l (claims_of w).asked (claims_of w).posted.back.extends (on_looked 0 w))
 
     pub first_claimed : HasClaimed (claims_of w).after batch
     first_claimed = has_claimed (claims_of w).asked (claims_of w).after (claims_of w).posted.request batch (claims_of w).turned

@@ -1,5 +1,5 @@
 -- What a session finds at its desk, and that its calls are steps.
-use Rattle.std.proofs.Common.{◌≡◌, ℕ, suc, ◌+◌, ◌<◌, ◌^◌, [], length, sym, refl, ap, ◌∙◌, subst, arith, ⊎_elim, Some, None, slice_get, if◌then◌else◌}
+use Rattle.std.proofs.Common.{◌*◌, ◌≡◌, ℕ, suc, ◌+◌, ◌<◌, ◌^◌, [], length, sym, refl, ap, ◌∙◌, subst, arith, ⊎_elim, Some, None, slice_get, if◌then◌else◌}
 use mathlib.Core.Bool.{true, false}
 use Rattle.std.proofs.lemmas.Bool.{cases_lt}
 use Rattle.std.proofs.lemmas.List.{length-map}
@@ -7,7 +7,7 @@ use Rattle.std.specs.Option.{IsSome, option_and_then}
 use Rattle.ownlock.specs.Seats.{At}
 use Rattle.oplog.specs.Operations.{Operation}
 use Rattle.combiner.specs.Slots.{is_empty, slot as slot_with}
-use Rattle.combiner.specs.Desks.{DeskView, BatchView, IsBatchOf, IsAnswered, replied, batch_of, claim_refusal, claimed, collected, has_combiner, has_request, posted, with_slot}
+use Rattle.combiner.specs.Desks.{first_author, DeskView, BatchView, IsBatchOf, IsAnswered, replied, batch_of, claim_refusal, claimed, collected, has_combiner, has_request, posted, with_slot}
 use Rattle.combiner.specs.declared.slots.Slot.{Slot}
 use Rattle.combiner.specs.declared.slots.Stage.{Stage}
 use Rattle.combiner.specs.declared.slots.Stage.TheVariants.{Empty, Posted, Claimed, Answered}
@@ -41,6 +41,10 @@ pub record Own (slot : ℕ) (k : SessionKnown) (x : DeskView) (i : IsAt slot k x
 
 pub inside : (slot : ℕ) (k : SessionKnown) (x : DeskView) → IsAt slot k x → slot < length x.slots
 inside slot k x i = let lt = i.within in let long = i.agrees.slots in omega (arith, lt, long)
+
+-- its number is the slot's among those of all desks
+pub own_author : (slot : ℕ) (k : SessionKnown) (x : DeskView) → IsAt slot k x → k.session ≡ first_author x + slot
+own_author slot k x i = i.own ∙ ap (λ n. x.node * n + slot) (sym i.agrees.slots)
 
 pub own : (slot : ℕ) (k : SessionKnown) (x : DeskView) (i : IsAt slot k x) → Own slot k x i
 own slot k x i =

@@ -1,5 +1,5 @@
 -- A session posts and has a turn in one hold of its desk: what it is between the two.
-use Rattle.std.proofs.Common.{◌≡◌, ℕ, suc, ◌<◌, ◌^◌, [], length, sym, ap, ◌∙◌, subst, Some, None}
+use Rattle.std.proofs.Common.{◌≡◌, ℕ, suc, ◌<◌, ◌^◌, [], length, refl, sym, ap, ◌∙◌, subst, Some, None}
 use Rattle.std.specs.Option.{option_and_then, option_map}
 use Rattle.atomic_table.proofs.Lists.{set_here}
 use Rattle.ownlock.specs.Seats.{At}
@@ -20,22 +20,31 @@ use Rattle.replica.specs.Views.{RepliesView}
 use Rattle.store_steps.specs.declared.desks.Turn.{Turn}
 use Rattle.store_steps.specs.declared.desks.Turn.TheVariants.{Collects, Combines, Waits}
 use Rattle.store_steps.specs.AtDesk.{IsTurn}
-use Rattle.store_steps.specs.AtOnce.{FoundNoAnswer, InHolds, IsAlone, StillWaits}
+use Rattle.store_steps.specs.AtOnce.{First, FoundNoAnswer, Gave, GivesAndTurns, HasGone, IsAlone, Looked, PostsAndTurns, StillWaits, Waited}
 use Rattle.store_steps.specs.Combining.{HasAnswered, HasCombined}
 use Rattle.store_steps.specs.Lending.{desk_of, with_desk}
 use Rattle.store_steps.specs.Requests.{HasPosted, HasTurned}
 use Rattle.store_steps.specs.Standing.{IsFree, SessionKnown, StoreSeat}
-use Rattle.store_steps.specs.Updating.{Rounds, TurnsBy}
-use Rattle.store_steps.specs.Visits.{TakesNext}
+use Rattle.store_steps.specs.Updating.{Begins, Combines as CombinesIt, PostsBy, TurnsBy, Waits as WaitsIt}
+use Rattle.store_steps.specs.Whole.{AnswersBy, HandsOver}
+use Rattle.store_steps.specs.Visits.{PutsBack}
+use Rattle.store_steps.specs.Shelving.{store_rules}
+use Rattle.ownlock.specs.Knowledge.{Acquired}
+use Rattle.ownlock.specs.Seats.{TookNext}
+use Rattle.node.specs.Answering.{answered_batch}
+use Rattle.store_steps.specs.declared.steps.Shared.{Shared}
+use Rattle.store_steps.specs.Knowing.{IsOn}
 use Rattle.store_steps.proofs.Parts.{desk_put, has_desk}
-use Rattle.store_steps.proofs.Resumed.{Resumed}
+use Rattle.store_steps.proofs.Resumed.{free_back, free_then, has_claimed, resumed_combined, resumed_first, resumed_waited, shelf_then}
+use Rattle.store_steps.proofs.Stretches.{combines_by}
+use Rattle.store_steps.proofs.Tried.{combined_then}
 
 abbrev K : Type 0
 K = SessionKnown
 
 -- ---- what was posted just now has no answer
 
-posted_waits : (s : ℕ) (op : Operation) (x y : DeskView) → posted s op x ≡ Some y → collected s y ≡ None
+pub posted_waits : (s : ℕ) (op : Operation) (x y : DeskView) → posted s op x ≡ Some y → collected s y ≡ None
 posted_waits s op x y h =
     let p = posted_is s op x y h in
     let there = slot_with (Posted op) p.0.count in
@@ -72,26 +81,131 @@ asks_still k f o waits h = record {
   few = subst (λ (n : SessionNote). suc (length n.answered) < 2 ^ 64) (sym h.note) waits.1;
 }
 
+-- ---- a turn in the hold of a post, or of answers
+
+module _ (caller : Caller) (p : ℕ) (v : Value) (now new : StoreSeat) (k between again : K) (took : Acquired store_rules p between again v) (next : TookNext between.run p v again) (batch : BatchView) (turn : Turn) where
+  -- who had its desk again by the very step after that, and has had this turn there
+  abbrev Turned : Pending → Type 0
+  Turned o = (after : K) × IsSession new after × HasTurned between after o batch turn × TurnsBy between after batch turn × PutsBack again after
+
+  pub posts_turn : (op : Operation) (posted : HasPosted k between op) → PostsBy k between op → Turned posted.request → PostsAndTurns now new k op batch turn
+  posts_turn op posted posts f = record {
+    asked = between;
+    posted = posted;
+    posts = posts;
+    after = f.0;
+    is = f.1;
+    turned = f.2;
+    turns = f.3;
+    again = record { place = p; value = v; now = again; took = took; next = next; put = f.4 };
+  }
+
+  pub gives_turn : (o : Pending) (given : BatchView) (kept : RepliesView) → HasCombined k between → HandsOver caller.node k between given kept → Turned o → GivesAndTurns caller.node new k o given kept batch turn
+  gives_turn o given kept has gives f = record {
+    combined = between;
+    has = has;
+    gives = gives;
+    after = f.0;
+    is = f.1;
+    turned = f.2;
+    turns = f.3;
+    again = record { place = p; value = v; now = again; took = took; next = next; put = f.4 };
+  }
+
 -- ---- turn after turn
 
--- who asked waits still, and what it combined is handed over; the last turn was this one
-pub record Waited (s : StoreSeat) (asked : K) (o : Pending) (batch : BatchView) (turn : Turn) : Type 0 where
-  pub waited : K
-  pub resumed : Resumed asked waited
-  pub rounds : Rounds asked waited
-  pub now : K
-  pub is : IsSession s now
-  pub turned : HasTurned waited now o batch turn
-  pub turns : TurnsBy waited now batch turn
-  pub held : InHolds asked now batch turn
+-- who has claimed waits for its own answer still, and so does who has the answers of its batch
+pub claimed_waits : (t : K) (o : Pending) (b : BatchView) (m : K) → HasTurned m t o b Combines → HasAsked m o
+    → StillWaits t o
+claimed_waits t o b m h a = (
+  ap (λ (n : SessionNote). n.pending) h.turns.0
+      ∙ a.pending,
+  subst (λ (n : SessionNote). suc (length n.answered) < 2 ^ 64) (sym h.turns.0) a.few,
+)
 
--- whoever asked, and had the first of these turns, has waited so, and had the second
-abbrev pub GoesOn : Caller → StoreSeat → BatchView → Turn → StoreSeat → BatchView → Turn → Type 0
-GoesOn caller s0 b0 turn0 s b turn =
-    (asked t0 : K) (o : Pending) → IsSession s0 t0 → IsFree caller asked → HasAsked asked o → HasTurned asked t0 o b0 turn0 → TurnsBy asked t0 b0 turn0 → TakesNext asked asked t0 → Waited s asked o b turn
+pub answered_waits : (t f : K) (o : Pending) (b : BatchView) (kept : RepliesView) → StillWaits t o
+    → HasAnswered t f b kept → StillWaits f o
+answered_waits t f o b kept waits e = (
+  ap (λ (n : SessionNote). n.pending) e.note
+      ∙ waits.0,
+  subst (λ (n : SessionNote). suc (length n.answered) < 2 ^ 64) (sym e.note) waits.1,
+)
 
--- who has the answers of its batch waits for its own still
 pub still_waits : (t f : K) (o : Pending) (b : BatchView) (kept : RepliesView) (m : K) → HasTurned m t o b Combines → HasAsked m o → HasAnswered t f b kept → StillWaits f o
-still_waits t f o b kept m h a e =
-    let same : record f.note { batch = [] } ≡ record m.note { batch = [] } = e.note ∙ ap (λ (n : SessionNote). record n { batch = [] }) h.turns.0 in
-    (ap (λ (n : SessionNote). n.pending) same ∙ a.pending, subst (λ (n : SessionNote). suc (length n.answered) < 2 ^ 64) (sym same) a.few)
+still_waits t f o b kept m h a e = answered_waits t f o b kept (claimed_waits t o b m h a) e
+
+-- who has posted has had its first turn
+abbrev pub first_turn : (old new : StoreSeat) (k : K) (op : Operation) (batch : BatchView) (turn : Turn)
+    → (p : PostsAndTurns old new k op batch turn) → Waited new p.asked p.posted.request batch turn
+first_turn old new k op batch turn p = record {
+  waited = p.asked;
+  resumed = resumed_first p.asked;
+  rounds = Begins p.asked;
+  now = p.after;
+  is = p.is;
+  turned = p.turned;
+  turns = p.turns;
+  held = First p.after batch turn p.turns p.again;
+}
+
+-- who has claimed a batch has answered it, handed it over, and had this turn
+pub combined_on : (caller : Caller) (s new : StoreSeat) (asked : K) (o : Pending) (b batch : BatchView) (turn : Turn)
+    (n : HasGone s caller asked o b Combines) (a : K) (kept : RepliesView)
+    → HasAnswered n.waits.now a b kept → AnswersBy caller.node n.waits.now a b kept
+    → GivesAndTurns caller.node new a o b kept batch turn → HasGone new caller asked o batch turn
+combined_on caller s new asked o b batch turn n a kept has answers r = record {
+  free = n.free;
+  asks = n.asks;
+  waits = record {
+    waited = r.combined;
+    resumed =
+        resumed_combined caller asked w.waited w.now r.combined o b n.free n.asks w.resumed w.turned
+        (combined_then w.now a r.combined b kept has r.has);
+    rounds = CombinesIt asked w.waited w.now r.combined b (answered_batch kept b) w.rounds w.turns
+        (combines_by caller.node w.now a r.combined b kept answers r.gives has.extends r.has.extends has.stands
+        (answered_batch kept b) refl (has_claimed w.waited w.now o b w.turned).noted has.session);
+    now = r.after;
+    is = r.is;
+    turned = r.turned;
+    turns = r.turns;
+    held = Gave w.now a r.combined r.after caller.node b batch kept turn w.held answers r.gives r.turns r.again;
+  };
+}
+  where
+    w : Waited s asked o b Combines
+    w = n.waits
+
+-- who waits has had another turn
+pub waited_on : (caller : Caller) (s new : StoreSeat) (asked : K) (o : Pending) (b batch : BatchView) (turn : Turn)
+    (n : HasGone s caller asked o b Waits) (t : K) → IsSession new t → HasTurned n.waits.now t o batch turn
+    → TurnsBy n.waits.now t batch turn → HasGone new caller asked o batch turn
+waited_on caller s new asked o b batch turn n t is turned turns = record {
+  free = n.free;
+  asks = n.asks;
+  waits = record {
+    waited = w.now;
+    resumed = resumed_waited caller asked w.waited w.now o b n.free w.resumed w.turned;
+    rounds = WaitsIt asked w.waited w.now b w.rounds w.turns;
+    now = t;
+    is = is;
+    turned = turned;
+    turns = turns;
+    held = Looked w.now t b batch turn w.held turns;
+  };
+}
+  where
+    w : Waited s asked o b Waits
+    w = n.waits
+
+-- who has gone so far is free of places and on its store's shelf, at its last turn
+pub gone_free : (caller : Caller) (s : StoreSeat) (asked : K) (o : Pending) (b : BatchView) (turn : Turn)
+    (n : HasGone s caller asked o b turn) → IsFree caller n.waits.now
+gone_free caller s asked o b turn n =
+    free_back caller n.waits.waited n.waits.now (free_then caller asked n.waits.waited n.free n.waits.resumed)
+    n.waits.turned.back
+
+pub gone_on : (shared : Shared) (caller : Caller) (s : StoreSeat) (asked : K) (o : Pending) (b : BatchView)
+    (turn : Turn) (n : HasGone s caller asked o b turn) → IsOn shared asked → IsOn shared n.waits.now
+gone_on shared caller s asked o b turn n on =
+    shelf_then _ _ _ _ n.waits.waited n.waits.now n.waits.turned.back.extends
+    (shelf_then _ _ _ _ asked n.waits.waited n.waits.resumed.extends on)

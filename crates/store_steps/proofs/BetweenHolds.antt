@@ -87,7 +87,7 @@ module _ (shared : Shared) (old new : List Member) (calls : List Question) (batc
         (
           free_by own.caller claims.after a.0 a.2.session a.2.held a.2.extends free,
           a.2.ready,
-          shelf_then _ _ _ claims.after a.0 a.2.extends (first_on shared old new calls batch same count idle p first),
+          shelf_then _ _ _ _ claims.after a.0 a.2.extends (first_on shared old new calls batch same count idle p first),
           a.2.stands,
           first_waits shared old new calls batch same count idle p first a.0 kept a.2,
         ),
@@ -103,7 +103,7 @@ module _ (shared : Shared) (old new : List Member) (calls : List Question) (batc
         known_as new j q.0 member at q.1,
         subst (λ z. IsFree z q.0) (sym (same_caller j member w at)) (free_back w.member.caller w.l q.0 (free_looked shared old new calls batch same count idle p j w) q.2.back),
         asks w.l q.0 (asked_op w.q) (alone_then w.k w.l w.looked w.alone) q.2,
-        shelf_then _ _ _ w.l q.0 q.2.back.extends (on_looked shared old new calls batch same count idle p j w),
+        shelf_then _ _ _ _ w.l q.0 q.2.back.extends (on_looked shared old new calls batch same count idle p j w),
       )
 
   pub may_give : AscendEach old → MayGive shared last batch kept

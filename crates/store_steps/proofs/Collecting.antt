@@ -4,7 +4,7 @@ use lib.ListN.{get_elem?}
 use Rattle.std.proofs.lemmas.Bool.{cases_lt}
 use Rattle.atomic_table.proofs.Lists.{set_else, set_here}
 use Rattle.ownlock.proofs.Export.{one_known}
-use Rattle.ownlock.specs.Held.{held_place}
+use Rattle.ownlock.specs.Held.{IsFrom, held_place}
 use Rattle.ownlock.specs.Seats.{At, IsSession, TookNext}
 use Rattle.ownlock.specs.declared.shelf.Held.{Held}
 use Rattle.combiner.specs.Desks.{BatchView, DeskView, first_author}
@@ -26,7 +26,7 @@ use Rattle.store_steps.specs.Visits.{PutsBack, TakesNext}
 use Rattle.store_steps.specs.declared.values.Value.{Value}
 use Rattle.store_steps.specs.Standing.{IsFree, SessionKnown, StoreSeat}
 use Rattle.store_steps.proofs.Gathered.{collect_keeps, turn_collects}
-use Rattle.store_steps.proofs.Handing.{desk_is, held_there}
+use Rattle.store_steps.proofs.Handing.{desk_is}
 use Rattle.store_steps.proofs.Posting.{author_here, desk_here, known_as, set_size, set_both, set_first, set_neither, set_second}
 
 abbrev K : Type 0
@@ -90,8 +90,8 @@ module _ (shared : Shared) (old : List Member) (s0 : StoreSeat) (h0 : Held Value
     pub has : (f : K) → Starts number f → (t : K) × HasDesk at (here_of shared own) h f t
     has f b = let w = inv.holder f b in (w.1, subst (λ (z : Member). HasDesk at (here_of shared z) h f w.1) (at_one members number w.0 own w.2 at_own) w.3)
 
-    pub place_here : held_place h < shared.shelf.now.places
-    place_here = let w = has cur.0 cur.1 in held_there at (here_of shared own) h cur.0 w.0 w.1 (inv.desk own at_own)
+    pub place_here : IsFrom shared.shelf.now h
+    place_here = (inv.desk own at_own).1
 
     pub x_here : (x : DeskView) × (desk_of h.value ≡ Some x)
     x_here = let w = has cur.0 cur.1 in desk_here shared at h own cur.0 w.0 w.1 (inv.desk own at_own)
@@ -245,7 +245,12 @@ module _ (shared : Shared) (old : List Member) (s0 : StoreSeat) (h0 : Held Value
             long = ap length writes ∙ (set_size replies number reply ∙ inv.long);
             later = λ i lt. ap (λ z. get_elem? z i) sets ∙ (set_neither members n number (record after { seat = hollow }) (record own { seat = done }) i (λ e. omega (arith, e, lt)) (λ e. omega (arith, e, lt, is)) ∙ inv.later i (omega (arith, lt, is)));
             holder = holder2 o asked;
-            desk = λ member there. let same = at_one members2 n member (record after { seat = hollow }) there there_n in place2 ∙ ap (λ z. 1 + shared.nodes + z) (near ∙ ap (λ (z : Member). z.caller.node) (sym same));
+            desk = λ member there. let same =
+                at_one members2 n member (record after { seat = hollow }) there there_n in (
+                  place2.0
+                      ∙ ap (λ z. 1 + shared.nodes + z) (near ∙ ap (λ (z : Member). z.caller.node) (sym same)),
+                  place2.1,
+                );
             done = λ x j f q e lt b a. ⊎_elim
                 (λ before. before_at members2 (λ i low. ap (λ z. get_elem? z i) sets ∙ set_neither members n number (record after { seat = hollow }) (record own { seat = done }) i (λ s. omega (arith, s, low, is)) (λ s. omega (arith, s, low))) x j f q e before b a)
                 (λ not.

@@ -65,7 +65,7 @@ pub given_of : (shared : Shared) (own : Member) (batch : BatchView) (kept : Repl
     → Takes store_rules moved (1 + shared.nodes + own.caller.node) h1.value s1 → IsDesk (here_of shared own) h1 → SessionGivesThere s1 s2 (here_of shared own) h1 h2 batch kept → IsReplied h1 b h2 → b ≡ answered_batch kept batch → Given shared own batch kept s1 h1 s2 h2 b
 given_of shared own batch kept moved s1 h1 s2 h2 b split may takes place keeps replies answered =
     let t = takes may.0 (split may.0 may.1) in
-    let d = has_taken shared own s1 h1 (1 + shared.nodes + own.caller.node) may.0 t.0 t.2 may.2.0 may.2.2 place t.1 in
+    let d = has_taken shared own s1 h1 (1 + shared.nodes + own.caller.node) may.0 t.0 t.2 may.2.0 may.2.2 place.0 t.1 in
     let p = keeps may.0 t.0 d may.2.1 may.2.3 in
     let x = desk_here shared s1 h1 own may.0 t.0 d place in
     let o = replies x.0 x.1 in

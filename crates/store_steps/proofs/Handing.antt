@@ -1,5 +1,5 @@
 -- A session that holds its node's desk posts there, and settles there or hands the desk on.
-use Rattle.std.proofs.Common.{◌≡◌, ℕ, ◌+◌, ◌<◌, zero, suc, List, [], ◌∷◌, map, sym, refl, ap, ◌∙◌, subst, true, Some, arith}
+use Rattle.std.proofs.Common.{◌≡◌, ℕ, ◌+◌, zero, suc, List, [], ◌∷◌, map, sym, refl, ap, ◌∙◌, subst, true, Some, arith}
 use Rattle.ownlock.specs.Held.{held_place}
 use Rattle.ownlock.specs.Knowledge.{Acquired, MayHandOn, MayTake, Possible}
 use Rattle.ownlock.proofs.Export.{adds_on, stepped_by}
@@ -73,7 +73,7 @@ desk_is v x y a b = same_Some x y (sym a ∙ b)
 -- the session t, which was k, holds its desk
 module _ (s : StoreSeat) (here : Here) (h : Held Value) (k t : K) (d : HasDesk s here h k t) (place : IsDesk here h) where
   pub spot : held_place h ≡ desk_place k.progress.config here.caller.node
-  spot = place ∙ ap (λ n. 1 + n + here.caller.node) (sym d.on.nodes_are)
+  spot = place.0 ∙ ap (λ n. 1 + n + here.caller.node) (sym d.on.nodes_are)
 
   pub taken : TookDesk here.caller k t (held_place h) h.value
   taken = took_desk k t here.caller (held_place h) h.value d.free spot d.took
@@ -103,7 +103,7 @@ module _ (s : StoreSeat) (here : Here) (h : Held Value) (k t : K) (d : HasDesk s
         free_so = let back = has_posted_so.back in free_by here.caller k asked back.session back.held back.extends d.free
 
         pub on_so : IsOn here.shared asked
-        on_so = shelf_then _ _ _ k asked has_posted_so.back.extends d.on
+        on_so = shelf_then _ _ _ _ k asked has_posted_so.back.extends d.on
 
 -- ---- the next session
 
@@ -119,7 +119,9 @@ module _ (s : StoreSeat) (here : Here) (h : Held Value) (k t : K) (d : HasDesk s
   next_caller = record { node = here.caller.node; slot = n.slot }
 
   next_may : MayTake store_rules (held_place h) m
-  next_may = may_take_its_desk m next_caller (held_place h) n.free (place ∙ ap (λ z. 1 + z + here.caller.node) (sym n.on.nodes_are))
+  next_may =
+      may_take_its_desk m next_caller (held_place h) n.free
+      (place.0 ∙ ap (λ z. 1 + z + here.caller.node) (sym n.on.nodes_are))
 
   pub may_hand : MayHandOn store_rules (held_place h) t m []
   may_hand = (h.value, (taken s here h k t d place).held, holds_none m n.free.held, subst (λ l. store_rules.Allows m.progress m.session (held_place h ∷ map place_of l)) n.free.held next_may.1)
@@ -144,14 +146,6 @@ module _ (s : StoreSeat) (here : Here) (h : Held Value) (k t : K) (d : HasDesk s
 
       pub turns_so : TurnsBy k turned batch turn
       turns_so = turns_by here.caller k t (held_place h) h.value (taken s here h k t d place) x y is turned (stepped_by t turned (Put (held_place h) (with_desk h.value y)) refl refl on) batch turn had
-
--- the place of a desk that is held is one of the shelf
-pub held_there : (s : StoreSeat) (here : Here) (h : Held Value) (k t : K) → HasDesk s here h k t → IsDesk here h → held_place h < here.shared.shelf.now.places
-held_there s here h k t d place =
-    let near = d.free.near in
-    let nodes = d.on.nodes_are in
-    let places = d.on.places_are in
-    omega (arith, place, near, nodes, places)
 
 -- what a turn was, after which the desk is put back
 pub was_turn : (here : Here) (h : Held Value) (batch : BatchView) (turn : Turn) → ((x : DeskView) → desk_of h.value ≡ Some x → (y : DeskView) × IsTurn here.caller.slot x y batch turn) → IsTurnThere here h batch turn (λ y. Unit {0})
@@ -197,7 +191,7 @@ module _ (s : StoreSeat) (here : Here) (h : Held Value) (k t : K) (d : HasDesk s
       free_given = free_by here.caller k given has_given.session has_given.held has_given.extends d.free
 
       pub on_given : IsOn here.shared given
-      on_given = shelf_then _ _ _ k given has_given.extends d.on
+      on_given = shelf_then _ _ _ _ k given has_given.extends d.on
 
 -- ---- a look, and nothing else
 

@@ -2,8 +2,10 @@ pub mod StoreLaws
 pub mod Places
 pub mod Parts
 pub mod Doing
+pub mod Single
 pub mod Followed
 pub mod Taken
+pub mod Winning
 pub mod Played
 pub mod Exchanged
 pub mod Rooms
@@ -30,6 +32,7 @@ pub mod Turning
 pub mod Views
 pub mod PutBack
 pub mod AtOnce
+pub mod Own
 pub mod Handing
 pub mod Gathered
 pub mod Posting

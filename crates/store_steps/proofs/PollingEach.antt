@@ -142,7 +142,7 @@ on_after shared old new b kept now stage next same out out2 waits on j q at =
     let k = known_in p.0.seat p.0.caller b kept (stage_at stage j) (out.polled j p.0 p.1) in
     let f = known_in q.seat q.caller b now (stage_at next j) (out2.polled j q at) in
     let grown = subst (λ (z : SessionView × SessionView). Extends z.0.progress z.1.progress) (λ i. (seen_as p.0.seat k.0 k.1 i, seen_as q.seat f.0 f.1 i)) (waits j p.0 q p.1 at).extends in
-    (f.0, f.1, shelf_then _ _ _ k.0 f.0 grown (on_known shared p.0.seat k.0 k.1 (on j p.0 p.1)))
+    (f.0, f.1, shelf_then _ _ _ _ k.0 f.0 grown (on_known shared p.0.seat k.0 k.1 (on j p.0 p.1)))
 
 pub stays_each : (members : List Member) (b : BatchView) (kept : RepliesView) (stage : EachStage) → AreOut members b kept stage → WaitsEach members members b kept stage
 stays_each members b kept stage out j p q at_p at_q =

@@ -274,8 +274,11 @@ module _ (shared : Shared) (old : List Member) (calls : List Question) (s0 : Sto
         upto = let up = inv.upto in omega (arith, up, is);
         before = λ i lt. ap (λ z. get_elem? z i) sets ∙ (set_neither members m number (record before { seat = hollow }) (record own { seat = done }) i (λ e. omega (arith, e, lt)) (λ e. omega (arith, e, lt, is)) ∙ inv.before i (omega (arith, lt, is)));
         holder = holder2;
-        desk = λ member there. let same = at_one members2 m member (record before { seat = hollow }) there (in_two m (record before { seat = hollow }) (set_first members m number before (record before { seat = hollow }) (record own { seat = done }) m_before at_m)) in
-            place2 ∙ ap (λ n. 1 + shared.nodes + n) (near ∙ ap (λ (z : Member). z.caller.node) (sym same));
+        desk = λ member there. let same = at_one members2 m member (record before { seat = hollow }) there (in_two m (record before { seat = hollow }) (set_first members m number before (record before { seat = hollow }) (record own { seat = done }) m_before at_m)) in (
+          place2.0
+              ∙ ap (λ n. 1 + shared.nodes + n) (near ∙ ap (λ (z : Member). z.caller.node) (sym same)),
+          place2.1,
+        );
         posted = posted2;
         free = λ none y e. post_leaves_free own.caller.slot op x_here.0 y (becomes y e) (inv.free none x_here.0 x_here.1);
         asks = asks2;

@@ -14,20 +14,15 @@ use Rattle.accounts.specs.Told.{Tells}
 use Rattle.store_steps.specs.declared.desks.Turn.TheVariants.{Collects, Combines, Waits}
 use Rattle.store_steps.specs.declared.steps.Caller.{Caller}
 use Rattle.store_steps.specs.AtDesk.{HasAsked}
+use Rattle.store_steps.specs.AtOnce.{Resumed}
 use Rattle.store_steps.specs.Combining.{HasClaimed, HasCombined}
 use Rattle.store_steps.specs.Requests.{HasCompleted, HasTurned, IsBack}
 use Rattle.store_steps.specs.Standing.{IsFree, IsOnShelf, SessionKnown}
 use Rattle.store_steps.proofs.StoreLaws.{store_laws}
+use Rattle.store_steps.proofs.Taken.{shelf_on}
 
 abbrev K : Type 0
 K = SessionKnown
-
--- the session has its request still, and knows more
-pub record Resumed (k m : K) : Type 0 where
-  pub session : m.session ≡ k.session
-  pub held : m.held ≡ k.held
-  pub note : m.note ≡ k.note
-  pub extends : Extends k.progress m.progress
 
 pub resumed_first : (k : K) → Resumed k k
 resumed_first k = record { session = refl; held = refl; note = refl; extends = store_laws.extends_self k.progress }
@@ -46,8 +41,9 @@ free_then caller k m f r = free_by caller k m r.session (r.held ∙ f.held) r.ex
 pub free_back : (caller : Caller) (k m : K) → IsFree caller k → IsBack k m → IsFree caller m
 free_back caller k m f b = free_by caller k m b.session b.held b.extends f
 
-pub shelf_then : (places nodes : ℕ) (c : CatalogueView) (k m : K) → Extends k.progress m.progress → IsOnShelf places nodes c k → IsOnShelf places nodes c m
-shelf_then places nodes c k m g s = record { places_are = s.places_are; few = s.few; nodes_are = ap (λ (z : Sizes). z.nodes) (sym g.config) ∙ s.nodes_are; catalogue_is = sym g.catalogue ∙ s.catalogue_is }
+pub shelf_then : (places nodes slots : ℕ) (c : CatalogueView) (k m : K) → Extends k.progress m.progress
+    → IsOnShelf places nodes slots c k → IsOnShelf places nodes slots c m
+shelf_then places nodes slots c k m g s = shelf_on places nodes slots c k m g s
 
 pub asked_by : (k m : K) (o : Pending) → m.note ≡ k.note → HasAsked k o → HasAsked m o
 asked_by k m o note a = record {

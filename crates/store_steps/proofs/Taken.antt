@@ -173,10 +173,12 @@ free_on caller k t session held grown free = record {
   held = held;
 }
 
-pub shelf_on : (places nodes : ℕ) (c : CatalogueView) (k t : K) → Extends k.progress t.progress → IsOnShelf places nodes c k → IsOnShelf places nodes c t
-shelf_on places nodes c k t grown on = record {
+pub shelf_on : (places nodes slots : ℕ) (c : CatalogueView) (k t : K) → Extends k.progress t.progress
+    → IsOnShelf places nodes slots c k → IsOnShelf places nodes slots c t
+shelf_on places nodes slots c k t grown on = record {
   places_are = on.places_are;
   few = on.few;
   nodes_are = sym (ap (λ (z : Sizes). z.nodes) grown.config) ∙ on.nodes_are;
+  slots_are = (sym (ap (λ (z : Sizes). z.slots) grown.config) ∙ on.slots_are.0, on.slots_are.1);
   catalogue_is = sym grown.catalogue ∙ on.catalogue_is;
 }

@@ -4,7 +4,8 @@ use Rattle.ownlock.specs.Seats.{At}
 use Rattle.oplog.specs.declared.configuration.TheConstants.{ENDLESS}
 use Rattle.oplog.specs.Operations.{Operation}
 use Rattle.oplog.specs.Sessions.{session}
-use Rattle.combiner.specs.Desks.{DeskView, BatchView, batch_of, claim_refusal, claimed, collected, has_combiner, has_request}
+use Rattle.combiner.specs.Desks.{DeskView, BatchView, batch_of, claim_refusal, claimed, collected, has_combiner, has_request, only, replied}
+use Rattle.oplog.specs.declared.records.Record.{Record}
 use Rattle.combiner.specs.declared.slots.Reply.{Reply}
 use Rattle.replica.specs.StoreMeaning.{store_meaning}
 use Rattle.replica.specs.Views.{RepliesView}
@@ -86,3 +87,8 @@ abbrev pub KeepsBatch : BatchView → BatchView → Turn → Type 0
 KeepsBatch old new (Collects reply) = new ≡ old
 KeepsBatch old new Combines = Unit {0}
 KeepsBatch old new Waits = new ≡ old
+
+-- the desk x is y once it has the answer of the session's own request alone, of which these outcomes were kept
+abbrev pub IsRepliedTo : ℕ → (x y : DeskView) → RepliesView → Type 0
+IsRepliedTo slot x y kept = (k : SessionKnown) (r : Record) → IsAt slot k x → r.author ≡ k.session
+    → y ≡ replied (answered_batch kept (only r)) x

@@ -11,13 +11,14 @@ use Rattle.store_steps.specs.declared.steps.Shared.{Shared}
 use Rattle.accounts.specs.declared.sessions.Pending.{Pending}
 use Rattle.accounts.specs.Moves.{IsAtRest}
 use Rattle.replica.specs.Views.{RepliesView}
-use Rattle.store_steps.specs.AtDesk.{IsReady}
+use Rattle.accounts.specs.Accounts.{Extends}
+use Rattle.store_steps.specs.AtDesk.{HasAsked, IsReady}
 use Rattle.store_steps.specs.Combining.{HasCombined}
 use Rattle.store_steps.specs.Whole.{AnswersBy, HandsOver}
 use Rattle.store_steps.specs.Knowing.{IsOn, Knows}
 use Rattle.store_steps.specs.Requests.{HasCompleted, HasPosted, HasTurned}
 use Rattle.store_steps.specs.Standing.{SessionKnown, StoreSeat, IsFree, Stands}
-use Rattle.store_steps.specs.Updating.{CompletesBy, PostsBy, TurnsBy}
+use Rattle.store_steps.specs.Updating.{CompletesBy, PostsBy, Rounds, TurnsBy}
 use Rattle.store_steps.specs.Visits.{TakesNext}
 
 -- the session waits for no answer, combines for nobody, and has had fewer answers than a word can count
@@ -101,3 +102,42 @@ pub record AsksAtOnce (new : StoreSeat) (k : SessionKnown) (op : Operation) (rep
   pub completed : HasCompleted asked after posted.request reply
   pub completes : CompletesBy asked after reply
   pub held : UpdatesInHolds k after op reply
+
+-- ---- turn after turn
+
+-- the session has its request still, and knows more
+pub record Resumed (k m : SessionKnown) : Type 0 where
+  pub session : m.session ≡ k.session
+  pub held : m.held ≡ k.held
+  pub note : m.note ≡ k.note
+  pub extends : Extends k.progress m.progress
+
+-- who asked this has waited, and made its rounds; its last turn was this one
+pub record Waited (s : StoreSeat) (asked : SessionKnown) (o : Pending) (batch : BatchView) (turn : Turn) : Type 0 where
+  pub waited : SessionKnown
+  pub resumed : Resumed asked waited
+  pub rounds : Rounds asked waited
+  pub now : SessionKnown
+  pub is : IsSession s now
+  pub turned : HasTurned waited now o batch turn
+  pub turns : TurnsBy waited now batch turn
+  pub held : InHolds asked now batch turn
+
+-- the session of the seat, which held nothing when it asked this, has waited so
+pub record HasGone (s : StoreSeat) (caller : Caller) (asked : SessionKnown) (o : Pending) (batch : BatchView)
+    (turn : Turn) : Type 0 where
+  pub free : IsFree caller asked
+  pub asks : HasAsked asked o
+  pub waits : Waited s asked o batch turn
+
+-- it has, in this store
+abbrev pub MayGoOn : StoreSeat → Caller → Shared → BatchView → Turn → Type 0
+MayGoOn s caller shared batch turn = (asked : SessionKnown) × (o : Pending) × HasGone s caller asked o batch turn
+    × IsOn shared asked
+
+-- whoever has gone so far with the first of these turns has gone to this answer
+abbrev pub GoesOnTo : Caller → (old new : StoreSeat) → (before : BatchView) → Turn → (after : BatchView) → Reply
+    → Type 0
+GoesOnTo caller old new before turn after reply =
+    (asked : SessionKnown) (o : Pending) → HasGone old caller asked o before turn
+    → HasGone new caller asked o after (Collects reply)

@@ -24,7 +24,7 @@ LearnsBy old new Told Goes = (k : SessionKnown) → IsSession old k → (after :
 
 -- the session's store has this shelf and this catalogue
 abbrev pub IsOn : Shared → SessionKnown → Type 0
-IsOn shared k = IsOnShelf shared.shelf.now.places shared.nodes shared.catalogue.now k
+IsOn shared k = IsOnShelf shared.shelf.now.places shared.nodes shared.slots shared.catalogue.now k
 
 -- the session holds the log, which is g, with the history that it knows, which n follows; its store has the catalogue c
 pub record HasLog (k : SessionKnown) (g : LogView) (n : NodeReplica) (c : CatalogueView) : Type 0 where

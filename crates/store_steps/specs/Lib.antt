@@ -30,10 +30,13 @@ pub mod Whole
 pub mod Due
 pub mod Updating
 pub mod Visits
+-- The line of its node that a session has won.
+pub mod Winning
 -- A replica that is held and has come up.
 pub mod Ready
 -- A post and a turn, or answers and a turn, in one hold of a desk.
 pub mod AtOnce
+pub mod Alone
 -- An update by four takes whose session waits for nobody.
 pub mod Polling
 -- Updates of several sessions of one node in two holds of its desk.

@@ -1,6 +1,6 @@
 -- Sessions of one node, each with a seat of its own, which hand their node's desk from one to the next.
 use Rattle.std.specs.Prelude.{◌≡◌, ◌≢◌, ℕ, suc, ◌+◌, ◌-◌, ◌<◌, List, length, map, false, Some}
-use Rattle.ownlock.specs.Held.{held_place}
+use Rattle.ownlock.specs.Held.{IsFrom, held_place}
 use Rattle.ownlock.specs.Seats.{At, IsSession, ShelfId, TookNext}
 use Rattle.ownlock.specs.Knowledge.{Acquired}
 use Rattle.ownlock.specs.declared.shelf.Held.{Held}
@@ -39,7 +39,7 @@ use Rattle.store_steps.specs.Whole.{HandsOver}
 
 -- the held value is of the desk of this node
 abbrev pub IsDesk : Here → Held Value → Type 0
-IsDesk here h = held_place h ≡ 1 + here.shared.nodes + here.caller.node
+IsDesk here h = (held_place h ≡ 1 + here.shared.nodes + here.caller.node) × IsFrom here.shared.shelf.now h
 
 -- the seat is the session t of this slot, which was k before it took the held value
 pub record HasDesk (s : StoreSeat) (here : Here) (h : Held Value) (k t : SessionKnown) : Type 0 where

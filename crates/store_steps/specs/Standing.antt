@@ -4,10 +4,10 @@ use Rattle.loader.specs.StoreState.{sizes_of}
 use Rattle.ownlock.specs.declared.known.Known.{Known}
 use Rattle.ownlock.specs.Rules.{leader}
 use Rattle.ownlock.specs.declared.known.ShelfStep.TheVariants.{Raised}
-use Rattle.ownlock.specs.Seats.{At, IsSession, SeatView, tails_in}
+use Rattle.ownlock.specs.Seats.{At, SeatView, tails_in}
 use Rattle.loader.specs.CatalogueView.{CatalogueView, longest_part, sizes_for}
 use Rattle.oplog.specs.declared.records.Record.{Record}
-use Rattle.oplog.specs.declared.configuration.TheConstants.{ENDLESS, MAX_NODES}
+use Rattle.oplog.specs.declared.configuration.TheConstants.{ENDLESS, MAX_NODES, MAX_NODE_SLOTS}
 use Rattle.oplog.specs.Logs.{Log as LogView, tail_of, left_of, room_in}
 use Rattle.oplog.specs.History.{History, state_after}
 use Rattle.oplog.specs.Sessions.{IsSessionOf, session}
@@ -92,16 +92,14 @@ pub record IsFree (caller : Caller) (k : SessionKnown) : Type 0 where
   pub near : caller.node < k.progress.config.nodes
   pub held : k.held ≡ []
 
--- the session's store has this catalogue and so many nodes, each with a replica and a desk on the shelf after the log
-pub record IsOnShelf (places nodes : ℕ) (c : CatalogueView) (k : SessionKnown) : Type 0 where
+-- the session's store has this catalogue and so many nodes, each with so many slots, and with a replica and a desk on
+-- the shelf after the log
+pub record IsOnShelf (places nodes slots : ℕ) (c : CatalogueView) (k : SessionKnown) : Type 0 where
   pub places_are : places ≡ 1 + nodes + nodes
   pub few : nodes ≤ MAX_NODES
   pub nodes_are : k.progress.config.nodes ≡ nodes
+  pub slots_are : (k.progress.config.slots ≡ slots) × (slots ≤ MAX_NODE_SLOTS)
   pub catalogue_is : k.progress.catalogue ≡ c
-
--- the seat is one session, that of the caller's slot, which holds nothing
-abbrev pub IsThere : StoreSeat → Caller → (places nodes : ℕ) → CatalogueView → Type 0
-IsThere s caller places nodes c = (k : SessionKnown) × IsSession s k × IsFree caller k × IsOnShelf places nodes c k
 
 -- ---- what its calls leave
 
@@ -142,12 +140,14 @@ pub record HasPlace (k after : SessionKnown) (want : ℕ) (g h : LogView) (n : N
   pub room : min want (left_of h) ≤ room_in h
 
 -- the log was taken and put back with the first of these records, all of them where the history may have so many, whose places the
--- session notes and for which outcomes are to be kept; the hand of n has what its replica has still to apply
+-- session notes and for which outcomes are to be kept: the history ends with them; the hand of n has what its replica
+-- has still to apply
 pub record HasAppended (k after : SessionKnown) (records : History) (kept : RepliesView) (n : NodeReplica) : Type 0 where
   pub goes : GoesOn k after
   pub stands : Stands after
   pub rest : HasOthers after.progress n
   pub count : length kept.outcomes ≤ length records
+  pub last : kept.first + length kept.outcomes ≡ length after.progress.history
   pub within : kept.first + length kept.outcomes ≤ ENDLESS
   pub above : n.replica.tail ≤ kept.first
   pub note : after.note ≡ record k.note { batch = placed_from kept.first (length kept.outcomes) (unplaced records) }

@@ -4,16 +4,18 @@ ghost use Rattle.std.specs.Prelude.{◌≡◌, true, IfNone, IfSome};
 ghost use Rattle.ownlock.specs.Seats.{IsSession};
 ghost use Rattle.verifier.specs.declared.refusal.Mode.TheVariants.{Update};
 ghost use Rattle.replica.specs.StoreMeaning.{is_operation};
-ghost use Rattle.store_steps.specs.AtOnce.{AsksAtOnce, FoundNoAnswer, MayAsk, MayHandOver, PostsAndTurns, SessionGives};
+ghost use Rattle.store_steps.specs.AtOnce.{AsksAtOnce, FoundNoAnswer, GoesOnTo, MayAsk, MayGoOn, MayHandOver, PostsAndTurns, SessionGives};
 ghost use Rattle.store_steps.specs.Standing.{SessionKnown};
 
+use crate::alone::ask;
 use crate::batches::Room;
 use crate::combining::append_and_replay;
 use crate::desks;
 use crate::desks::Turn;
-use crate::pauses::Waiting;
+use crate::pauses::{By, Waiting};
 use crate::requests::{turn, watch};
 use crate::steps::Here;
+use crate::taking::{let_line_go, win_line};
 use crate::values::Value;
 use crate::visits::{try_take_desk, turn_and_put};
 use combiner::{Batch, Reply};
@@ -40,12 +42,12 @@ pub fn try_post_and_turn(
     ensures turned { IfSome result (λ turn. (k : SessionKnown) → IsSession seat.old k → PostsAndTurns seat.old seat.new k op.now batch.new turn) }
     ensures fresh { IfSome result FoundNoAnswer }
 {
-    let Some(mut held) = try_take_desk(here, seat) else {
+    let Some(mut held) = try_take_desk(here, seat, None) else {
         return None;
     };
     desks::post(held.value.desk_mut(), here.caller.slot, op);
     let again = here.shared.shelf.settle::<Brand>(seat, held);
-    Some(turn_and_put(here, seat, again, batch))
+    Some(turn_and_put(here, seat, again, batch, None))
 }
 
 /// Answers the requests of the batch at the desk of the caller's node, by the outcomes that were kept of it, and has a turn there in the same hold: it
@@ -63,17 +65,17 @@ pub fn try_hand_over_and_turn(
     ensures stays { IfNone result ((seat.new ≡ seat.old) × (batch.new ≡ batch.old)) }
     ensures turned { IfSome result (SessionGives here.entry.caller.node seat.old seat.new batch.old replies.now batch.new) }
 {
-    let Some(mut held) = try_take_desk(here, seat) else {
+    let Some(mut held) = try_take_desk(here, seat, None) else {
         return None;
     };
     desks::reply(held.value.desk_mut(), batch, replies);
     let again = here.shared.shelf.settle::<Brand>(seat, held);
-    Some(turn_and_put(here, seat, again, batch))
+    Some(turn_and_put(here, seat, again, batch, None))
 }
 
 // `try_post_and_turn`, but waits while another session holds the desk.
 #[inline(always)]
-fn post_and_turn<R: Wait>(
+pub(crate) fn post_and_turn<R: Wait>(
     rt: &R,
     here: Here<'_>,
     seat: &mut Seat<Value>,
@@ -128,22 +130,21 @@ fn hand_over_and_turn<R: Wait>(
     unreachable!()
 }
 
-/// A whole update by four takes: the session posts and claims in one hold of the desk, and answers its batch and collects its own answer in
-/// another. While another session combines, it waits as [`complete`](crate::complete) does.
-pub fn ask_at_once<R: Wait>(
+// A session that has asked, and has had this turn, goes on to its answer: it combines what it has claimed, and has turn after turn.
+#[inline(always)]
+fn go_on<R: Wait>(
     rt: &R,
     here: Here<'_>,
     seat: &mut Seat<Value>,
-    op: &OpRef<'_>,
     room: &mut Room,
+    had: Turn,
 ) -> Reply
     requires own { seat.old.shelf ≡ here.shared.shelf.now.id }
-    requires idle { MayAsk seat.old here.caller here.shared }
-    requires update { is_operation Update here.shared.catalogue.now op.now ≡ true }
+    requires waited { MayGoOn seat.old here.caller here.shared room.old.batch had }
     ensures same { seat.new.shelf ≡ seat.old.shelf }
-    ensures asked { (k : SessionKnown) → IsSession seat.old k → AsksAtOnce seat.new k op.now result }
+    ensures answered { GoesOnTo here.entry.caller seat.old seat.new room.old.batch had room.new.batch result }
 {
-    let mut at = post_and_turn(rt, here, seat, op, &mut room.batch);
+    let mut at = had;
     for _ in rt.forever() {
         match at {
             Turn::Collects(reply) => return reply,
@@ -168,4 +169,32 @@ pub fn ask_at_once<R: Wait>(
         }
     }
     unreachable!()
+}
+
+/// A whole update by four takes: the session posts and claims in one hold of the desk, and answers its batch and collects its own answer in
+/// another. Where no other session is at its node, it wins the line of the node first, and its takes and puts there are looks; and where no other
+/// request is at the desk, its batch is its own request, which stays where its caller has it. While another session combines, it waits
+/// as [`complete`](crate::complete) does.
+#[inline(always)]
+pub fn ask_at_once<R: Wait>(
+    rt: &R,
+    here: Here<'_>,
+    seat: &mut Seat<Value>,
+    op: &OpRef<'_>,
+    room: &mut Room,
+) -> Reply
+    requires own { seat.old.shelf ≡ here.shared.shelf.now.id }
+    requires idle { MayAsk seat.old here.caller here.shared }
+    requires update { is_operation Update here.shared.catalogue.now op.now ≡ true }
+    ensures same { seat.new.shelf ≡ seat.old.shelf }
+    ensures asked { (k : SessionKnown) → IsSession seat.old k → AsksAtOnce seat.new k op.now result }
+{
+    let mut won = win_line(here, seat);
+    let by = By { won: &mut won, rt };
+    let at = ask(by, here, seat, op, room);
+    let_line_go(here, seat, &mut won);
+    match at {
+        Turn::Collects(reply) => reply,
+        at => go_on(rt, here, seat, room, at),
+    }
 }

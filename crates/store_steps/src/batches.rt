@@ -70,10 +70,18 @@ impl Room {
         ensures room { (self.new.batch ≡ self.old.batch) × (self.new.replies ≡ self.old.replies) }
     {
         if self.batch.records().len() == 1 {
-            self.singles = self.singles.wrapping_add(1);
+            self.count_single();
         } else {
             self.count_shared();
         }
+    }
+
+    // Counts a batch of one request.
+    #[inline(always)]
+    pub(crate) fn count_single(&mut self)
+        ensures room { (self.new.batch ≡ self.old.batch) × (self.new.replies ≡ self.old.replies) }
+    {
+        self.singles = self.singles.wrapping_add(1);
     }
 
     // Counts a batch of several requests.

@@ -7,65 +7,71 @@ ghost use Rattle.store_steps.specs.Combining.{HasClaimed, SessionAnswers, Sessio
 ghost use Rattle.store_steps.specs.Knowing.{IsOn, Knows, Learns};
 ghost use Rattle.store_steps.specs.Standing.{Stands, IsFree};
 ghost use Rattle.store_steps.specs.Trying.{IsStill};
+ghost use Rattle.store_steps.specs.Winning.{IsWonBy};
 
+use crate::claimed::Claimed;
 use crate::desks;
 use crate::pauses::Waiting;
-use crate::steps::{Here, Shared, replay_and_raise, try_append_and_copy};
+use crate::steps::{Due, Here, Reach, replay_and_raise, try_append_and_copy};
+use crate::taking::take_replica;
 use crate::values::Value;
 use crate::visits::try_take_desk;
 use combiner::Batch;
-use ownlock::{LEADER, Seat};
+use ownlock::{LEADER, Seat, Won};
 use replica::Replies;
 use std::marker::Brand;
 use std::sync::Wait;
 
-// Appends the requests that the session claimed, and brings the replica of its node up to them: the replies that are lent have then what
-// their programs answer. It goes on with `hand_over`. Where another session holds the replica or the log, it answers that place: the
+// Appends the requests that the session claimed, and brings the replica of its node up to them: what their programs answer is
+// kept then. It goes on with `hand_over`. Where another session holds the replica or the log, it answers that place: the
 // session holds nothing then, and its requests are as they were.
 #[inline(always)]
-pub(crate) fn try_combine(
+pub(crate) fn try_combine<C: Claimed>(
     here: Here<'_>,
     seat: &mut Seat<Value>,
-    batch: &Batch,
-    replies: &mut Replies,
+    requests: &C,
+    replies: &mut C::Kept,
+    won: Option<&Won>,
 ) -> Result<(), usize>
     requires own { seat.old.shelf ≡ here.shared.shelf.now.id }
-    requires claimed { Knows seat.old (λ k. IsFree here.caller k × HasClaimed k batch.now × IsOn here.shared k) }
+    requires claimed { Knows seat.old (λ k. IsFree here.caller k × HasClaimed k (C.batch requests.now) × IsOn here.shared k) }
+    requires by { IfSome won (λ w. IsWonBy here w.now) }
     ensures same { seat.new.shelf ≡ seat.old.shelf }
     ensures held { IfErr result (λ place. place < here.entry.shared.shelf.now.places) }
     ensures stays { IfErr result (λ _. Learns seat.old seat.new IsStill) }
-    ensures combined { IfOk result (λ _. SessionAnswers here.entry.caller.node seat.old seat.new batch.now replies.new) }
+    ensures combined { IfOk result (λ _. SessionAnswers here.entry.caller.node seat.old seat.new (C.batch requests.now) (C.kept replies.new)) }
 {
-    let Shared { shelf, .. } = here.shared;
-    let Some(mut held) = shelf.try_take(seat, 1 + here.caller.node) else {
+    let shared = here.shared;
+    let Some(mut held) = take_replica(here, seat, won) else {
         return Err(1 + here.caller.node);
     };
     let node = held.value.replica_mut();
-    let Some(due) = try_append_and_copy(here.shared, seat, node, &batch.records(), replies) else {
-        shelf.put::<Brand>(seat, held);
+    let reach = Reach { shared, won };
+    let Some(owed) = try_append_and_copy(reach, seat, node, requests, replies) else {
+        shared.shelf.put_by::<Brand>(seat, held, won);
         return Err(LEADER);
     };
-    replay_and_raise(here.shared, seat, node, &due, replies);
-    shelf.put::<Brand>(seat, held);
+    replay_and_raise(shared, seat, node, &Due { owed, requests }, replies);
+    shared.shelf.put_by::<Brand>(seat, held, won);
     Ok(())
 }
 
-// `try_combine`, but waits for the place that another session holds, and pauses then.
+// `try_combine`, but waits where another session holds a place, and pauses then.
 #[inline(always)]
-pub(crate) fn append_and_replay<R: Wait>(
+pub(crate) fn append_and_replay<R: Wait, C: Claimed>(
     waiting: Waiting<'_, '_, R>,
     here: Here<'_>,
     seat: &mut Seat<Value>,
-    batch: &Batch,
-    replies: &mut Replies,
+    requests: &C,
+    replies: &mut C::Kept,
 )
     requires own { seat.old.shelf ≡ here.shared.shelf.now.id }
-    requires claimed { Knows seat.old (λ k. IsFree here.caller k × HasClaimed k batch.now × IsOn here.shared k) }
+    requires claimed { Knows seat.old (λ k. IsFree here.caller k × HasClaimed k (C.batch requests.now) × IsOn here.shared k) }
     ensures same { seat.new.shelf ≡ seat.old.shelf }
-    ensures combined { SessionAnswers here.entry.caller.node seat.old seat.new batch.now replies.new }
+    ensures combined { SessionAnswers here.entry.caller.node seat.old seat.new (C.batch requests.now) (C.kept replies.new) }
 {
     for _ in waiting.rt.forever() {
-        match try_combine(here, seat, batch, replies) {
+        match try_combine(here, seat, requests, replies, None) {
             Ok(()) => return,
             Err(place) => {
                 here.shared.shelf.wait(waiting.rt, seat, place);
@@ -112,7 +118,7 @@ pub(crate) fn try_hand_over(
     ensures answered { IfSome result (λ _. batch.new ≡ answered_batch replies.now batch.old) }
     ensures handed { IfSome result (λ _. SessionHandsOver here.entry.caller.node seat.old seat.new batch.old replies.now) }
 {
-    let Some(mut held) = try_take_desk(here, seat) else {
+    let Some(mut held) = try_take_desk(here, seat, None) else {
         return None;
     };
     desks::reply(held.value.desk_mut(), batch, replies);

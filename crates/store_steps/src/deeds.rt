@@ -78,7 +78,7 @@ fn run_claimed(
     ensures same { seat.new.shelf ≡ seat.old.shelf }
     ensures gone { HasGone DeedGoes seat.old seat.new here.entry.caller batch.now replies.new stage.new result }
 {
-    let Ok(()) = try_combine(here, seat, batch, replies) else {
+    let Ok(()) = try_combine(here, seat, batch, replies, None) else {
         return Deed::Busy;
     };
     *stage = Stage::Ready;

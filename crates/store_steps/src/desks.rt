@@ -2,16 +2,19 @@
 //! memory.
 
 ghost use Rattle.std.specs.Prelude.{◌≡◌, ℕ, [], Some, None};
-ghost use Rattle.combiner.specs.Desks.{posted, replied};
+ghost use Rattle.combiner.specs.Desks.{IsOnlyAt, only, posted, replied};
+ghost use Rattle.oplog.specs.declared.records.Record.{Record};
 ghost use Rattle.replica.specs.StoreMeaning.{store_meaning};
 ghost use Rattle.accounts.specs.declared.sessions.Pending.{Pending};
 ghost use Rattle.node.specs.Answering.{answered_batch};
-ghost use Rattle.store_steps.specs.AtDesk.{IsAt, IsClaim, IsReady, HasAsked, IsTurn, MayPost, PostSteps, TurnSteps, KeepsBatch, Steps};
+ghost use Rattle.store_steps.specs.AtDesk.{IsAt, IsClaim, IsReady, IsRepliedTo, HasAsked, IsTurn, MayPost, PostSteps, TurnSteps, KeepsBatch, Steps};
 ghost use Rattle.store_steps.specs.Standing.{SessionKnown};
+ghost use Rattle.store_steps.specs.declared.desks.Turn.TheVariants.{Combines};
 
+use crate::claimed::OneReply;
 use combiner::{Batch, Desk, Reply};
 use node::answer_batch;
-use oplog::OpRef;
+use oplog::{NewRecord, OpRef};
 use replica::Replies;
 
 /// What a session did that looked for the answer to its request.
@@ -64,6 +67,28 @@ pub fn reply(desk: &mut Desk, batch: &mut Batch, replies: &Replies)
 {
     answer_batch(batch, replies);
     desk.reply(batch);
+}
+
+/// Claims the request of the session's slot, which is the only one without an answer: as a record, whose operation lies where its caller has it.
+#[inline(always)]
+pub(crate) fn claim_only<'a>(desk: &mut Desk, slot: usize, op: &'a OpRef<'a>) -> NewRecord<'a>
+    requires own { (k : SessionKnown) × (o : Pending) × IsAt slot k desk.old × HasAsked k o }
+    requires only { IsOnlyAt slot op.now desk.old }
+    ensures turn { IsTurn slot desk.old desk.new (only result) Combines }
+    ensures own { (k : SessionKnown) → IsAt slot k desk.old → result.author ≡ k.session }
+{
+    let author = desk.author(slot);
+    let seq = desk.claim_only(slot);
+    NewRecord { author, seq, op }
+}
+
+/// [`reply`] to the only request that is claimed, the session's own: with the answer of what was kept of it.
+#[inline(always)]
+pub(crate) fn reply_only(desk: &mut Desk, slot: usize, replies: &OneReply)
+    requires own { (k : SessionKnown) × (r : Record) × IsAt slot k desk.old × IsReady k (only r) replies.now × (r.author ≡ k.session) }
+    ensures replied { IsRepliedTo slot desk.old desk.new replies.now }
+{
+    desk.reply_only(slot, replies.reply());
 }
 
 // Claims the posted requests, if nobody combines.

@@ -2,8 +2,10 @@
 //! back in a call. `store` makes these calls for its sessions.
 #![tactic(auto)]
 
+mod alone;
 mod at_once;
 mod batches;
+mod claimed;
 mod combining;
 mod deeds;
 mod describing;
@@ -21,6 +23,7 @@ mod requests;
 mod scanning;
 mod snapshots;
 mod steps;
+mod taking;
 mod values;
 mod visits;
 

@@ -14,6 +14,7 @@ ghost use Rattle.store_steps.specs.Standing.{SessionKnown};
 use crate::desks;
 use crate::desks::Turn;
 use crate::steps::Here;
+use crate::taking::take_desk;
 use crate::values::Value;
 use combiner::Batch;
 use oplog::OpRef;
@@ -127,9 +128,8 @@ pub(crate) fn try_take_free(here: Here<'_>, seat: &mut Seat<Value>) -> Result<He
     ensures free { IfOk result HasNoCombiner }
     ensures taken { IfOk result (SessionTakes seat.old seat.new here.entry) }
 {
-    let desk = 1 + here.shared.nodes + here.caller.node;
-    let Some(held) = here.shared.shelf.try_take(seat, desk) else {
-        return Err(desk);
+    let Some(held) = take_desk(here, seat, None) else {
+        return Err(1 + here.shared.nodes + here.caller.node);
     };
     if held.value.desk().claimed() {
         here.shared.shelf.put::<Brand>(seat, held);

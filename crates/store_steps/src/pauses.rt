@@ -1,5 +1,6 @@
 // How long a session pauses while it waits for another one.
 
+use ownlock::Won;
 use std::hint;
 
 // How often the longest pause spins. It takes some ten microseconds.
@@ -35,7 +36,15 @@ impl Pauses {
     }
 }
 
-/// How a session waits: by this runtime, and with these pauses.
+/// By what a session goes on: the line of its node, if it has won that, and the runtime by which it waits. It lets the line go before it waits. (In a
+/// contract `exit.0` is the line as it is left.)
+#[derive(Drop)]
+pub(crate) struct By<'w, 'r, R> {
+    pub(crate) won: &'w mut Option<Won>,
+    pub(crate) rt: &'r R,
+}
+
+/// How a session waits.
 #[derive(Drop)]
 pub(crate) struct Waiting<'r, 'p, R> {
     pub(crate) rt: &'r R,

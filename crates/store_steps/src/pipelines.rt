@@ -20,6 +20,7 @@ use crate::passing::{
 use crate::pauses::Waiting;
 use crate::requests::watch;
 use crate::steps::{Caller, Here, Question, Shared};
+use crate::taking::take_desk;
 use crate::values::Value;
 use crate::visits::turn_and_put;
 use combiner::{Batch, Reply};
@@ -131,7 +132,7 @@ fn collect_each(
         shared,
         caller: own.caller,
     };
-    replies[last] = reply_of(turn_and_put(here, &mut at, held, batch));
+    replies[last] = reply_of(turn_and_put(here, &mut at, held, batch, None));
     own.seat = at;
 }
 
@@ -194,7 +195,7 @@ fn claim_first(
         caller: own.caller,
     };
     let held = post_and_settle(here, &mut at, held, op);
-    match turn_and_put(here, &mut at, held, batch) {
+    match turn_and_put(here, &mut at, held, batch, None) {
         Turn::Combines => {}
         Turn::Collects(_) | Turn::Waits => unreachable!(),
     }
@@ -223,10 +224,7 @@ pub(crate) fn try_give_each(
         shared,
         caller: own.caller,
     };
-    let Some(held) = shared
-        .shelf
-        .try_take(&mut at, 1 + shared.nodes + here.caller.node)
-    else {
+    let Some(held) = take_desk(here, &mut at, None) else {
         own.seat = at;
         return None;
     };
@@ -288,13 +286,8 @@ fn combine_each<R: Wait>(
     };
     let own = &mut room.combining;
     let pauses = &mut own.pauses;
-    append_and_replay(
-        Waiting { rt, pauses },
-        here,
-        &mut first.seat,
-        &own.batch,
-        &mut own.replies,
-    );
+    let waiting = Waiting { rt, pauses };
+    append_and_replay(waiting, here, &mut first.seat, &own.batch, &mut own.replies);
     room.combining.count_batch();
     room.combining.pauses.shorten();
 }

@@ -75,7 +75,7 @@ fn run_first(
         caller: first.caller,
     };
     let Room { batch, replies, .. } = &mut room.combining;
-    let Ok(()) = try_combine(here, &mut first.seat, batch, replies) else {
+    let Ok(()) = try_combine(here, &mut first.seat, batch, replies, None) else {
         return None;
     };
     room.combining.count_batch();

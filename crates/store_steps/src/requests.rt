@@ -30,7 +30,7 @@ pub fn try_post(here: Here<'_>, seat: &mut Seat<Value>, op: &OpRef<'_>) -> Optio
     ensures stays { IfNone result (seat.new ≡ seat.old) }
     ensures posted { IfSome result (λ _. SessionPosts seat.old seat.new op.now) }
 {
-    let Some(mut held) = try_take_desk(here, seat) else {
+    let Some(mut held) = try_take_desk(here, seat, None) else {
         return None;
     };
     desks::post(held.value.desk_mut(), here.caller.slot, op);
@@ -70,10 +70,10 @@ pub(crate) fn try_turn(here: Here<'_>, seat: &mut Seat<Value>, batch: &mut Batch
     ensures stays { IfNone result ((seat.new ≡ seat.old) × (batch.new ≡ batch.old)) }
     ensures turned { IfSome result (λ turn. SessionTurns seat.old seat.new batch.new turn) }
 {
-    let Some(held) = try_take_desk(here, seat) else {
+    let Some(held) = try_take_desk(here, seat, None) else {
         return None;
     };
-    Some(turn_and_put(here, seat, held, batch))
+    Some(turn_and_put(here, seat, held, batch, None))
 }
 
 // `try_turn`, but waits while another session holds the desk.
@@ -137,13 +137,8 @@ pub fn complete<R: Wait>(rt: &R, here: Here<'_>, seat: &mut Seat<Value>, room: &
             Turn::Collects(reply) => return reply,
             Turn::Combines => {
                 let pauses = &mut room.pauses;
-                combine(
-                    Waiting { rt, pauses },
-                    here,
-                    seat,
-                    &mut room.batch,
-                    &mut room.replies,
-                );
+                let waiting = Waiting { rt, pauses };
+                combine(waiting, here, seat, &mut room.batch, &mut room.replies);
                 room.count_batch();
                 room.pauses.shorten();
             }

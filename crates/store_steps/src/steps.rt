@@ -15,21 +15,19 @@ ghost use Rattle.store_steps.specs.Knowing.{HasLog, HasReplica, IsOn, Knows, Lea
 ghost use Rattle.store_steps.specs.Standing.{Stands, IsFree, HasOthers, HasRaised, HasAppended, HasReplayed};
 ghost use Rattle.store_steps.specs.Trying.{IsStill};
 ghost use Rattle.store_steps.specs.Ready.{HoldsReady, MayBegin, SessionFollows};
-ghost use Rattle.ownlock.specs.Held.{held_place};
+ghost use Rattle.ownlock.specs.Held.{IsBy, IsFrom, held_place};
 ghost use Rattle.store_steps.specs.Rooms.{FreesRoom, IsBaseDue, IsHalfBefore, Owes, caught_up};
-ghost use Rattle.store_steps.specs.Due.{IsDue, SessionAppends, SessionMakesRoom, SessionReplays};
+ghost use Rattle.store_steps.specs.Due.{IsDue, SessionAppends, ReplaysDue, SessionMakesRoom};
 
+use crate::claimed::Claimed;
+use crate::taking::{take_log, take_replica};
 use crate::values::Value;
 use loader::Catalogue;
 use maps::Shape;
-use node::{
-    NodeReplica, append_only, copy, exchange, follow, may_rebase, rebase, reclaim, replay_first,
-    replay_with,
-};
-use oplog::{LogState, MAX_NODES, MAX_SESSIONS, Records};
-use ownlock::{Held, LEADER, Seat, Shelf};
+use node::{NodeReplica, copy, exchange, follow, may_rebase, rebase, reclaim, replay_first};
+use oplog::{LogState, MAX_NODES, MAX_SESSIONS};
+use ownlock::{Held, LEADER, Seat, Shelf, Won};
 use readpath::ready;
-use replica::Replies;
 use std::marker::Brand;
 
 /// What all sessions of a store share.
@@ -73,6 +71,13 @@ pub struct Question<'a> {
     pub argument: &'a [u8],
     /// A program, by its number.
     pub program: u16,
+}
+
+/// What a session of a store reaches: what it shares with the others, and the line of its node, if it has won that.
+#[derive(Clone, Copy)]
+pub(crate) struct Reach<'a> {
+    pub(crate) shared: Shared<'a>,
+    pub(crate) won: Option<&'a Won>,
 }
 
 // Raises the completed tail to this one, which the history has reached. The session may hold the log meanwhile.
@@ -272,11 +277,11 @@ fn make_room(
 }
 
 // What a replica has still to apply: of the records in its hand the first, so many, which bring it back to what it was, then the others, and
-// then those that its session has appended.
+// then those that its session has appended of these requests.
 #[derive(Drop)]
-pub(crate) struct Due<'a> {
-    owed: usize,
-    appended: Records<'a>,
+pub(crate) struct Due<'a, C> {
+    pub(crate) owed: usize,
+    pub(crate) requests: &'a C,
 }
 
 // Applies the first of the records in the hand to the replica, so many.
@@ -291,56 +296,55 @@ fn replay_owed(node: &mut NodeReplica, catalogue: &Catalogue, owed: usize)
     }
 }
 
-// Takes the log, makes room and appends as many of the records as the history may still have, and puts the log back. It answers what the replica
-// has still to apply then. The replies that are lent keep the places of those that were appended. Where another session holds the log it
-// answers `None`, and nothing has changed.
+// Takes the log, makes room and appends as many of the requests as the history may still have, and puts the log back. It answers how many records
+// lead the replica back to what it was. The places of those that were appended are kept. Where another session holds the log it answers `None`, and
+// nothing has changed.
 #[inline(always)]
-pub(crate) fn try_append_and_copy<'a>(
-    shared: Shared<'_>,
+pub(crate) fn try_append_and_copy<C: Claimed>(
+    reach: Reach<'_>,
     seat: &mut Seat<Value>,
     node: &mut NodeReplica,
-    records: &Records<'a>,
-    replies: &mut Replies,
-) -> Option<Due<'a>>
-    requires own { seat.old.shelf ≡ shared.shelf.now.id }
-    requires there { 0 < shared.shelf.now.places }
-    requires few { length records.now ≤ 16 }
-    requires holds { Knows seat.old (λ k. HasReplica k node.old shared.catalogue.now × (k.note.batch ≡ unplaced records.now)) }
+    requests: &C,
+    replies: &mut C::Kept,
+) -> Option<usize>
+    requires own { seat.old.shelf ≡ reach.shared.shelf.now.id }
+    requires there { 0 < reach.shared.shelf.now.places }
+    requires holds { Knows seat.old (λ k. HasReplica k node.old reach.shared.catalogue.now × (k.note.batch ≡ unplaced (C.batch requests.now).records)) }
+    requires by { IfSome reach.won (λ w. IsBy reach.shared.shelf.now w.now seat.old) }
     ensures same { seat.new.shelf ≡ seat.old.shelf }
     ensures stays { IfNone result ((seat.new ≡ seat.old) × (node.new ≡ node.old)) }
-    ensures next { IfSome result (λ due. IsNext shared.entry.catalogue.now node.new × (due.owed ≤ length node.new.hand.records)) }
-    ensures appended { IfSome result (λ due. SessionAppends shared.entry.catalogue.now due seat.old seat.new node.old node.new records.now replies.new) }
+    ensures next { IfSome result (λ owed. IsNext reach.entry.shared.catalogue.now node.new × (owed ≤ length node.new.hand.records)) }
+    ensures appended { IfSome result (SessionAppends reach.entry.shared seat.old seat.new node.old node.new (C.batch requests.now) (C.kept replies.new)) }
 {
-    let Some(mut held) = shared.shelf.try_take(seat, LEADER) else {
+    let Reach { shared, won } = reach;
+    let Some(mut held) = take_log(shared.shelf, seat, won) else {
         return None;
     };
     let log = held.value.log_mut();
-    let wanted = records.len();
+    let wanted = requests.count();
     let owed = make_room(shared, seat, log, node, wanted);
-    append_only(log, records, replies);
-    shared.shelf.put::<Brand>(seat, held);
-    let count = replies.len();
-    let appended = records.first(count);
-    Some(Due { owed, appended })
+    requests.append(log, replies);
+    shared.shelf.put_by::<Brand>(seat, held, won);
+    Some(owed)
 }
 
 // Replays what the replica has still to apply, and raises the completed tail to the replica's.
 #[inline(always)]
-pub(crate) fn replay_and_raise(
+pub(crate) fn replay_and_raise<C: Claimed>(
     shared: Shared<'_>,
     seat: &mut Seat<Value>,
     node: &mut NodeReplica,
-    due: &Due<'_>,
-    replies: &mut Replies,
+    due: &Due<'_, C>,
+    kept: &mut C::Kept,
 )
     requires own { seat.old.shelf ≡ shared.shelf.now.id }
     requires next { IsNext shared.catalogue.now node.old × (due.now.owed ≤ length node.old.hand.records) }
-    requires known { Knows seat.old (IsDue shared.catalogue.now due.now node.old) }
+    requires known { Knows seat.old (IsDue shared.catalogue.now due.now.owed (C.batch due.now.requests.now).records (C.kept kept.old) node.old) }
     ensures same { seat.new.shelf ≡ seat.old.shelf }
-    ensures replayed { SessionReplays shared.entry.catalogue.now due.now seat.old seat.new node.old node.new replies.old replies.new }
+    ensures replayed { ReplaysDue shared.entry due.now.owed (C.batch due.now.requests.now) seat.old seat.new node.old node.new (C.kept kept.old) (C.kept kept.new) }
 {
     replay_owed(node, shared.catalogue, due.owed);
-    replay_with(node, &due.appended, shared.catalogue, replies);
+    due.requests.replay(node, shared.catalogue, kept);
     let replayed = node.replica.tail();
     raise_to(shared.shelf, seat, replayed);
 }
@@ -370,7 +374,7 @@ fn try_follow_log<A: Asked>(
     ensures stays { IfNone result ((seat.new ≡ seat.old) × (node.new ≡ node.old)) }
     ensures reached { IfSome result (λ _. SessionFollows A.read seat.old seat.new node.old node.new) }
 {
-    let Some(held) = shelf.try_take(seat, LEADER) else {
+    let Some(held) = take_log(shelf, seat, None) else {
         return None;
     };
     let log = held.value.log();
@@ -398,7 +402,7 @@ pub(crate) fn try_hold_ready<A: Asked, L>(
     ensures held { IfErr result (λ place. place < here.entry.shared.shelf.now.places) }
     ensures stays { IfErr result (λ _. Learns seat.old seat.new IsStill) }
     ensures place { IfOk result (λ h. held_place h ≡ 1 + here.entry.caller.node) }
-    ensures there { IfOk result (λ h. held_place h < here.entry.shared.shelf.now.places) }
+    ensures there { IfOk result (IsFrom here.entry.shared.shelf.now) }
     ensures ready { IfOk result (λ h. Learns seat.old seat.new (λ k after. HoldsReady A.read k after (1 + here.entry.caller.node) h.value)) }
 {
     let Shared {
@@ -406,7 +410,7 @@ pub(crate) fn try_hold_ready<A: Asked, L>(
         catalogue,
         ..
     } = here.shared;
-    let Some(mut held) = shelf.try_take(seat, 1 + here.caller.node) else {
+    let Some(mut held) = take_replica(here, seat, None) else {
         return Err(1 + here.caller.node);
     };
     let node = held.value.replica_mut();

@@ -1,10 +1,9 @@
-use Rattle.ownlock.specs.Held.{held_place}
 use Rattle.accounts.specs.declared.sessions.Pending.{Pending}
 use Rattle.store_steps.specs.AtDesk.{IsReady}
 use Rattle.store_steps.specs.AtOnce.{StillWaits}
 use Rattle.store_steps.specs.Knowing.{IsOn}
 use Rattle.store_steps.specs.Standing.{IsFree, Stands}
-use Rattle.store_steps.proofs.AtOnce.{asks_still}
+use Rattle.store_steps.proofs.AtOnce.{asks_still, gives_turn}
 use Rattle.store_steps.proofs.Combined.{ready_on}
 use Rattle.store_steps.proofs.Taken.{known_as}
 use Rattle.store_steps.proofs.TakenDesk.{is_at}
@@ -39,13 +38,4 @@ returns-clause-turned c k o is waits =
     let t = c.in-Some.ensures.taken k is in
     let a = gives_and_again c.args.here.caller k t.0 _ _ c.args.batch.now c.args.replies.now t.2 i.1 i.3 c.reply.new.batch c.desk_mut.result.now c.reply.new.desk c.desk_mut.ensures.desk c.reply.ensures.answered c.reply.ensures.replied c.try_take_desk.new.seat t.1 c.settle-again.new.seat c.settle-again.ensures.settled _ c.settle-again.ensures.same.1 _ c.settle-again.ensures.same.2 in
     let f = c.turn_and_put.ensures.turned a.between a.again o a.is a.has (asks_still k a.between o waits a.so.0) in
-    record {
-      combined = a.between;
-      has = a.so.0;
-      gives = a.so.1;
-      after = f.0;
-      is = f.1;
-      turned = f.2;
-      turns = f.3;
-      again = record { place = held_place c.settle-again.result; value = c.settle-again.result.value; now = a.again; took = a.took; next = a.next; put = f.4 };
-    }
+    gives_turn c.args.here.caller _ _ c.args.seat.now _ k a.between a.again a.took a.next _ _ o c.args.batch.now c.args.replies.now a.so.0 a.so.1 f

@@ -1,7 +1,6 @@
-use Rattle.ownlock.specs.Held.{held_place}
 use Rattle.store_steps.specs.AtOnce.{IsAlone}
 use Rattle.store_steps.specs.Knowing.{IsOn}
-use Rattle.store_steps.proofs.AtOnce.{asks, no_answer}
+use Rattle.store_steps.proofs.AtOnce.{asks, no_answer, posts_turn}
 use Rattle.store_steps.proofs.Taken.{known_as}
 use Rattle.store_steps.proofs.Turning.{may_post, puts_posted}
 use Rattle.store_steps.proofs.PutBack.{posts_and_again, took_last}
@@ -37,16 +36,7 @@ returns-clause-turned c k is =
     let t = c.in-Some.ensures.taken k is in
     let a = posts_and_again c.args.here.caller k t.0 _ _ c.args.op.now t.2 c.desk_mut.result.now c.post.new.desk c.desk_mut.ensures.desk c.post.ensures.posted c.try_take_desk.new.seat t.1 _ own.1.catalogue_is c.requires.update own.0.rests c.settle-again.new.seat c.settle-again.ensures.settled _ c.settle-again.ensures.same.1 _ c.settle-again.ensures.same.2 in
     let f = c.turn_and_put.ensures.turned a.between a.again a.so.0.request a.is a.has (asks k a.between c.args.op.now own.0 a.so.0) in
-    record {
-      asked = a.between;
-      posted = a.so.0;
-      posts = a.so.1;
-      after = f.0;
-      is = f.1;
-      turned = f.2;
-      turns = f.3;
-      again = record { place = held_place c.settle-again.result; value = c.settle-again.result.value; now = a.again; took = a.took; next = a.next; put = f.4 };
-    }
+    posts_turn c.args.here.caller _ _ c.args.seat.now _ k a.between a.again a.took a.next _ _ c.args.op.now a.so.0 a.so.1 f
 
 pub returns-clause-fresh : goal.returns-clause-fresh
 returns-clause-fresh c =

@@ -25,13 +25,13 @@ pub try_combine-requires-clause-claimed : goal.try_combine-requires-clause-claim
 try_combine-requires-clause-claimed g c =
     let i = c.requires.claimed in
     let m = c.loop.invariant.1 i.0 i.1 in
-    (m.0, m.1, (free_on c.args.here.caller i.0 m.0 m.2.session m.2.held m.2.extends i.2.0, claimed_still i.0 m.0 c.args.batch.now m.2 i.2.1, shelf_on _ _ _ i.0 m.0 m.2.extends i.2.2))
+    (m.0, m.1, (free_on c.args.here.caller i.0 m.0 m.2.session m.2.held m.2.extends i.2.0, claimed_still i.0 m.0 (g.C.Claimed.batch c.args.requests.now) m.2 i.2.1, shelf_on _ _ _ _ i.0 m.0 m.2.extends i.2.2))
 
 pub returns-in-Ok-clause-combined : goal.returns-in-Ok-clause-combined
 returns-in-Ok-clause-combined g c k is =
     let m = c.loop.invariant.1 k is in
     let t = c.in-Ok.ensures.combined m.0 m.1 in
-    (t.0, t.1, answered_since k m.0 t.0 c.args.batch.now c.try_combine.new.replies m.2 t.2, answers_since c.args.here.caller.node k m.0 t.0 c.args.batch.now c.try_combine.new.replies m.2 t.3)
+    (t.0, t.1, answered_since k m.0 t.0 (g.C.Claimed.batch c.args.requests.now) (g.C.Claimed.kept c.try_combine.new.replies) m.2 t.2, answers_since c.args.here.caller.node k m.0 t.0 (g.C.Claimed.batch c.args.requests.now) (g.C.Claimed.kept c.try_combine.new.replies) m.2 t.3)
 
 pub loop-preserved : goal.loop-preserved
 loop-preserved g c = (

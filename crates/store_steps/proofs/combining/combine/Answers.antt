@@ -10,7 +10,7 @@ pub hand_over-requires-clause-ready : goal.hand_over-requires-clause-ready
 hand_over-requires-clause-ready g c =
     let i = c.requires.claimed in
     let a = c.append_and_replay.ensures.combined i.0 i.1 in
-    (a.0, a.1, (free_on c.args.here.caller i.0 a.0 a.2.session a.2.held a.2.extends i.2.0, a.2.ready, shelf_on _ _ _ i.0 a.0 a.2.extends i.2.2, a.2.stands))
+    (a.0, a.1, (free_on c.args.here.caller i.0 a.0 a.2.session a.2.held a.2.extends i.2.0, a.2.ready, shelf_on _ _ _ _ i.0 a.0 a.2.extends i.2.2, a.2.stands))
 
 pub returns-clause-combined : goal.returns-clause-combined
 returns-clause-combined g c k is =

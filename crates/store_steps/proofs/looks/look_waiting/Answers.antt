@@ -24,7 +24,7 @@ pub try_look-requires-clause-idle : goal.try_look-requires-clause-idle
 try_look-requires-clause-idle g c =
     let i = c.requires.idle in
     let m = c.loop.invariant.1 i.0 i.1 in
-    (m.0, m.1, (free_on c.args.here.caller i.0 m.0 m.2.session m.2.held m.2.extends i.2.0, shelf_on _ _ _ i.0 m.0 m.2.extends i.2.1, subst IsAtRest (sym m.2.note) i.2.2))
+    (m.0, m.1, (free_on c.args.here.caller i.0 m.0 m.2.session m.2.held m.2.extends i.2.0, shelf_on _ _ _ _ i.0 m.0 m.2.extends i.2.1, subst IsAtRest (sym m.2.note) i.2.2))
 
 pub returns-in-Ok-clause-told : goal.returns-in-Ok-clause-told
 returns-in-Ok-clause-told g c k is =

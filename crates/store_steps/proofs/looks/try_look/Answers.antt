@@ -53,14 +53,14 @@ returns-clause-told g c k is =
     let replies : IsAnswer asked k r.0 p v r.2 reply = λ op asked_is.
     subst (λ (z : CatalogueView × NodeReplica). RepliesThere z.0 op z.1 reply) (λ j. (sym catalogue j, there j)) (c.at-told.ensures.heard op asked_is) in
     let put = c.put.ensures.put r.0 r.1 in
-    let b = ready_back asked k r.0 p v r.2 c.try_hold_ready.new.seat.sessions r.1 knows.2 reply replies (with_replica v c.at-told.new.node) same c.in_ok-held.held.place c.in_ok-held.ensures.place point (c.at-told.ensures.point ∙ ap (λ (z : NodeReplica). z.replica.tail) there)
+    let b = ready_back asked k r.0 p v r.2 c.try_hold_ready.new.seat.sessions r.1 knows.2 reply replies (with_replica v c.at-told.new.node) same c.in_ok-held.held.spot.place c.in_ok-held.ensures.place point (c.at-told.ensures.point ∙ ap (λ (z : NodeReplica). z.replica.tail) there)
     put.0 put.1.0 put.1.1 (run_of c.put.new.seat.sessions) (adds_on r.0 _ _ _ _ put.3) in
     let put_value = with_replica v c.at-told.new.node in
-    let f = left_with r.0 c.in_ok-held.held.place put_value put.0 (hears_there c.try_hold_ready.new.seat.sessions put_value r.0.note) (run_of c.put.new.seat.sessions) in
+    let f = left_with r.0 c.in_ok-held.held.spot.place put_value put.0 (hears_there c.try_hold_ready.new.seat.sessions put_value r.0.note) (run_of c.put.new.seat.sessions) in
     let sees = holds (g.L.Look.sees c.args.look.now c.at-told.new.self c.at-told.result) in (
       f,
       put.2,
       sight_ready asked k r.0 p v r.2 f reply point b n there c.at-told.ensures.point c.args.here.shared.catalogue.now catalogue sees c.at-told.ensures.sees,
-      sights_ready asked k r.0 p v r.2 f reply point b n there c.at-told.ensures.point c.args.here.shared.catalogue.now catalogue sees c.at-told.ensures.sees c.in_ok-held.held.place c.in_ok-held.ensures.place
-          (subst (λ (z : Value). HasStepped r.0 (Put c.in_ok-held.held.place z) f) same (stepped_by r.0 f (Put c.in_ok-held.held.place put_value) refl refl put.3)),
+      sights_ready asked k r.0 p v r.2 f reply point b n there c.at-told.ensures.point c.args.here.shared.catalogue.now catalogue sees c.at-told.ensures.sees c.in_ok-held.held.spot.place c.in_ok-held.ensures.place
+          (subst (λ (z : Value). HasStepped r.0 (Put c.in_ok-held.held.spot.place z) f) same (stepped_by r.0 f (Put c.in_ok-held.held.spot.place put_value) refl refl put.3)),
     )

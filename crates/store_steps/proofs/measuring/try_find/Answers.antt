@@ -25,13 +25,13 @@ put-requires-clause-may c =
     let b = took_log i.0 t.0 c.args.node.now x i.0.progress.catalogue i.2 t.1 in
     let d = c.done-completed.ensures.read t.0 t.2 in
     let m = having_read t.0 d.0 t.0.note c.done-completed.result (run_of c.done-completed.new.seat.sessions) in
-    (m, d.3, may_put_same m c.in-Some.held.place x i.0.held (held_log i.0 t.0 c.args.node.now x b d.0 d.1.0 d.1.1 c.done-completed.result _ d.4 c.in-Some.held.place c.in-Some.ensures.place) c.done-completed.new.seat.sessions d.3)
+    (m, d.3, may_put_same m c.in-Some.held.spot.place x i.0.held (held_log i.0 t.0 c.args.node.now x b d.0 d.1.0 d.1.1 c.done-completed.result _ d.4 c.in-Some.held.spot.place c.in-Some.ensures.place) c.done-completed.new.seat.sessions d.3)
 
 pub returns-clause-found : goal.returns-clause-found
 returns-clause-found c k is =
     let n = c.args.node.now in
     let x = c.in-Some.held.value in
-    let q = c.in-Some.held.place in
+    let q = c.in-Some.held.spot.place in
     let at = c.in-Some.ensures.place in
     let has = known_as c.args.seat.now (λ z. HasReplica z n z.progress.catalogue) c.requires.holds k is in
     let t = c.in-Some.ensures.taken k is in

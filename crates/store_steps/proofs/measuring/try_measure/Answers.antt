@@ -29,7 +29,7 @@ try_find-requires-clause-holds c =
     let w = c.in-Some.held.value in
     let t = c.in-Some.ensures.taken i.0 i.1 in
     let b = took_replica i.0 t.0 c.args.here.caller w i.2.0 t.1 in
-    (t.0, t.2, has_node i.0 t.0 c.args.here.caller w i.2.0 b c.replica.result.now c.replica.ensures.replica c.in-Some.held.place c.in-Some.ensures.place)
+    (t.0, t.2, has_node i.0 t.0 c.args.here.caller w i.2.0 b c.replica.result.now c.replica.ensures.replica c.in-Some.held.spot.place c.in-Some.ensures.place)
 
 -- ---- another session holds the log
 
@@ -40,14 +40,14 @@ put-requires-clause-may c =
     let t = c.in-Some.ensures.taken i.0 i.1 in
     let b = took_replica i.0 t.0 c.args.here.caller w i.2.0 t.1 in
     let there = ap (λ z. z.sessions) c.in_default-try_find.ensures.stays ∙ t.2 in
-    let held = held_node i.0 t.0 c.args.here.caller w i.2.0 b c.replica.result.now c.replica.ensures.replica c.in-Some.held.place c.in-Some.ensures.place in
-    (t.0, there, may_put_same t.0 c.in-Some.held.place w [] held c.try_find.new.seat.sessions there)
+    let held = held_node i.0 t.0 c.args.here.caller w i.2.0 b c.replica.result.now c.replica.ensures.replica c.in-Some.held.spot.place c.in-Some.ensures.place in
+    (t.0, there, may_put_same t.0 c.in-Some.held.spot.place w [] held c.try_find.new.seat.sessions there)
 
 pub returns-in_default-try_find-clause-stays : goal.returns-in_default-try_find-clause-stays
 returns-in_default-try_find-clause-stays c k is =
     let i = c.requires.idle in
     let w = c.in-Some.held.value in
-    let q = c.in-Some.held.place in
+    let q = c.in-Some.held.spot.place in
     let n = c.replica.result.now in
     let free = subst (λ z. IsFree c.args.here.caller z) (one_known c.args.seat.now i.0 k i.1 is) i.2.0 in
     let t = c.in-Some.ensures.taken k is in
@@ -67,14 +67,14 @@ put-requires-2-clause-may c =
     let t = c.in-Some.ensures.taken i.0 i.1 in
     let b = took_replica i.0 t.0 c.args.here.caller w i.2.0 t.1 in
     let f = c.in-Some-try_find.ensures.found t.0 t.2 in
-    let held = held_still i.0 t.0 c.args.here.caller w i.2.0 b c.replica.result.now c.replica.ensures.replica c.in-Some.held.place c.in-Some.ensures.place c.in-Some-try_find.stats f.0 f.2 in
-    (f.0, f.1, may_put_same f.0 c.in-Some.held.place w [] held c.try_find.new.seat.sessions f.1)
+    let held = held_still i.0 t.0 c.args.here.caller w i.2.0 b c.replica.result.now c.replica.ensures.replica c.in-Some.held.spot.place c.in-Some.ensures.place c.in-Some-try_find.stats f.0 f.2 in
+    (f.0, f.1, may_put_same f.0 c.in-Some.held.spot.place w [] held c.try_find.new.seat.sessions f.1)
 
 pub returns-clause-told : goal.returns-clause-told
 returns-clause-told c k is =
     let i = c.requires.idle in
     let w = c.in-Some.held.value in
-    let q = c.in-Some.held.place in
+    let q = c.in-Some.held.spot.place in
     let n = c.replica.result.now in
     let stats = c.in-Some-try_find.stats in
     let free = subst (λ z. IsFree c.args.here.caller z) (one_known c.args.seat.now i.0 k i.1 is) i.2.0 in

@@ -10,13 +10,13 @@ use Rattle.store_steps.proofs.passing.give_and_settle.Goals as goal
 pub desk_mut-requires : goal.desk_mut-requires
 desk_mut-requires c =
     let i = c.requires.has in
-    record { desk = is_desk c.args.here.caller i.0 i.1 c.args.held.place c.args.held.value (taken c.args.seat.now c.args.here c.args.held i.0 i.1 i.2 c.requires.place) }
+    record { desk = is_desk c.args.here.caller i.0 i.1 c.args.held.spot.place c.args.held.value (taken c.args.seat.now c.args.here c.args.held i.0 i.1 i.2 c.requires.place) }
 
 pub reply-requires : goal.reply-requires
 reply-requires c =
     let i = c.requires.has in
     let b = taken c.args.seat.now c.args.here c.args.held i.0 i.1 i.2 c.requires.place in
-    record { own = (i.1, c.args.here.caller.slot, is_at c.args.here.caller i.0 i.1 c.args.held.place c.args.held.value b c.desk_mut.result.now c.desk_mut.ensures.desk, ready_there c.args.seat.now c.args.here c.args.held i.0 i.1 i.2 c.requires.place c.args.batch.now c.args.replies.now i.3 i.4) }
+    record { own = (i.1, c.args.here.caller.slot, is_at c.args.here.caller i.0 i.1 c.args.held.spot.place c.args.held.value b c.desk_mut.result.now c.desk_mut.ensures.desk, ready_there c.args.seat.now c.args.here c.args.held i.0 i.1 i.2 c.requires.place c.args.batch.now c.args.replies.now i.3 i.4) }
 
 pub settle-requires-clause-may : goal.settle-requires-clause-may
 settle-requires-clause-may c =
@@ -24,7 +24,7 @@ settle-requires-clause-may c =
       i.1,
       i.2.is,
       give_may c.args.seat.now c.args.here c.args.held i.0 i.1 i.2 c.requires.place c.args.batch.now c.args.replies.now i.3 i.4 c.desk_mut.result.now c.reply.new.desk c.desk_mut.ensures.desk c.reply.new.batch c.reply.ensures.answered c.reply.ensures.replied c.args.seat.now.sessions i.2.is,
-      took_last c.args.here.caller i.0 i.1 c.args.held.place c.args.held.value (taken c.args.seat.now c.args.here c.args.held i.0 i.1 i.2 c.requires.place),
+      took_last c.args.here.caller i.0 i.1 c.args.held.spot.place c.args.held.value (taken c.args.seat.now c.args.here c.args.held i.0 i.1 i.2 c.requires.place),
     )
 
 pub returns-clause-replied : goal.returns-clause-replied

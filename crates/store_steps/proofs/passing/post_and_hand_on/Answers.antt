@@ -13,14 +13,14 @@ use Rattle.store_steps.proofs.passing.post_and_hand_on.Goals as goal
 pub desk_mut-requires : goal.desk_mut-requires
 desk_mut-requires c =
     let i = c.requires.has in
-    record { desk = is_desk c.args.here.caller i.0 i.1 c.args.held.place c.args.held.value (taken c.args.at.now c.args.here c.args.held i.0 i.1 i.2 c.requires.place) }
+    record { desk = is_desk c.args.here.caller i.0 i.1 c.args.held.spot.place c.args.held.value (taken c.args.at.now c.args.here c.args.held i.0 i.1 i.2 c.requires.place) }
 
 pub post-requires : goal.post-requires
 post-requires c =
     let i = c.requires.has in
     let b = taken c.args.at.now c.args.here c.args.held i.0 i.1 i.2 c.requires.place in
     let may = allowed c.args.at.now c.args.here c.args.held i.0 i.1 i.2 c.requires.place c.args.op.now c.requires.update i.3.rests in
-    record { own = (i.1, is_at c.args.here.caller i.0 i.1 c.args.held.place c.args.held.value b c.desk_mut.result.now c.desk_mut.ensures.desk, (subst IsAtRest (sym b.note) i.3.rests, subst (λ z. IsAllowed store_meaning z c.args.op.now) b.extends.catalogue may)) }
+    record { own = (i.1, is_at c.args.here.caller i.0 i.1 c.args.held.spot.place c.args.held.value b c.desk_mut.result.now c.desk_mut.ensures.desk, (subst IsAtRest (sym b.note) i.3.rests, subst (λ z. IsAllowed store_meaning z c.args.op.now) b.extends.catalogue may)) }
 
 pub join-requires-clause-idle : goal.join-requires-clause-idle
 join-requires-clause-idle c = let n = c.requires.next in subst HoldsNone (sym n.1.is) (holds_none n.0 n.1.free.held)

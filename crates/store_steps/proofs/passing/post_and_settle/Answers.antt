@@ -11,14 +11,14 @@ use Rattle.store_steps.proofs.passing.post_and_settle.Goals as goal
 pub desk_mut-requires : goal.desk_mut-requires
 desk_mut-requires c =
     let i = c.requires.has in
-    record { desk = is_desk c.args.here.caller i.0 i.1 c.args.held.place c.args.held.value (taken c.args.seat.now c.args.here c.args.held i.0 i.1 i.2 c.requires.place) }
+    record { desk = is_desk c.args.here.caller i.0 i.1 c.args.held.spot.place c.args.held.value (taken c.args.seat.now c.args.here c.args.held i.0 i.1 i.2 c.requires.place) }
 
 pub post-requires : goal.post-requires
 post-requires c =
     let i = c.requires.has in
     let b = taken c.args.seat.now c.args.here c.args.held i.0 i.1 i.2 c.requires.place in
     let may = allowed c.args.seat.now c.args.here c.args.held i.0 i.1 i.2 c.requires.place c.args.op.now c.requires.update i.3.rests in
-    record { own = (i.1, is_at c.args.here.caller i.0 i.1 c.args.held.place c.args.held.value b c.desk_mut.result.now c.desk_mut.ensures.desk, (subst IsAtRest (sym b.note) i.3.rests, subst (λ z. IsAllowed store_meaning z c.args.op.now) b.extends.catalogue may)) }
+    record { own = (i.1, is_at c.args.here.caller i.0 i.1 c.args.held.spot.place c.args.held.value b c.desk_mut.result.now c.desk_mut.ensures.desk, (subst IsAtRest (sym b.note) i.3.rests, subst (λ z. IsAllowed store_meaning z c.args.op.now) b.extends.catalogue may)) }
 
 pub settle-requires-clause-may : goal.settle-requires-clause-may
 settle-requires-clause-may c =
@@ -26,7 +26,7 @@ settle-requires-clause-may c =
       i.1,
       i.2.is,
       may_put c.args.seat.now c.args.here c.args.held i.0 i.1 i.2 c.requires.place c.args.op.now c.requires.update i.3.rests c.desk_mut.result.now c.post.new.desk c.desk_mut.ensures.desk c.post.ensures.posted c.args.seat.now.sessions i.2.is,
-      took_last c.args.here.caller i.0 i.1 c.args.held.place c.args.held.value (taken c.args.seat.now c.args.here c.args.held i.0 i.1 i.2 c.requires.place),
+      took_last c.args.here.caller i.0 i.1 c.args.held.spot.place c.args.held.value (taken c.args.seat.now c.args.here c.args.held i.0 i.1 i.2 c.requires.place),
     )
 
 pub returns-clause-kept : goal.returns-clause-kept

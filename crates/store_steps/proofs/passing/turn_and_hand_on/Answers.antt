@@ -13,13 +13,13 @@ use Rattle.store_steps.proofs.passing.turn_and_hand_on.Goals as goal
 pub desk_mut-requires : goal.desk_mut-requires
 desk_mut-requires c =
     let i = c.requires.has in
-    record { desk = is_desk c.args.here.caller i.0 i.1 c.args.held.place c.args.held.value (taken c.args.at.now c.args.here c.args.held i.0 i.1 i.3 c.requires.place) }
+    record { desk = is_desk c.args.here.caller i.0 i.1 c.args.held.spot.place c.args.held.value (taken c.args.at.now c.args.here c.args.held i.0 i.1 i.3 c.requires.place) }
 
 pub collect_or_claim-turn-requires : goal.collect_or_claim-turn-requires
 collect_or_claim-turn-requires c =
     let i = c.requires.has in
     let b = taken c.args.at.now c.args.here c.args.held i.0 i.1 i.3 c.requires.place in
-    record { own = (i.1, i.2, is_at c.args.here.caller i.0 i.1 c.args.held.place c.args.held.value b c.desk_mut.result.now c.desk_mut.ensures.desk, asks_there c.args.at.now c.args.here c.args.held i.0 i.1 i.3 c.requires.place i.2 i.4) }
+    record { own = (i.1, i.2, is_at c.args.here.caller i.0 i.1 c.args.held.spot.place c.args.held.value b c.desk_mut.result.now c.desk_mut.ensures.desk, asks_there c.args.at.now c.args.here c.args.held i.0 i.1 i.3 c.requires.place i.2 i.4) }
 
 pub hand_on-held-requires-clause-may : goal.hand_on-held-requires-clause-may
 hand_on-held-requires-clause-may c =

@@ -11,7 +11,7 @@ use Rattle.store_steps.specs.declared.desks.Turn.{Turn}
 use Rattle.store_steps.specs.declared.desks.Turn.TheVariants.{Collects, Combines, Waits}
 use Rattle.store_steps.specs.declared.pipelines.Member.{Member}
 use Rattle.store_steps.proofs.AtOnce.{asks}
-use Rattle.store_steps.proofs.Handing.{held_there, session_turns, taken, was_turn}
+use Rattle.store_steps.proofs.Handing.{session_turns, taken, was_turn}
 use Rattle.store_steps.proofs.Gathered.{claimed_of, post_asks, post_keeps}
 use Rattle.store_steps.proofs.Posting.{claiming, map_set, member_at}
 use Rattle.store_steps.proofs.pipelines.claim_first.Goals as goal
@@ -25,11 +25,7 @@ post_and_settle-held-requires-clause-has c =
     (c.requires.has (slice_index_or c.args.members.now 0 c.index-members-0.result) (member_at c.args.members.now 0 c.index-members-0.result c.requires.some c.index-members-0.is)).1
 
 pub turn_and_put-requires-clause-there : goal.turn_and_put-requires-clause-there
-turn_and_put-requires-clause-there c =
-    let own = slice_index_or c.args.members.now 0 c.index-members-0.result in
-    let i = (c.requires.has own (member_at c.args.members.now 0 c.index-members-0.result c.requires.some c.index-members-0.is)).1 in
-    let p = c.post_and_settle-held.ensures.kept i.0 i.1 i.2 i.3 in
-    held_there c.post_and_settle-held.new.seat (here_of c.args.shared own) c.post_and_settle-held.result p.asked p.now p.has c.post_and_settle-held.ensures.same.1
+turn_and_put-requires-clause-there c = c.post_and_settle-held.ensures.same.1.1
 
 pub turn_and_put-requires-clause-asked : goal.turn_and_put-requires-clause-asked
 turn_and_put-requires-clause-asked c =

@@ -18,18 +18,16 @@ use Rattle.store_steps.specs.declared.pipelines.Member.{Member}
 use Rattle.store_steps.proofs.AskingEach.{are_members}
 use Rattle.store_steps.proofs.AtOnce.{asks_still}
 use Rattle.store_steps.proofs.GivenEach.{all_answered, answer_of, answers_as, ascends, begins_first, begins_later, given_of, has_taken, in_order_so, requested_still}
-use Rattle.store_steps.proofs.Handing.{spot_of_desk}
 use Rattle.store_steps.proofs.Holds.{collects_held}
 use Rattle.store_steps.proofs.Posting.{known_as, map_set, member_at}
-use Rattle.store_steps.proofs.TakenDesk.{may_take_its_desk}
 use Rattle.store_steps.proofs.pipelines.try_give_each.Goals as goal
 
-pub try_take-requires-clause-may : goal.try_take-requires-clause-may
-try_take-requires-clause-may c =
+pub take_desk-requires-clause-idle : goal.take_desk-requires-clause-idle
+take_desk-requires-clause-idle c =
     let own = slice_index_or c.args.members.now 0 c.index-members-0.result in
     let there = member_at c.args.members.now 0 c.index-members-0.result c.requires.count.0 c.index-members-0.is in
     let r = c.requires.may.ready own there in
-    (r.0, (c.split-at.ensures.apart r.0 [] r.1).1, may_take_its_desk r.0 own.caller (1 + c.args.shared.nodes + own.caller.node) r.2.0 (spot_of_desk (here_of c.args.shared own) r.0 r.2.2))
+    (r.0, (c.split-at.ensures.apart r.0 [] r.1).1, (r.2.0, r.2.2))
 
 pub give_and_settle-held-requires-clause-has : goal.give_and_settle-held-requires-clause-has
 give_and_settle-held-requires-clause-has c =
@@ -37,7 +35,7 @@ give_and_settle-held-requires-clause-has c =
     let there = member_at c.args.members.now 0 c.index-members-0.result c.requires.count.0 c.index-members-0.is in
     let r = c.requires.may.ready own there in
     let t = c.in-Some.ensures.taken r.0 (c.split-at.ensures.apart r.0 [] r.1).1 in
-    (r.0, t.0, has_taken c.args.shared own c.try_take.new.seat c.in-Some.held (1 + c.args.shared.nodes + own.caller.node) r.0 t.0 t.2 r.2.0 r.2.2 c.in-Some.ensures.place t.1, r.2.1, r.2.3)
+    (r.0, t.0, has_taken c.args.shared own c.take_desk.new.seat c.in-Some.held (1 + c.args.shared.nodes + own.caller.node) r.0 t.0 t.2 r.2.0 r.2.2 c.in-Some.ensures.place t.1, r.2.1, r.2.3)
 
 pub collect_each-requires-clause-members : goal.collect_each-requires-clause-members
 collect_each-requires-clause-members c =
@@ -54,7 +52,7 @@ pub collect_each-requires-clause-has : goal.collect_each-requires-clause-has
 collect_each-requires-clause-has c member at =
     let own = slice_index_or c.args.members.now 0 c.index-members-0.result in
     let there = member_at c.args.members.now 0 c.index-members-0.result c.requires.count.0 c.index-members-0.is in
-    let w = given_of c.args.shared own c.args.batch.now c.args.kept.now c.split-at.result c.try_take.new.seat c.in-Some.held c.give_and_settle-held.new.seat c.give_and_settle-held.result c.give_and_settle-held.new.batch (λ k is. (c.split-at.ensures.apart k [] is).1) (c.requires.may.ready own there) c.in-Some.ensures.taken c.in-Some.ensures.place c.give_and_settle-held.ensures.kept c.give_and_settle-held.ensures.replied c.give_and_settle-held.ensures.answered in
+    let w = given_of c.args.shared own c.args.batch.now c.args.kept.now c.split-at.result c.take_desk.new.seat c.in-Some.held c.give_and_settle-held.new.seat c.give_and_settle-held.result c.give_and_settle-held.new.batch (λ k is. (c.split-at.ensures.apart k [] is).1) (c.requires.may.ready own there) c.in-Some.ensures.taken (c.in-Some.ensures.place, c.in-Some.ensures.there) c.give_and_settle-held.ensures.kept c.give_and_settle-held.ensures.replied c.give_and_settle-held.ensures.answered in
     let new = record own { seat = c.split-at.new.seat } in
     subst (λ (z : Member). MayTurnWith (here_of c.args.shared z) c.give_and_settle-held.new.seat c.give_and_settle-held.result) (at_one (set c.args.members.now 0 new) 0 new member (set_here c.args.members.now 0 new c.requires.count.0) at)
     (c.give_and_settle-held.ensures.same.1, (w.combined, w.now, w.o, w.desk, asks_still w.k w.combined w.o w.waits w.has))
@@ -63,21 +61,21 @@ pub collect_each-requires-clause-ascend : goal.collect_each-requires-clause-asce
 collect_each-requires-clause-ascend c =
     let own = slice_index_or c.args.members.now 0 c.index-members-0.result in
     let there = member_at c.args.members.now 0 c.index-members-0.result c.requires.count.0 c.index-members-0.is in
-    let w = given_of c.args.shared own c.args.batch.now c.args.kept.now c.split-at.result c.try_take.new.seat c.in-Some.held c.give_and_settle-held.new.seat c.give_and_settle-held.result c.give_and_settle-held.new.batch (λ k is. (c.split-at.ensures.apart k [] is).1) (c.requires.may.ready own there) c.in-Some.ensures.taken c.in-Some.ensures.place c.give_and_settle-held.ensures.kept c.give_and_settle-held.ensures.replied c.give_and_settle-held.ensures.answered in
+    let w = given_of c.args.shared own c.args.batch.now c.args.kept.now c.split-at.result c.take_desk.new.seat c.in-Some.held c.give_and_settle-held.new.seat c.give_and_settle-held.result c.give_and_settle-held.new.batch (λ k is. (c.split-at.ensures.apart k [] is).1) (c.requires.may.ready own there) c.in-Some.ensures.taken (c.in-Some.ensures.place, c.in-Some.ensures.there) c.give_and_settle-held.ensures.kept c.give_and_settle-held.ensures.replied c.give_and_settle-held.ensures.answered in
     ascends c.args.shared c.args.members.now own there c.split-at.new.seat c.give_and_settle-held.new.seat c.give_and_settle-held.result w.k w.combined w.now w.known w.has w.desk c.give_and_settle-held.ensures.same.1 c.requires.may.ascend
 
 pub collect_each-requires-clause-answered : goal.collect_each-requires-clause-answered
 collect_each-requires-clause-answered c =
     let own = slice_index_or c.args.members.now 0 c.index-members-0.result in
     let there = member_at c.args.members.now 0 c.index-members-0.result c.requires.count.0 c.index-members-0.is in
-    let w = given_of c.args.shared own c.args.batch.now c.args.kept.now c.split-at.result c.try_take.new.seat c.in-Some.held c.give_and_settle-held.new.seat c.give_and_settle-held.result c.give_and_settle-held.new.batch (λ k is. (c.split-at.ensures.apart k [] is).1) (c.requires.may.ready own there) c.in-Some.ensures.taken c.in-Some.ensures.place c.give_and_settle-held.ensures.kept c.give_and_settle-held.ensures.replied c.give_and_settle-held.ensures.answered in
+    let w = given_of c.args.shared own c.args.batch.now c.args.kept.now c.split-at.result c.take_desk.new.seat c.in-Some.held c.give_and_settle-held.new.seat c.give_and_settle-held.result c.give_and_settle-held.new.batch (λ k is. (c.split-at.ensures.apart k [] is).1) (c.requires.may.ready own there) c.in-Some.ensures.taken (c.in-Some.ensures.place, c.in-Some.ensures.there) c.give_and_settle-held.ensures.kept c.give_and_settle-held.ensures.replied c.give_and_settle-held.ensures.answered in
     all_answered c.args.shared c.args.members.now own there c.split-at.new.seat c.give_and_settle-held.new.seat c.give_and_settle-held.result w.k w.combined w.now w.known w.has w.desk c.give_and_settle-held.ensures.same.1 c.give_and_settle-held.new.batch (requested_still c.args.members.now c.args.batch.now c.give_and_settle-held.new.batch c.args.kept.now c.give_and_settle-held.ensures.answered c.requires.may.requests) w.x0 (replied c.give_and_settle-held.new.batch w.x0) w.is2 refl w.of w.all
 
 pub returns-clause-gives : goal.returns-clause-gives
 returns-clause-gives c =
     let own = slice_index_or c.args.members.now 0 c.index-members-0.result in
     let there = member_at c.args.members.now 0 c.index-members-0.result c.requires.count.0 c.index-members-0.is in
-    let w = given_of c.args.shared own c.args.batch.now c.args.kept.now c.split-at.result c.try_take.new.seat c.in-Some.held c.give_and_settle-held.new.seat c.give_and_settle-held.result c.give_and_settle-held.new.batch (λ k is. (c.split-at.ensures.apart k [] is).1) (c.requires.may.ready own there) c.in-Some.ensures.taken c.in-Some.ensures.place c.give_and_settle-held.ensures.kept c.give_and_settle-held.ensures.replied c.give_and_settle-held.ensures.answered in
+    let w = given_of c.args.shared own c.args.batch.now c.args.kept.now c.split-at.result c.take_desk.new.seat c.in-Some.held c.give_and_settle-held.new.seat c.give_and_settle-held.result c.give_and_settle-held.new.batch (λ k is. (c.split-at.ensures.apart k [] is).1) (c.requires.may.ready own there) c.in-Some.ensures.taken (c.in-Some.ensures.place, c.in-Some.ensures.there) c.give_and_settle-held.ensures.kept c.give_and_settle-held.ensures.replied c.give_and_settle-held.ensures.answered in
     let e0 = c.collect_each.ensures.collected (replied c.give_and_settle-held.new.batch w.x0) 0 w.combined w.o w.is2 (begins_first c.args.shared c.args.members.now own there c.split-at.new.seat c.give_and_settle-held.new.seat c.give_and_settle-held.result w.k w.combined w.now w.known w.has w.desk c.give_and_settle-held.ensures.same.1) (asks_still w.k w.combined w.o w.waits w.has) in
     let others : (j : ℕ) (k : SessionKnown) (o0 : Pending) → 0 < j → KnownAt c.args.members.now j k → HasAsked k o0 → (reply : Reply) × At j reply c.collect_each.new.replies × CollectsAt c.collect_each.new.members j k o0 reply =
     λ j k o0 lt known asked. let e = c.collect_each.ensures.collected (replied c.give_and_settle-held.new.batch w.x0) j k o0 w.is2 (begins_later c.args.shared c.args.members.now own there c.split-at.new.seat c.give_and_settle-held.new.seat c.give_and_settle-held.result w.k w.combined w.now w.known w.has w.desk c.give_and_settle-held.ensures.same.1 j k lt known) asked in (e.0, e.1, e.3) in
@@ -103,6 +101,18 @@ returns-in_default-clause-stays c =
     let own = slice_index_or c.args.members.now 0 c.index-members-0.result in
     let there = member_at c.args.members.now 0 c.index-members-0.result c.requires.count.0 c.index-members-0.is in
     let r = c.requires.may.ready own there in
-    let same : c.try_take.new.seat ≡ c.split-at.result = search rules in
-    let back : record own { seat = c.try_take.new.seat } ≡ own = ap (λ (z : StoreSeat). record own { seat = z }) (same ∙ λ i. record { shelf = c.split-at.ensures.same.1 i; sessions = ((c.split-at.ensures.apart r.0 [] r.1).1 ∙ sym r.1) i }) in
+    let same : c.take_desk.new.seat ≡ c.split-at.result = search rules in
+    let back : record own { seat = c.take_desk.new.seat } ≡ own = ap (λ (z : StoreSeat). record own { seat = z }) (same ∙ λ i. record { shelf = c.split-at.ensures.same.1 i; sessions = ((c.split-at.ensures.apart r.0 [] r.1).1 ∙ sym r.1) i }) in
     (ap (set c.args.members.now 0) back ∙ set_again c.args.members.now 0 own there, refl)
+
+pub give_and_settle-held-requires-clause-own : goal.give_and_settle-held-requires-clause-own
+give_and_settle-held-requires-clause-own c =
+    let own = slice_index_or c.args.members.now 0 c.index-members-0.result in
+    let there = member_at c.args.members.now 0 c.index-members-0.result c.requires.count.0 c.index-members-0.is in
+    c.take_desk.ensures.same ∙ (c.split-at.ensures.same.1 ∙ c.requires.members.own 0 own there)
+
+pub collect_each-requires-clause-own : goal.collect_each-requires-clause-own
+collect_each-requires-clause-own c =
+    let own = slice_index_or c.args.members.now 0 c.index-members-0.result in
+    let there = member_at c.args.members.now 0 c.index-members-0.result c.requires.count.0 c.index-members-0.is in
+    c.give_and_settle-held.ensures.same.0 ∙ (c.take_desk.ensures.same ∙ (c.split-at.ensures.same.1 ∙ c.requires.members.own 0 own there))

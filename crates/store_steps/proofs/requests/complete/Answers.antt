@@ -14,7 +14,7 @@ pub turn-requires-clause-asked : goal.turn-requires-clause-asked
 turn-requires-clause-asked g c =
     let i = c.requires.asked in
     let m = c.loop.invariant.1 i.0 i.2 in
-    (m.0, i.1, m.1, free_then c.args.here.caller i.0 m.0 i.3 m.2, asked_by i.0 m.0 i.1 m.2.note i.4, shelf_then _ _ _ i.0 m.0 m.2.extends i.5)
+    (m.0, i.1, m.1, free_then c.args.here.caller i.0 m.0 i.3 m.2, asked_by i.0 m.0 i.1 m.2.note i.4, shelf_then _ _ _ _ i.0 m.0 m.2.extends i.5)
 
 pub returns-in-Collects-clause-completed : goal.returns-in-Collects-clause-completed
 returns-in-Collects-clause-completed g c k o is asked =
@@ -34,7 +34,7 @@ combine-requires-clause-claimed g c =
     let t = c.turn.ensures.turned m.0 i.1 m.1 (asked_by i.0 m.0 i.1 m.2.note i.4) in
     let h = subst (λ z. HasTurned m.0 t.0 i.1 c.turn.new.batch z) c.in-Combines.is t.2 in
     let free = free_then c.args.here.caller i.0 m.0 i.3 m.2 in
-    (t.0, t.1, (free_back c.args.here.caller m.0 t.0 free h.back, has_claimed m.0 t.0 i.1 c.turn.new.batch h, shelf_then _ _ _ m.0 t.0 h.back.extends (shelf_then _ _ _ i.0 m.0 m.2.extends i.5)))
+    (t.0, t.1, (free_back c.args.here.caller m.0 t.0 free h.back, has_claimed m.0 t.0 i.1 c.turn.new.batch h, shelf_then _ _ _ _ m.0 t.0 h.back.extends (shelf_then _ _ _ _ i.0 m.0 m.2.extends i.5)))
 
 pub loop-preserved-in-Combines : goal.loop-preserved-in-Combines
 loop-preserved-in-Combines g c = (

@@ -2,7 +2,7 @@ use Rattle.std.proofs.Common.{◌≡◌}
 use Rattle.ownlock.specs.Seats.{IsSession}
 use Rattle.store_steps.specs.Standing.{SessionKnown}
 use Rattle.store_steps.specs.Updating.{Rounds}
-use Rattle.store_steps.proofs.Resumed.{Resumed}
+use Rattle.store_steps.specs.AtOnce.{Resumed}
 use Rattle.store_steps.proofs.requests.complete.Given as goal
 
 abbrev pub invariant-loop : goal.invariant-loop

@@ -14,8 +14,8 @@ use Rattle.store_steps.proofs.Loaded.{may_still}
 use Rattle.store_steps.proofs.Stretches.{follows_by}
 use Rattle.store_steps.proofs.steps.try_follow_log.Goals as goal
 
-pub try_take-requires-clause-may : goal.try_take-requires-clause-may
-try_take-requires-clause-may g c =
+pub take_log-requires-clause-may : goal.take_log-requires-clause-may
+take_log-requires-clause-may g c =
     let i = c.requires.holds in
     (i.0, i.1, may_take_log i.0 i.2.0.value i.2.0.holds)
 
@@ -55,7 +55,7 @@ put-requires-clause-may g c =
     let i = c.requires.holds in let n = c.args.node.now in let x = c.in-Some.held.value in
     let t = c.in-Some.ensures.taken i.0 i.1 in
     let b = took_log i.0 t.0 n x c.args.catalogue.now i.2.0 t.1 in
-    (t.0, t.2, asked_put i.0 t.0 n x b g.A.Asked.read (may_still g.A.Asked.read i.0 t.0 b.note b.extends i.2.1) c.try_take.new.seat.sessions t.2 _ c.in-Some.ensures.place)
+    (t.0, t.2, asked_put i.0 t.0 n x b g.A.Asked.read (may_still g.A.Asked.read i.0 t.0 b.note b.extends i.2.1) c.take_log.new.seat.sessions t.2 _ c.in-Some.ensures.place)
 
 pub raise_to-requires-clause-known : goal.raise_to-requires-clause-known
 raise_to-requires-clause-known g c =
@@ -68,7 +68,7 @@ raise_to-requires-clause-known g c =
     let same = sym (log_catalogue i.0 t.0 n x b c.args.catalogue.now i.2.0.catalogue) in
     let all = followed_all t.0.progress h y v is u.0 u.1 (c.follow.ensures.node ∙ ap (λ d. replayed d (copied h y)) same) c.follow.ensures.sizes in
     let p = c.put.ensures.put t.0 t.2 in
-    let s = asked_back i.0 t.0 n x b g.A.Asked.read (may_still g.A.Asked.read i.0 t.0 b.note b.extends i.2.1) c.try_take.new.seat.sessions t.2 _ c.in-Some.ensures.place p.0 p.1.0 p.1.1 _ (adds_on t.0 _ _ _ _ p.3) in
+    let s = asked_back i.0 t.0 n x b g.A.Asked.read (may_still g.A.Asked.read i.0 t.0 b.note b.extends i.2.1) c.take_log.new.seat.sessions t.2 _ c.in-Some.ensures.place p.0 p.1.0 p.1.1 _ (adds_on t.0 _ _ _ _ p.3) in
     let low = long_enough i.0 t.0 n x b g.A.Asked.read v _ i.0 s all in
     let here = c.tail-followed.ensures.tail in
     (_, p.2, omega (arith, low, here))
@@ -85,7 +85,7 @@ returns-clause-reached g c k is =
     let same = sym (log_catalogue k t.0 n x b c.args.catalogue.now has.catalogue) in
     let all = followed_all t.0.progress h y v log_is u.0 u.1 (c.follow.ensures.node ∙ ap (λ d. replayed d (copied h y)) same) c.follow.ensures.sizes in
     let p = c.put.ensures.put t.0 t.2 in
-    let s = asked_back k t.0 n x b g.A.Asked.read (may_still g.A.Asked.read k t.0 b.note b.extends knows.1) c.try_take.new.seat.sessions t.2 _ c.in-Some.ensures.place p.0 p.1.0 p.1.1 _ (adds_on t.0 _ _ _ _ p.3) in
+    let s = asked_back k t.0 n x b g.A.Asked.read (may_still g.A.Asked.read k t.0 b.note b.extends knows.1) c.take_log.new.seat.sessions t.2 _ c.in-Some.ensures.place p.0 p.1.0 p.1.1 _ (adds_on t.0 _ _ _ _ p.3) in
     let r = c.raise_to.ensures.raised _ p.2 in
     let here = c.tail-followed.ensures.tail in
     let up = raised_as _ r.0 _ v.replica.tail r.2 (omega (arith, here)) in (

@@ -1,6 +1,6 @@
 use Rattle.std.proofs.Common.{◌≡◌, ◌∷◌, ap, refl, sym, ◌∙◌}
 use Rattle.ownlock.specs.Invariant.{out_of}
-use Rattle.ownlock.proofs.Hands.{one_alone, out_handed}
+use Rattle.ownlock.proofs.OnlyOut.{one_alone, out_handed}
 use Rattle.ownlock.proofs.shelf.Shelf.hand_on.Goals as goal
 
 pub pass_on-value-requires-clause-may : goal.pass_on-value-requires-clause-may

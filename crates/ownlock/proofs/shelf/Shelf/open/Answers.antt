@@ -36,7 +36,7 @@ invariant_of-result g c =
     let leads : 0 < c.len-places.result = search rules in
     let empty : c.in-Ok-with_capacity.room.items ≡ [] = search rules in
     let room : c.len-places.result ≤ vec_capacity c.in-Ok-with_capacity.room = search rules in
-    ((words, wide, fits), leads, empty, room)
+    ((words, wide, fits), leads, search rules, search rules, search rules, empty, room)
 
 pub returns-clause-refused : goal.returns-clause-refused
 returns-clause-refused g c =

@@ -2,7 +2,7 @@ use Rattle.std.proofs.Common.{◌+◌, ◌≤◌, sym, ap, ◌∙◌, subst, ref
 use Rattle.std.proofs.lemmas.Bool.{true≢false}
 use Rattle.loader.specs.CatalogueView.{CatalogueView}
 use Rattle.oplog.specs.declared.configuration.Sizes.{Sizes}
-use Rattle.oplog.specs.declared.configuration.TheConstants.{MAX_NODES}
+use Rattle.oplog.specs.declared.configuration.TheConstants.{MAX_NODES, MAX_NODE_SLOTS}
 use Rattle.store.specs.Sessions.{TellsUpdate}
 use Rattle.store_steps.proofs.Export.{goes_seen, seen_as}
 use Rattle.store_steps.specs.Views.{SessionView, session_view}
@@ -29,6 +29,12 @@ ask_at_once-given-requires-clause-idle g c =
         places_are = c.shared-shared.ensures.places ∙ ap (λ n. 1 + n + n) (sym c.shared-shared.ensures.nodes.0);
         few = subst (λ n. n ≤ MAX_NODES) (sym c.shared-shared.ensures.nodes.0) c.shared-shared.ensures.nodes.1;
         nodes_are = ap (λ (z : Sizes). z.nodes) config ∙ sym c.shared-shared.ensures.nodes.0;
+        slots_are = (
+          ap (λ (z : Sizes). z.slots) config
+              ∙ sym c.shared-shared.ensures.nodes.2,
+          subst (λ n. n ≤ MAX_NODE_SLOTS)
+              (sym c.shared-shared.ensures.nodes.2) c.shared-shared.ensures.nodes.3,
+        );
         catalogue_is = ap (λ (z : SessionView). z.progress.catalogue) (sym was) ∙ (c.requires.own.catalogue ∙ sym c.shared-shared.ensures.catalogue);
       },
     )

@@ -1,0 +1,4 @@
+use Rattle.ownlock.proofs.steps.put_and_take.Given as goal
+
+abbrev pub ghosts-bring_front : goal.ghosts-bring_front
+ghosts-bring_front g a = record { place = a.spot.place }
