@@ -212,6 +212,9 @@ def plain(text):
     while found := re.search(r"#\[cfg\(test\)\]", text):
         end = re.compile(r"[;{]").search(text, found.end()).start()
         text = text[: found.start()] + text[(closing(text, end) if text[end] == "{" else end) + 1 :]
+    # (a macro has no clause; those of what it makes are read where it is used)
+    while found := re.search(r"(?:#\[macro_export\]\s*)?\bmacro_rules! \w+ (?=\{)", text):
+        text = text[: found.start()] + text[closing(text, found.end()) + 1 :]
     return text
 
 

@@ -119,9 +119,9 @@ class Calls:
         return path
 
     def calls_function(self, caller, crate, module, name):
-        if caller.crate == crate and caller.module == module:
-            return name in caller.words
         wanted = (crate, *module, name)
+        if caller.crate == crate and caller.module == module:
+            return name in caller.words or any(path[-1] == name and self.declared(caller, path) == wanted for path in caller.paths)
         imported = (path for here, path in caller.imports.items() if here in caller.words)
         return crate in self.sees(caller.crate) and any(path[-1] == name and self.declared(caller, path) == wanted for path in [*imported, *caller.paths])
 

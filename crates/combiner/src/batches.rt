@@ -11,6 +11,7 @@ use maps::MOST_ARG_LEN;
 use oplog::{LaidRef, RecordList, Records};
 use std::alloc::{AllocError, Global};
 use std::marker::Model;
+use unreached::unreached;
 
 /// The requests that a combiner claimed at its desk, by ascending slots, and the answer of each once it has one. It is lent to
 /// [`Desk::claim`](crate::Desk::claim), which fills it, and to [`Desk::reply`](crate::Desk::reply).
@@ -101,7 +102,7 @@ impl Batch {
         let answers = &self.answers[..self.count];
         match answers[k] {
             Some(reply) => reply,
-            None => unreachable!(),
+            None => unreached!(),
         }
     }
 }

@@ -1,11 +1,11 @@
 // Calls of helpers (RFC 9669, section 4.3.1), and those that change a map (bpf-helpers(7)). The bytes of a key and of a value are
 // read before the change: they may lie in that map.
 
-ghost use Rattle.std.specs.Prelude.{◌≡◌, ◌<◌, ◌≤◌, ℕ, pos, List, length, take};
+ghost use Rattle.std.specs.Prelude.{◌≡◌, ◌≢◌, ◌<◌, ◌≤◌, ℕ, pos, List, length, take};
 ghost use Rattle.insn.specs.declared.instruction.Form.TheVariants as form;
 ghost use Rattle.maps.specs.Shapes.{AreShapesSupported};
 ghost use Rattle.maps.specs.MapSets.{stored_shapes};
-ghost use Rattle.helpers.specs.declared.numbers.Helper.TheVariants.{Update, Delete};
+ghost use Rattle.helpers.specs.declared.numbers.Helper.TheVariants.{Lookup, Update, Delete};
 ghost use Rattle.helpers.specs.Numbers.{helper_number};
 ghost use Rattle.machine.specs.Accesses.{IsRead};
 ghost use Rattle.machine.specs.Executing.{Stands, Executes};
@@ -13,10 +13,12 @@ ghost use Rattle.machine.specs.Executing.{Stands, Executes};
 use crate::executing::call_lookup;
 use crate::memory::{Base, locate, part};
 use crate::registers::Machine;
-use crate::row::Row;
+use crate::row::{Row, map_named};
 use helpers::{Helper, delete, update};
 use insn::Edge;
 use maps::MapSet;
+use regkind::Kind;
+use unreached::unreached;
 
 /// A call of a helper by its number. A program that calls another number isn't accepted.
 #[inline(always)]
@@ -30,11 +32,31 @@ pub(crate) fn call_helper(
     requires told { Stands (form.Call id) kinds machine.old maps.old argument.now }
     ensures executes { Executes (form.Call id) kinds.entry machine.old maps.old argument.now machine.new maps.new result }
 {
+    let kinds = kinds.kinds();
     match Helper::numbered(id) {
         Some(Helper::Lookup) => call_lookup(machine, maps, argument, kinds),
-        Some(Helper::Update) => call_update(machine, maps, argument, kinds),
-        Some(Helper::Delete) => call_delete(machine, maps, argument, kinds),
-        None => unreachable!(),
+        Some(changing) => call_changing(machine, maps, argument, kinds, changing),
+        None => unreached!(),
+    }
+}
+
+// A call of a helper that changes a map.
+#[inline(never)]
+fn call_changing(
+    machine: &mut Machine,
+    maps: &mut MapSet,
+    argument: &[u8],
+    kinds: &[Kind; 11],
+    helper: Helper,
+) -> Option<Edge>
+    requires changes { helper ≢ Lookup }
+    requires told { Stands (form.Call (pos (helper_number helper))) kinds.now machine.old maps.old argument.now }
+    ensures executes { Executes (form.Call (pos (helper_number helper))) kinds.now machine.old maps.old argument.now machine.new maps.new result }
+{
+    match helper {
+        Helper::Update => call_update(machine, maps, argument, kinds),
+        Helper::Delete => call_delete(machine, maps, argument, kinds),
+        Helper::Lookup => unreached!(),
     }
 }
 
@@ -57,16 +79,16 @@ fn call_update(
     machine: &mut Machine,
     maps: &mut MapSet,
     argument: &[u8],
-    kinds: Row<'_>,
+    kinds: &[Kind; 11],
 ) -> Option<Edge>
-    requires told { Stands (form.Call (pos (helper_number Update))) kinds machine.old maps.old argument.now }
-    ensures executes { Executes (form.Call (pos (helper_number Update))) kinds.entry machine.old maps.old argument.now machine.new maps.new result }
+    requires told { Stands (form.Call (pos (helper_number Update))) kinds.now machine.old maps.old argument.now }
+    ensures executes { Executes (form.Call (pos (helper_number Update))) kinds.now machine.old maps.old argument.now machine.new maps.new result }
 {
-    let m = kinds.map_named();
+    let m = map_named(kinds);
     let shape = maps.shape(m);
     let (key_bytes, value_bytes) = (shape.key_bytes(), shape.value_bytes());
-    let key_base = Base::at(&kinds, &machine.words, 2, 0);
-    let value_base = Base::at(&kinds, &machine.words, 3, 0);
+    let key_base = Base::at(kinds, &machine.words, 2, 0);
+    let value_base = Base::at(kinds, &machine.words, 3, 0);
     let mut key_room = [0; 64];
     let key = &mut key_room[..key_bytes];
     fetch(&machine.stack, maps, argument, key_base, key);
@@ -106,14 +128,14 @@ fn call_delete(
     machine: &mut Machine,
     maps: &mut MapSet,
     argument: &[u8],
-    kinds: Row<'_>,
+    kinds: &[Kind; 11],
 ) -> Option<Edge>
-    requires told { Stands (form.Call (pos (helper_number Delete))) kinds machine.old maps.old argument.now }
-    ensures executes { Executes (form.Call (pos (helper_number Delete))) kinds.entry machine.old maps.old argument.now machine.new maps.new result }
+    requires told { Stands (form.Call (pos (helper_number Delete))) kinds.now machine.old maps.old argument.now }
+    ensures executes { Executes (form.Call (pos (helper_number Delete))) kinds.now machine.old maps.old argument.now machine.new maps.new result }
 {
-    let m = kinds.map_named();
+    let m = map_named(kinds);
     let key_bytes = maps.shape(m).key_bytes();
-    let key_base = Base::at(&kinds, &machine.words, 2, 0);
+    let key_base = Base::at(kinds, &machine.words, 2, 0);
     let mut key_room = [0; 64];
     let key = &mut key_room[..key_bytes];
     fetch(&machine.stack, maps, argument, key_base, key);

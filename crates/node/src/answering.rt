@@ -7,6 +7,7 @@ ghost use Rattle.node.specs.Answering.{answered_batch, HasOutcome, HaveRun};
 
 use combiner::{Batch, Reply};
 use replica::Replies;
+use unreached::unreached;
 
 /// Sets the answer of each request of a batch in the log: one that has an index there is answered with it and its outcome, the others came
 /// too late. Those that have an index were replayed.
@@ -36,6 +37,6 @@ fn reply_at(replies: &Replies, k: usize) -> Reply
             index: replies.first() + k as u64,
             reply: outcome.reply,
         },
-        None => unreachable!(),
+        None => unreached!(),
     }
 }

@@ -1,6 +1,6 @@
 // Rooms whose front has bytes, and zeros after them.
 
-ghost use Rattle.std.specs.Prelude.{◌≡◌, ◌≤◌, ◌-◌, length, take, drop, replicate};
+ghost use Rattle.std.specs.Prelude.{◌≡◌, ◌≤◌, ◌-◌, ◌++◌, length, take, drop, replicate};
 ghost use Rattle.oplog.specs.Calls.{padded};
 
 use maps::MAX_ARG_LEN;
@@ -24,13 +24,25 @@ pub(crate) fn refill(bytes: &mut [u8; MAX_ARG_LEN], old: usize, argument: &[u8])
     ensures padded { bytes.new ≡ padded MAX_ARG_LEN argument.now }
 {
     blank(bytes, argument.len(), old);
-    // (a copy of constant length is a move or two, and no call)
-    match argument.len() {
-        4 => bytes[..4].copy_from_slice(argument),
-        8 => bytes[..8].copy_from_slice(argument),
-        16 => bytes[..16].copy_from_slice(argument),
-        len => bytes[..len].copy_from_slice(argument),
+    // A copy of a constant length is a move or two, and no call.
+    if let Some(chunk) = argument.as_array() {
+        put_chunk::<4>(bytes, *chunk);
+    } else if let Some(chunk) = argument.as_array() {
+        put_chunk::<8>(bytes, *chunk);
+    } else if let Some(chunk) = argument.as_array() {
+        put_chunk::<16>(bytes, *chunk);
+    } else {
+        bytes[..argument.len()].copy_from_slice(argument);
     }
+}
+
+// Writes so many bytes over the first of a room.
+#[inline(always)]
+fn put_chunk<const N: usize>(bytes: &mut [u8; MAX_ARG_LEN], chunk: [u8; N])
+    requires fits { N ≤ MAX_ARG_LEN }
+    ensures put { bytes.new ≡ chunk.entry ++ drop N bytes.old }
+{
+    bytes[..N].copy_from_slice(&chunk);
 }
 
 // Writes zeros from one place to another, behind which there are zeros.

@@ -22,6 +22,7 @@ use atomic_table::{Refused, Table};
 use std::alloc::{AllocError, Global};
 use std::marker::{Brand, Model};
 use std::sync::Wait;
+use unreached::unreached;
 
 /// The place of the value that leads: nothing but its put adds to the history.
 pub const LEADER: usize = 0;
@@ -208,7 +209,7 @@ impl<V: Shelved> Shelf<V> {
             }
             wait_for(rt, &self.table.shared, self.spot(place));
         }
-        unreachable!()
+        unreached!()
     }
 
     /// Takes the value of the place where nobody holds it, and waits for nobody. The session doesn't hold the place, and may hold it beside those

@@ -9,6 +9,7 @@ ghost use Rattle.std.specs.Vec.Iter.{into_iter_items, into_iter_len};
 use atomic_table::Closed;
 use std::alloc::Global;
 use std::vec::IntoIter;
+use unreached::unreached;
 
 // A value that is a pointer takes 16 bytes or more with what tells that it is there, and a cache line has 64.
 const SLOTS_IN_A_LINE: usize = 4;
@@ -43,8 +44,8 @@ fn pass<V>(rest: &mut IntoIter<Option<V>>)
     ensures { into_iter_items rest.old ≡ None ∷ into_iter_items rest.new }
 {
     let found = rest.next();
-    let Some(nothing) = found else { unreachable!() };
-    let None = nothing else { unreachable!() };
+    let Some(nothing) = found else { unreached!() };
+    let None = nothing else { unreached!() };
 }
 
 // The values that were so spread.
@@ -72,7 +73,7 @@ fn skip<V>(closed: &mut Closed<Option<V>, Global>, slot: usize)
     ensures taken { slots_filled closed.new.slots ≡ slice_set (slots_filled closed.old.slots) slot false }
 {
     let nothing = closed.take(slot);
-    let None = nothing else { unreachable!() };
+    let None = nothing else { unreached!() };
 }
 
 // The values of a closed table of so many places, in their order.

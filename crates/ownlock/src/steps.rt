@@ -18,6 +18,7 @@ use crate::words::{Spot, WINNERS, is_free};
 use crossbeam_utils::Backoff;
 use std::marker::Brand;
 use std::sync::Wait;
+use unreached::unreached;
 
 // How often a try looks again, where others take and put at the same line meanwhile.
 const MORE_TRIES: u64 = 3;
@@ -136,7 +137,7 @@ pub(crate) fn try_once<V: Shelved>(
         return None;
     }
     let found = steps.exchange(pass, slot_of(spot.place), None);
-    let Some(value) = found else { unreachable!() };
+    let Some(value) = found else { unreached!() };
     Some(value)
 }
 
@@ -225,7 +226,7 @@ pub(crate) fn release<V: Shelved, M: Change<V::Progress, V::SessionNote>>(
 {
     bring_front::<V, Brand>(steps, pass, spot);
     let emptied = steps.exchange(pass, slot_of(spot.place), Some(value));
-    let None = emptied else { unreachable!() };
+    let None = emptied else { unreached!() };
     leave::<V, M>(steps, pass, spot, won);
 }
 
@@ -247,10 +248,10 @@ pub(crate) fn put_and_take<V: Shelved, M: Change<V::Progress, V::SessionNote>>(
 {
     bring_front::<V, Brand>(steps, pass, spot);
     let before = steps.exchange(pass, slot_of(spot.place), Some(value));
-    let None = before else { unreachable!() };
+    let None = before else { unreached!() };
     let _ = steps.load::<Settle<M>>(pass, spot.word);
     let found = steps.exchange(pass, slot_of(spot.place), None);
-    let Some(value) = found else { unreachable!() };
+    let Some(value) = found else { unreached!() };
     value
 }
 
@@ -290,10 +291,10 @@ pub(crate) fn pass_on<V: Shelved, M: Change<V::Progress, V::SessionNote>>(
     ensures handed { StepsHanding V.rules M.progress M.note pass.old.me spot.place value pass.new.me }
 {
     let before = steps.exchange(pass, slot_of(spot.place), Some(value));
-    let None = before else { unreachable!() };
+    let None = before else { unreached!() };
     change_hands::<V, M>(steps, pass, spot);
     let found = steps.exchange(pass, slot_of(spot.place), None);
-    let Some(value) = found else { unreachable!() };
+    let Some(value) = found else { unreached!() };
     value
 }
 

@@ -3,7 +3,7 @@ use Rattle.std.proofs.Common.{◌≡◌, ◌+◌, ◌*◌, ◌<◌, sym, ap, ◌
 use Rattle.std.proofs.lemmas.Nat.{mul-le}
 use Rattle.ownlock.specs.declared.winning.Won.{Won}
 use Rattle.ownlock.specs.Held.{IsBy}
-use Rattle.ownlock.specs.Seats.{IsSession, ShelfView}
+use Rattle.ownlock.specs.Seats.{IsSession}
 use Rattle.ownlock.specs.Words.{row_length, won_by}
 use Rattle.ownlock.proofs.Export.{one_known}
 use Rattle.store_steps.specs.declared.steps.Here.{Here}

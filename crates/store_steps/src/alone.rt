@@ -29,6 +29,7 @@ use oplog::{NewRecord, OpRef};
 use ownlock::{Seat, Won};
 use std::marker::Brand;
 use std::sync::Wait;
+use unreached::unreached;
 
 /// What a session has done that posted.
 #[derive(Drop)]
@@ -144,7 +145,7 @@ fn wait_and_reply<R: Wait>(
             return turn;
         }
     }
-    unreachable!()
+    unreached!()
 }
 
 // The session combines its own request alone, hands the answer over, and has a turn in the same hold of the desk. It lets the line go before it waits.

@@ -24,6 +24,7 @@ use ownlock::Seat;
 use replica::Replies;
 use std::marker::Brand;
 use std::sync::Wait;
+use unreached::unreached;
 
 /// Posts an operation at the desk of the caller's node, and has a turn there in the same hold: it claims the posted requests into the batch, unless
 /// another session combines. If another session holds the desk, the answer is `None`, and nothing has changed.
@@ -99,7 +100,7 @@ pub(crate) fn post_and_turn<R: Wait>(
             return turn;
         }
     }
-    unreachable!()
+    unreached!()
 }
 
 // `try_hand_over_and_turn`, but waits while another session holds the desk.
@@ -127,7 +128,7 @@ fn hand_over_and_turn<R: Wait>(
             return turn;
         }
     }
-    unreachable!()
+    unreached!()
 }
 
 // A session that has asked, and has had this turn, goes on to its answer: it combines what it has claimed, and has turn after turn.
@@ -168,7 +169,7 @@ fn go_on<R: Wait>(
             }
         }
     }
-    unreachable!()
+    unreached!()
 }
 
 /// A whole update by four takes: the session posts and claims in one hold of the desk, and answers its batch and collects its own answer in

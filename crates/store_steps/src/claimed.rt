@@ -18,6 +18,7 @@ use node::{NodeReplica, append_only, replay_first, replay_with};
 use oplog::{LogState, NewRecord};
 use replica::Replies;
 use std::marker::Model;
+use unreached::unreached;
 
 /// The requests that a session has claimed.
 pub(crate) trait Claimed {
@@ -119,7 +120,7 @@ impl OneReply {
             return Reply::Ended;
         }
         let Some(outcome) = self.outcome else {
-            unreachable!()
+            unreached!()
         };
         Reply::Placed {
             index: self.index,

@@ -21,6 +21,7 @@ use ownlock::{LEADER, Seat, Won};
 use replica::Replies;
 use std::marker::Brand;
 use std::sync::Wait;
+use unreached::unreached;
 
 // Appends the requests that the session claimed, and brings the replica of its node up to them: what their programs answer is
 // kept then. It goes on with `hand_over`. Where another session holds the replica or the log, it answers that place: the
@@ -79,7 +80,7 @@ pub(crate) fn append_and_replay<R: Wait, C: Claimed>(
             }
         }
     }
-    unreachable!()
+    unreached!()
 }
 
 // Combines the requests that the session claimed: appends them, brings the replica of its node up to them, and hands their
@@ -152,5 +153,5 @@ fn hand_over<R: Wait>(
             return;
         }
     }
-    unreachable!()
+    unreached!()
 }

@@ -16,6 +16,7 @@ use crate::values::Value;
 use combiner::{Batch, Reply};
 use ownlock::Seat;
 use replica::Replies;
+use unreached::unreached;
 
 /// How far an update of the session has come.
 #[derive(Clone, Copy, Drop)]
@@ -123,7 +124,7 @@ pub fn go_on(
     ensures gone { HasGone DeedGoes seat.old seat.new here.entry.caller batch.new replies.new stage.new result }
 {
     match *stage {
-        Stage::Idle => unreachable!(),
+        Stage::Idle => unreached!(),
         Stage::Asked => take_turn(here, seat, batch, stage),
         Stage::Claimed => run_claimed(here, seat, batch, replies, stage),
         Stage::Ready => give_answers(here, seat, batch, replies, stage),

@@ -16,6 +16,7 @@ use combiner::{Batch, Desk, Reply};
 use node::answer_batch;
 use oplog::{NewRecord, OpRef};
 use replica::Replies;
+use unreached::unreached;
 
 /// What a session did that looked for the answer to its request.
 #[derive(Drop)]
@@ -37,7 +38,7 @@ pub fn post(desk: &mut Desk, slot: usize, op: &OpRef<'_>)
 {
     match desk.post(slot, op) {
         Ok(()) => {}
-        Err(_) => unreachable!(),
+        Err(_) => unreached!(),
     }
 }
 

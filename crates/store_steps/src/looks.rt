@@ -21,6 +21,7 @@ use node::NodeReplica;
 use ownlock::Seat;
 use std::marker::Brand;
 use std::sync::Wait;
+use unreached::unreached;
 
 /// What a session looks for in the maps and programs of its node: a reply, a page of a map, the value of a key, the whole state.
 pub trait Look {
@@ -115,5 +116,5 @@ pub fn look_waiting<R: Wait, L: Look>(
             Err(place) => here.shared.shelf.wait(rt, seat, place),
         }
     }
-    unreachable!()
+    unreached!()
 }

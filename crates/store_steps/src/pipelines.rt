@@ -29,6 +29,7 @@ use ownlock::{Held, Seat};
 use replica::Replies;
 use std::alloc::{AllocError, Global};
 use std::sync::Wait;
+use unreached::unreached;
 
 /// A session that shares the takes of its node's desk with others: its seat, and its slot.
 #[derive(Drop)]
@@ -86,7 +87,7 @@ fn reply_of(turn: Turn) -> Reply
 {
     match turn {
         Turn::Collects(reply) => reply,
-        Turn::Combines | Turn::Waits => unreachable!(),
+        Turn::Combines | Turn::Waits => unreached!(),
     }
 }
 
@@ -197,7 +198,7 @@ fn claim_first(
     let held = post_and_settle(here, &mut at, held, op);
     match turn_and_put(here, &mut at, held, batch, None) {
         Turn::Combines => {}
-        Turn::Collects(_) | Turn::Waits => unreachable!(),
+        Turn::Collects(_) | Turn::Waits => unreached!(),
     }
     own.seat = at;
 }
@@ -261,7 +262,7 @@ fn post_each<R: Wait>(
         // (Each try takes the desk from the session that combines.)
         room.combining.pauses.pause();
     }
-    unreachable!()
+    unreached!()
 }
 
 // Each member posts its call in one hold of the desk, as soon as no session combines there, and the first one combines.
@@ -313,7 +314,7 @@ fn give_each<R: Wait>(
         let first = &members[0];
         watch(shared.shelf, 1 + shared.nodes + first.caller.node);
     }
-    unreachable!()
+    unreached!()
 }
 
 impl EachRoom {

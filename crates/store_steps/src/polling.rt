@@ -20,6 +20,7 @@ use combiner::Batch;
 use oplog::OpRef;
 use ownlock::Seat;
 use replica::Replies;
+use unreached::unreached;
 
 /// Posts an update, and claims the requests of the node in the same hold of its desk, where nobody combines. Where another session holds the
 /// desk it answers `None`, and nothing has changed.
@@ -50,7 +51,7 @@ pub fn try_begin(
             *stage = Stage::Claimed;
             Some(())
         }
-        Some(Turn::Collects(_)) => unreachable!(),
+        Some(Turn::Collects(_)) => unreached!(),
     }
 }
 

@@ -19,6 +19,7 @@ use oplog::OpRef;
 use ownlock::{Seat, Shelf};
 use std::marker::Brand;
 use std::sync::Wait;
+use unreached::unreached;
 
 /// Posts an operation at the desk of the caller's node. If another session holds the desk, the answer is `None`, and nothing has changed.
 #[inline(always)]
@@ -58,7 +59,7 @@ pub fn post<R: Wait>(rt: &R, here: Here<'_>, seat: &mut Seat<Value>, op: &OpRef<
             return;
         }
     }
-    unreachable!()
+    unreached!()
 }
 
 // Takes the desk of the caller's node, and has a turn there. If another session holds the desk, the answer is `None`, and nothing has changed.
@@ -100,7 +101,7 @@ pub(crate) fn turn<R: Wait>(
             return turn;
         }
     }
-    unreachable!()
+    unreached!()
 }
 
 // How often a session that waits looks between two turns at its desk. The pauses between its looks grow, and the last of so many yields
@@ -148,5 +149,5 @@ pub fn complete<R: Wait>(rt: &R, here: Here<'_>, seat: &mut Seat<Value>, room: &
             }
         }
     }
-    unreachable!()
+    unreached!()
 }

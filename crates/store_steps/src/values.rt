@@ -13,6 +13,7 @@ use oplog::{Hand, LogRoom, LogState, Sizes};
 use ownlock::Shelved;
 use replica::Replica;
 use std::alloc::{AllocError, Global};
+use unreached::unreached;
 
 /// What a store is opened with.
 #[derive(Drop)]
@@ -43,7 +44,7 @@ impl Value {
     {
         match self {
             Value::Log(log) => log,
-            Value::Replica(_) | Value::Desk(_) => unreachable!(),
+            Value::Replica(_) | Value::Desk(_) => unreached!(),
         }
     }
 
@@ -55,7 +56,7 @@ impl Value {
     {
         match self {
             Value::Log(log) => log,
-            Value::Replica(_) | Value::Desk(_) => unreachable!(),
+            Value::Replica(_) | Value::Desk(_) => unreached!(),
         }
     }
 
@@ -66,7 +67,7 @@ impl Value {
     {
         match self {
             Value::Replica(node) => node,
-            Value::Log(_) | Value::Desk(_) => unreachable!(),
+            Value::Log(_) | Value::Desk(_) => unreached!(),
         }
     }
 
@@ -78,7 +79,7 @@ impl Value {
     {
         match self {
             Value::Replica(node) => node,
-            Value::Log(_) | Value::Desk(_) => unreachable!(),
+            Value::Log(_) | Value::Desk(_) => unreached!(),
         }
     }
 
@@ -89,7 +90,7 @@ impl Value {
     {
         match self {
             Value::Desk(desk) => desk,
-            Value::Log(_) | Value::Replica(_) => unreachable!(),
+            Value::Log(_) | Value::Replica(_) => unreached!(),
         }
     }
 
@@ -101,7 +102,7 @@ impl Value {
     {
         match self {
             Value::Desk(desk) => desk,
-            Value::Log(_) | Value::Replica(_) => unreachable!(),
+            Value::Log(_) | Value::Replica(_) => unreached!(),
         }
     }
 }

@@ -11,7 +11,7 @@ use Rattle.machine.proofs.calls.call_delete.Goals as goal
 pub map_named-m-requires : goal.map_named-m-requires
 map_named-m-requires c =
     let s = c.requires.told in
-    let x = deletes c.args.kinds c.args.machine.now c.args.maps.now c.args.argument.now s in
+    let x = deletes c.args.kinds.now c.args.machine.now c.args.maps.now c.args.argument.now s in
     record { named = (x.map, ap (λ ks. slice_index_or ks 1 Unreadable) s.same_kinds ∙ x.names) }
 
 pub slice_bounds-key_room-end : goal.slice_bounds-key_room-end
@@ -38,7 +38,7 @@ fetch-requires-clause-told c =
     let room = key_room c.args.maps.now s.signature c.map_named-m.result c.shape.result s.limits s.shapes c.shape.ensures.shape c.key_bytes-key_bytes.result c.key_bytes-key_bytes.ensures.key in
     subst (λ k. (bs : List ℕ) × IsRead c.args.machine.now.stack c.args.maps.now c.args.argument.now c.at-key_base.result k bs) (sym room.count)
     (subst (λ b. (bs : List ℕ) × IsRead c.args.machine.now.stack c.args.maps.now c.args.argument.now b c.key_bytes-key_bytes.result bs) (sym c.at-key_base.ensures.base)
-    (delete_key_told c.args.kinds c.args.machine.now c.args.maps.now c.args.argument.now s c.map_named-m.result c.key_bytes-key_bytes.result c.shape.result (same_map s.frame c.args.kinds c.map_named-m.result s.same_kinds c.map_named-m.ensures.map) c.shape.ensures.shape c.key_bytes-key_bytes.ensures.key))
+    (delete_key_told c.args.kinds.now c.args.machine.now c.args.maps.now c.args.argument.now s c.map_named-m.result c.key_bytes-key_bytes.result c.shape.result (same_map s.frame c.args.kinds.now c.map_named-m.result s.same_kinds c.map_named-m.ensures.map) c.shape.ensures.shape c.key_bytes-key_bytes.ensures.key))
 
 pub fetch-requires-clause-limits : goal.fetch-requires-clause-limits
 fetch-requires-clause-limits c =
@@ -60,7 +60,7 @@ returns c =
     let key = key_room c.args.maps.now s.signature c.map_named-m.result c.shape.result s.limits s.shapes c.shape.ensures.shape c.key_bytes-key_bytes.result c.key_bytes-key_bytes.ensures.key in
     record {
       executes = λ s.
-          deleted_leads c.args.kinds c.args.machine.now c.args.maps.now c.args.argument.now s c.map_named-m.result c.key_bytes-key_bytes.result c.shape.result (same_map s.frame c.args.kinds c.map_named-m.result s.same_kinds c.map_named-m.ensures.map) c.shape.ensures.shape c.key_bytes-key_bytes.ensures.key
+          deleted_leads c.args.kinds.now c.args.machine.now c.args.maps.now c.args.argument.now s c.map_named-m.result c.key_bytes-key_bytes.result c.shape.result (same_map s.frame c.args.kinds.now c.map_named-m.result s.same_kinds c.map_named-m.ensures.map) c.shape.ensures.shape c.key_bytes-key_bytes.ensures.key
           c.fetch.new.room c.delete.new.maps c.delete.result (λ bs told. c.fetch.ensures.copied bs (subst (λ k. IsRead c.args.machine.now.stack c.args.maps.now c.args.argument.now c.at-key_base.result k bs) (sym key.count) (subst (λ b. IsRead c.args.machine.now.stack c.args.maps.now c.args.argument.now b c.key_bytes-key_bytes.result bs) (sym c.at-key_base.ensures.base) told))) c.delete.ensures.answers
           (record { maps = c.delete.ensures.others; shapes = c.delete.ensures.shapes });
     }

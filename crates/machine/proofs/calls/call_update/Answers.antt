@@ -12,7 +12,7 @@ use Rattle.machine.proofs.calls.call_update.Goals as goal
 pub map_named-m-requires : goal.map_named-m-requires
 map_named-m-requires c =
     let s = c.requires.told in
-    let x = updates c.args.kinds c.args.machine.now c.args.maps.now c.args.argument.now s in
+    let x = updates c.args.kinds.now c.args.machine.now c.args.maps.now c.args.argument.now s in
     record { named = (x.map, ap (λ ks. slice_index_or ks 1 Unreadable) s.same_kinds ∙ x.names) }
 
 pub slice_bounds-key_room-end : goal.slice_bounds-key_room-end
@@ -43,7 +43,7 @@ fetch-requires-clause-told c =
     let room = key_room c.args.maps.now s.signature c.map_named-m.result c.shape-shape.result s.limits s.shapes c.shape-shape.ensures.shape c.key_bytes-key_bytes.result c.key_bytes-key_bytes.ensures.key in
     subst (λ k. (bs : List ℕ) × IsRead c.args.machine.now.stack c.args.maps.now c.args.argument.now c.at-key_base.result k bs) (sym room.count)
     (subst (λ b. (bs : List ℕ) × IsRead c.args.machine.now.stack c.args.maps.now c.args.argument.now b c.key_bytes-key_bytes.result bs) (sym c.at-key_base.ensures.base)
-    (update_key_told c.args.kinds c.args.machine.now c.args.maps.now c.args.argument.now s c.map_named-m.result c.key_bytes-key_bytes.result c.value_bytes-value_bytes.result c.shape-shape.result (same_map s.frame c.args.kinds c.map_named-m.result s.same_kinds c.map_named-m.ensures.map) c.shape-shape.ensures.shape c.key_bytes-key_bytes.ensures.key c.value_bytes-value_bytes.ensures.value))
+    (update_key_told c.args.kinds.now c.args.machine.now c.args.maps.now c.args.argument.now s c.map_named-m.result c.key_bytes-key_bytes.result c.value_bytes-value_bytes.result c.shape-shape.result (same_map s.frame c.args.kinds.now c.map_named-m.result s.same_kinds c.map_named-m.ensures.map) c.shape-shape.ensures.shape c.key_bytes-key_bytes.ensures.key c.value_bytes-value_bytes.ensures.value))
 
 pub update-requires-clause-key : goal.update-requires-clause-key
 update-requires-clause-key c =
@@ -80,7 +80,7 @@ pub fetch_value-requires-clause-told : goal.fetch_value-requires-clause-told
 fetch_value-requires-clause-told c =
     let s = c.requires.told in
     (subst (λ b. (bs : List ℕ) × IsRead c.args.machine.now.stack c.args.maps.now c.args.argument.now b c.value_bytes-value_bytes.result bs) (sym c.at-value_base.ensures.base)
-    (update_value_told c.args.kinds c.args.machine.now c.args.maps.now c.args.argument.now s c.map_named-m.result c.key_bytes-key_bytes.result c.value_bytes-value_bytes.result c.shape-shape.result (same_map s.frame c.args.kinds c.map_named-m.result s.same_kinds c.map_named-m.ensures.map) c.shape-shape.ensures.shape c.key_bytes-key_bytes.ensures.key c.value_bytes-value_bytes.ensures.value))
+    (update_value_told c.args.kinds.now c.args.machine.now c.args.maps.now c.args.argument.now s c.map_named-m.result c.key_bytes-key_bytes.result c.value_bytes-value_bytes.result c.shape-shape.result (same_map s.frame c.args.kinds.now c.map_named-m.result s.same_kinds c.map_named-m.ensures.map) c.shape-shape.ensures.shape c.key_bytes-key_bytes.ensures.key c.value_bytes-value_bytes.ensures.value))
 
 pub update-requires-clause-map : goal.update-requires-clause-map
 update-requires-clause-map c =
@@ -93,7 +93,7 @@ returns c =
     let room = take c.value_bytes-value_bytes.result c.fetch_value.new.machine.value in
     record {
       executes = λ s.
-          same_leads _ _ _ (with_word c.args.machine.now 0 c.update.result) _ _ _ (ap (λ ws. slice_set ws 0 c.update.result) c.fetch_value.ensures.words) c.fetch_value.ensures.stack (updated_leads c.args.kinds c.args.machine.now c.args.maps.now c.args.argument.now s c.map_named-m.result c.key_bytes-key_bytes.result c.value_bytes-value_bytes.result c.shape-shape.result (same_map s.frame c.args.kinds c.map_named-m.result s.same_kinds c.map_named-m.ensures.map) c.shape-shape.ensures.shape c.key_bytes-key_bytes.ensures.key c.value_bytes-value_bytes.ensures.value
+          same_leads _ _ _ (with_word c.args.machine.now 0 c.update.result) _ _ _ (ap (λ ws. slice_set ws 0 c.update.result) c.fetch_value.ensures.words) c.fetch_value.ensures.stack (updated_leads c.args.kinds.now c.args.machine.now c.args.maps.now c.args.argument.now s c.map_named-m.result c.key_bytes-key_bytes.result c.value_bytes-value_bytes.result c.shape-shape.result (same_map s.frame c.args.kinds.now c.map_named-m.result s.same_kinds c.map_named-m.ensures.map) c.shape-shape.ensures.shape c.key_bytes-key_bytes.ensures.key c.value_bytes-value_bytes.ensures.value
           c.fetch.new.room room c.update.new.maps c.update.result (λ bs told. c.fetch.ensures.copied bs (subst (λ k. IsRead c.args.machine.now.stack c.args.maps.now c.args.argument.now c.at-key_base.result k bs) (sym key.count) (subst (λ b. IsRead c.args.machine.now.stack c.args.maps.now c.args.argument.now b c.key_bytes-key_bytes.result bs) (sym c.at-key_base.ensures.base) told))) (λ bs told. c.fetch_value.ensures.copied bs (subst (λ b. IsRead c.args.machine.now.stack c.args.maps.now c.args.argument.now b c.value_bytes-value_bytes.result bs) (sym c.at-value_base.ensures.base) told)) c.update.ensures.answers
           (record { maps = c.update.ensures.others; shapes = c.update.ensures.shapes }));
     }

@@ -8,10 +8,10 @@ exchange-before-requires g c =
     let m = c.requires.may in
     (search rules, (None, only_out _ (m.0 ∷ m.1 ∷ m.2) c.args.spot.place _ c.slot_of.ensures m.3))
 
-pub unreachable-requires : goal.unreachable-requires
-unreachable-requires g c =
+pub unreached-assert_unchecked-requires : goal.unreached-assert_unchecked-requires
+unreached-assert_unchecked-requires g c =
     let m = c.requires.may in
-    c.in_default.not-None (only_none _ (m.0 ∷ m.1 ∷ m.2) c.args.spot.place _ _ m.3 c.exchange-before.ensures.2)
+    absurd (c.in_default.not-None (only_none _ (m.0 ∷ m.1 ∷ m.2) c.args.spot.place _ _ m.3 c.exchange-before.ensures.2))
 
 pub change_hands-requires-clause-may : goal.change_hands-requires-clause-may
 change_hands-requires-clause-may g c =
@@ -41,16 +41,16 @@ exchange-found-requires g c =
       ),
     )
 
-pub unreachable-requires-in_default-found : goal.unreachable-requires-in_default-found
-unreachable-requires-in_default-found g c =
+pub unreached-assert_unchecked-requires-in_default-found : goal.unreached-assert_unchecked-requires-in_default-found
+unreached-assert_unchecked-requires-in_default-found g c =
     let m = c.requires.may in
     let is =
     only_in _ _ (m.0 ∷ m.1 ∷ m.2) c.args.spot.place _ c.args.value c.slot_of.ensures m.3
     c.exchange-before.ensures.3 in
     let t = c.change_hands.ensures.handed m.0 m.1 m.2 c.args.value is in
-    c.in_default-found.not-Some c.args.value
+    absurd (c.in_default-found.not-Some c.args.value
     (only_back c.change_hands.new.pass.me c.exchange-found.new.seat.me _ c.args.spot.place _ c.args.value _
-    c.slot_of-2.ensures t.2.5 c.exchange-found.ensures.2 c.exchange-found.ensures.3).0
+    c.slot_of-2.ensures t.2.5 c.exchange-found.ensures.2 c.exchange-found.ensures.3).0)
 
 pub returns-clause-value : goal.returns-clause-value
 returns-clause-value g c =

@@ -9,10 +9,10 @@ use Rattle.ownlock.proofs.steps.put_and_take.Goals as goal
 pub exchange-before-requires : goal.exchange-before-requires
 exchange-before-requires g c = let m = c.requires.may in (search rules, (None, put_out _ m.0 c.args.spot.place _ c.slot_of.ensures (c.bring_front.ensures.front m.0 m.1)))
 
-pub unreachable-requires : goal.unreachable-requires
-unreachable-requires g c =
+pub unreached-assert_unchecked-requires : goal.unreached-assert_unchecked-requires
+unreached-assert_unchecked-requires g c =
     let m = c.requires.may in
-    c.in_default.not-None (none_left _ m.0 c.args.spot.place _ _ (c.bring_front.ensures.front m.0 m.1) c.exchange-before.ensures.2)
+    absurd (c.in_default.not-None (none_left _ m.0 c.args.spot.place _ _ (c.bring_front.ensures.front m.0 m.1) c.exchange-before.ensures.2))
 
 pub load-requires : goal.load-requires
 load-requires g c =
@@ -30,14 +30,14 @@ exchange-found-requires g c =
     let t = c.load.ensures.2 m.0 c.args.spot.place c.args.value (map emptied (without c.args.spot.place m.0.held)) is in
     (search rules, (Some c.args.value, full_out c.load.new.seat.me _ c.args.spot.place _ c.args.value (map emptied (without c.args.spot.place m.0.held)) c.slot_of-2.ensures t.2.3))
 
-pub unreachable-requires-in_default-found : goal.unreachable-requires-in_default-found
-unreachable-requires-in_default-found g c =
+pub unreached-assert_unchecked-requires-in_default-found : goal.unreached-assert_unchecked-requires-in_default-found
+unreached-assert_unchecked-requires-in_default-found g c =
     let m = c.requires.may in
     let left = c.bring_front.ensures.front m.0 m.1 in
     let is = put_in _ _ m.0 c.args.spot.place _ c.args.value c.slot_of.ensures left c.exchange-before.ensures.3 in
     let t = c.load.ensures.2 m.0 c.args.spot.place c.args.value (map emptied (without c.args.spot.place m.0.held)) is in
-    c.in_default-found.not-Some c.args.value
-    (taken_again c.load.new.seat.me c.exchange-found.new.seat.me _ c.args.spot.place _ c.args.value (map emptied (without c.args.spot.place m.0.held)) _ c.slot_of-2.ensures t.2.3 refl c.exchange-found.ensures.2 c.exchange-found.ensures.3).0
+    absurd (c.in_default-found.not-Some c.args.value
+    (taken_again c.load.new.seat.me c.exchange-found.new.seat.me _ c.args.spot.place _ c.args.value (map emptied (without c.args.spot.place m.0.held)) _ c.slot_of-2.ensures t.2.3 refl c.exchange-found.ensures.2 c.exchange-found.ensures.3).0)
 
 pub returns-clause-value : goal.returns-clause-value
 returns-clause-value g c =

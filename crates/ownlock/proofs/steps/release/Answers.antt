@@ -9,8 +9,8 @@ use Rattle.ownlock.proofs.steps.release.Goals as goal
 pub exchange-emptied-requires : goal.exchange-emptied-requires
 exchange-emptied-requires g c = let m = c.requires.may in (search rules, (None, put_out _ m.0 c.args.spot.place _ c.slot_of.ensures (c.bring_front.ensures.front m.0 m.1)))
 
-pub unreachable-requires : goal.unreachable-requires
-unreachable-requires g c = let m = c.requires.may in c.in_default.not-None (none_left _ m.0 c.args.spot.place _ _ (c.bring_front.ensures.front m.0 m.1) c.exchange-emptied.ensures.2)
+pub unreached-assert_unchecked-requires : goal.unreached-assert_unchecked-requires
+unreached-assert_unchecked-requires g c = let m = c.requires.may in absurd (c.in_default.not-None (none_left _ m.0 c.args.spot.place _ _ (c.bring_front.ensures.front m.0 m.1) c.exchange-emptied.ensures.2))
 
 pub leave-requires-clause-may : goal.leave-requires-clause-may
 leave-requires-clause-may g c =

@@ -10,12 +10,12 @@ exchange-found-requires g c =
       (Some t.1, slot_out g.V.Shelved.rules c.args.pass.now.me _ t.0 c.args.spot.place _ t.1 c.slot_of.ensures t.3),
     )
 
-pub unreachable-requires : goal.unreachable-requires
-unreachable-requires g c =
+pub unreached-assert_unchecked-requires : goal.unreached-assert_unchecked-requires
+unreached-assert_unchecked-requires g c =
     let m = c.requires.may in
     let t = (c.is_taken.ensures.tried m.0 m.1).1 (search rules) in
-    c.in_default.not-Some t.1
-    (was_there g.V.Shelved.rules c.args.pass.now.me _ t.0 c.args.spot.place _ t.1 _ t.3 c.exchange-found.ensures.2)
+    absurd (c.in_default.not-Some t.1
+    (was_there g.V.Shelved.rules c.args.pass.now.me _ t.0 c.args.spot.place _ t.1 _ t.3 c.exchange-found.ensures.2))
 
 pub returns-clause-taken : goal.returns-clause-taken
 returns-clause-taken g c value is k sits =

@@ -1,5 +1,4 @@
 use Rattle.std.proofs.Common.{◌∙◌, ap, subst, sym}
-use Rattle.store_steps.specs.Alone.{AsksSoFar}
 use Rattle.store_steps.specs.AtOnce.{HasGone, IsAlone, MayGoOn}
 use Rattle.store_steps.specs.Knowing.{IsOn}
 use Rattle.store_steps.specs.Standing.{IsFree, StoreSeat}

@@ -2,11 +2,10 @@ use Rattle.ownlock.specs.Seats.{run_of}
 use Rattle.ownlock.proofs.Export.{adds_on, one_known, stepped_by}
 use Rattle.std.proofs.Common.{◌+◌, [], ◌∷◌, Some, sym, refl, ap, ◌∙◌, subst}
 use Rattle.accounts.specs.declared.sessions.SessionNote.{SessionNote}
-use Rattle.accounts.specs.Moves.{unplaced}
 use Rattle.store_steps.specs.Combining.{HasClaimed}
 use Rattle.store_steps.specs.Lending.{with_replica}
 use Rattle.store_steps.specs.Due.{brought, placed_of}
-use Rattle.store_steps.specs.Standing.{Agrees, HasAppended, IsFree}
+use Rattle.store_steps.specs.Standing.{Agrees, IsFree}
 use Rattle.store_steps.proofs.Stretches.{answers_by}
 use Rattle.store_steps.proofs.Combined.{from_k, ready, session_is}
 use Rattle.store_steps.proofs.Finished.{back, holds_on, may_put_replica, put_back}

@@ -2,8 +2,8 @@ use Rattle.std.proofs.Common.{subst}
 use Rattle.store_steps.specs.Stages.{IsOut, IsPolled}
 use Rattle.store_steps.proofs.deeds.go_on.Goals as goal
 
-pub unreachable-requires : goal.unreachable-requires
-unreachable-requires c = subst IsOut c.in-Idle.is c.requires.out
+pub unreached-assert_unchecked-requires : goal.unreached-assert_unchecked-requires
+unreached-assert_unchecked-requires c = absurd (subst IsOut c.in-Idle.is c.requires.out)
 
 pub take_turn-requires-clause-polled : goal.take_turn-requires-clause-polled
 take_turn-requires-clause-polled c = subst (λ z. IsPolled c.args.seat.now c.args.here.caller c.args.batch.now c.args.replies.now z) c.in-Asked.is c.requires.polled

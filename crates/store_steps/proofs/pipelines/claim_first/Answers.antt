@@ -39,14 +39,14 @@ IsNoClaim (Collects reply) = Unit {0}
 IsNoClaim Combines = ⊥
 IsNoClaim Waits = Unit {0}
 
-pub unreachable-requires : goal.unreachable-requires
-unreachable-requires c =
+pub unreached-assert_unchecked-requires : goal.unreached-assert_unchecked-requires
+unreached-assert_unchecked-requires c =
     let own = slice_index_or c.args.members.now 0 c.index-members-0.result in
     let h = c.requires.has own (member_at c.args.members.now 0 c.index-members-0.result c.requires.some c.index-members-0.is) in
     let i = h.1 in
     let p = c.post_and_settle-held.ensures.kept i.0 i.1 i.2 i.3 in
     let g = claiming c.args.shared own c.args.first.0 c.post_and_settle-held.new.seat c.args.first.1 c.post_and_settle-held.result i.0 i.1 p.asked p.now i.2 h.0 c.args.op.now c.post_and_settle-held.ensures.posted c.requires.free p.has c.post_and_settle-held.ensures.same.1 p.posted.back.session c.turn_and_put.new.batch c.turn_and_put.result _ (was_turn (here_of c.args.shared own) c.post_and_settle-held.result c.turn_and_put.new.batch c.turn_and_put.result c.turn_and_put.ensures.turn) in
-    subst IsNoClaim g.claims (⊎_elim (λ u. subst IsNoClaim (sym u.1) tt) (λ u. subst IsNoClaim (sym u) tt) c.in-Collects.is)
+    absurd (subst IsNoClaim g.claims (⊎_elim (λ u. subst IsNoClaim (sym u.1) tt) (λ u. subst IsNoClaim (sym u) tt) c.in-Collects.is))
 
 not_zero : (j : ℕ) → 0 < j → j ≡ 0 → ⊥
 not_zero j lt e = omega (arith, lt, e)

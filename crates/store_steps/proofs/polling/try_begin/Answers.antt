@@ -14,8 +14,8 @@ try_post_and_turn-requires-clause-idle c =
     let few = known_as c.args.seat.now (λ (k : SessionKnown). suc (length k.note.answered) < 2 ^ 64) c.requires.few i.known i.is in
     (i.known, i.is, i.free, record { rests = (i.pending, i.unread); alone = i.batch; few = few }, on_known c.args.here.shared c.args.seat.now i.known i.is c.requires.on)
 
-pub unreachable-requires : goal.unreachable-requires
-unreachable-requires c = subst FoundNoAnswer c.in-Some-Collects.field-0-is c.in-Some-Collects.ensures.fresh
+pub unreached-assert_unchecked-requires : goal.unreached-assert_unchecked-requires
+unreached-assert_unchecked-requires c = absurd (subst FoundNoAnswer c.in-Some-Collects.field-0-is c.in-Some-Collects.ensures.fresh)
 
 pub returns-in-Some-Waits-clause-begun : goal.returns-in-Some-Waits-clause-begun
 returns-in-Some-Waits-clause-begun c kept =
