@@ -4,11 +4,11 @@ ghost use Rattle.std.specs.Prelude.{◌≡◌, ◌<◌, ◌≤◌, [], ◌∷◌
 ghost use Rattle.maps.specs.declared.shapes.TheConstants.{MOST_ARG_LEN};
 ghost use Rattle.oplog.specs.Operations.{FitsIn};
 ghost use Rattle.combiner.specs.declared.slots.Reply.{Reply as TheReply};
-ghost use Rattle.combiner.specs.Desks.{BatchView};
+ghost use Rattle.combiner.specs.Desks.{BatchView, only};
 
 use crate::slots::Reply;
 use maps::MOST_ARG_LEN;
-use oplog::{LaidRef, RecordList, Records};
+use oplog::{LaidRef, NewRecord, RecordList, Records};
 use std::alloc::{AllocError, Global};
 use std::marker::Model;
 use unreached::unreached;
@@ -74,6 +74,19 @@ impl Batch {
         self.records.push_laid(author, seq, op);
         self.answers[k] = None;
         self.count = k + 1;
+    }
+
+    /// Becomes a batch of this record alone, without its answer.
+    #[inline(never)]
+    pub fn set_only(&mut self, new: &NewRecord<'_>)
+        ensures only { self.new ≡ only new.now }
+    {
+        self.clear();
+        // (it is no longer than any operation)
+        let _parts = new.op.parts();
+        self.records.push(new.author, new.seq, new.op);
+        self.answers[0] = None;
+        self.count = 1;
     }
 
     /// The records of the requests, in the order of their slots.

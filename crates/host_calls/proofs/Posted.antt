@@ -1,6 +1,7 @@
 -- A call that posts an update and goes on with it.
-use Rattle.std.proofs.Common.{◌≡◌, ◌≤◌, [], length, refl, None, Some, Option, MatchOption, sym, ap, subst, ◌∙◌}
+use Rattle.std.proofs.Common.{◌≡◌, ◌≤◌, [], length, refl, None, Some, Option, Result, Ok, MatchOption, sym, ap, subst, ◌∙◌}
 use Rattle.oplog.specs.Operations.{Operation}
+use Rattle.combiner.specs.declared.slots.Reply.{Reply}
 use Rattle.combiner.specs.declared.slots.Reply.TheVariants.{Placed, Ended}
 use Rattle.replica.specs.StoreMeaning.{store_meaning}
 use Rattle.replica.specs.declared.refusals.StoreRefused.{StoreRefused}
@@ -10,14 +11,20 @@ use Rattle.accounts.specs.Accounts.{Extends}
 use Rattle.accounts.specs.Moves.{answered_with, posted_with}
 use Rattle.accounts.specs.Told.{Tells}
 use Rattle.store_steps.specs.Polling.{HasAskedFor}
+use Rattle.store_steps.specs.Stages.{TellsDone}
 use Rattle.store_steps.specs.Views.{SessionView, known_of}
 use Rattle.store_steps.proofs.Export.{store_laws}
 use Rattle.store_laws.specs.Gone.{GoneOn}
-use Rattle.store.specs.Polled.{HasPostedFor}
+use Rattle.store.specs.declared.answers.Answer.{Answer}
+use Rattle.store.specs.Polled.{HasPostedFor, TellsAnswer}
+use Rattle.store.specs.declared.updating.Tried.{Tried}
+use Rattle.store.specs.declared.updating.Tried.TheVariants.{Busy as StillHeld, Waits, Ends}
+use Rattle.store.specs.Sessions.{SessionGoesOn, StoreView, said}
+use Rattle.store.specs.Asking.{AsksAndGoesOn, TellsTried}
 use Rattle.store.proofs.Export.{gone_then}
 use Rattle.host_calls.specs.declared.attached.CallResult.{CallResult}
 use Rattle.host_calls.specs.declared.attached.CallResult.TheVariants.{Busy, Again, Answered, Refused, NotOpen, IsOut, NoWord, Allowed}
-use Rattle.host_calls.specs.CallResults.{HasGrown, posted_as, TellsOut, TellsPosting, TellsRefused, TellsUpdate}
+use Rattle.host_calls.specs.CallResults.{HasGrown, answered, posted_as, tried_call, TellsOut, TellsPosting, TellsRefused, TellsUpdate}
 
 pub none_of : {A : Type 0} (x : Option A) → ((a : A) → x ≡ Some a → ⊥) → x ≡ None
 none_of None never = refl
@@ -51,6 +58,15 @@ posting op old new o IsOut is seen t = absurd t
 posting op old new o NoWord is seen t = absurd t
 posting op old new o Allowed is seen t = absurd t
 
+-- who has the answer tells it
+pub out_answered : (old new : SessionView) (o : Pending) (answer : Result Answer StoreRefused)
+    → TellsAnswer old new o answer → TellsOut old new o (answered answer)
+out_answered old new o answer (reply, is, done) = subst (λ z. TellsOut old new o (answered z)) (sym is) (by reply done)
+  where
+    by : (reply : Reply) → TellsDone old new o reply → TellsOut old new o (answered (said reply))
+    by (Placed place x) d = d
+    by Ended d = (refl, d)
+
 -- who has posted has asked
 pub asked_for : (old mid : SessionView) (op : Operation) → HasPostedFor old mid op → HasAskedFor old mid op
 asked_for old mid op (o, is, seen, note) = (o, is, seen, ap (λ (n : SessionNote). record n { batch = [] }) note)
@@ -65,3 +81,30 @@ posted_then op refused old mid new told idle none (o, is, seen, note) same grew 
       subst (λ p. MatchOption p (MatchOption refused (TellsPosting op old new told) (λ why. TellsRefused old new told why)) (λ o'. TellsOut old new o' told)) (sym idle)
           (subst (λ r. MatchOption r (TellsPosting op old new told) (λ why. TellsRefused old new told why)) (sym none) at),
     )
+
+-- who has asked and gone on in one call
+asked_then : (store : StoreView) (op : Operation) (refused : Option StoreRefused) (old new : SessionView)
+    (answer : Option (Result Answer StoreRefused)) (told : CallResult) → old.note.pending ≡ None → refused ≡ None
+    → (a : AsksAndGoesOn store old new op answer)
+    → ((o : Pending) → a.between.note.pending ≡ Some o → TellsOut a.between new o told)
+    → TellsUpdate op refused old new told
+asked_then store op refused old new answer told idle none a tells =
+    let s = a.asks.session in
+    let t = a.goes_on.session in
+    let grown : HasGrown a.between new = record { grown = t.grown; well_formed = t.well_formed; gone = t.gone } in
+    posted_then op refused old a.between new told idle none a.asks.asked s.same.1 s.grown s.gone grown tells
+
+pub tried_then : (store : StoreView) (op : Operation) (refused : Option StoreRefused) (old new : SessionView)
+    → old.note.pending ≡ None → refused ≡ None → SessionGoesOn store old new → (tried : Tried)
+    → TellsTried store old new op (Ok tried) → TellsUpdate op refused old new (tried_call tried)
+tried_then store op refused old new idle none goes StillHeld told = (
+  record { grown = goes.grown; well_formed = goes.well_formed; gone = goes.gone },
+  subst (λ p. MatchOption p (MatchOption refused (TellsPosting op old new Busy)
+      (λ why. TellsRefused old new Busy why)) (λ o. TellsOut old new o Busy)) (sym idle)
+      (subst (λ r. MatchOption r (TellsPosting op old new Busy) (λ why. TellsRefused old new Busy why)) (sym none) told),
+)
+tried_then store op refused old new idle none goes Waits told =
+    asked_then store op refused old new None Again idle none told told.goes_on.completed
+tried_then store op refused old new idle none goes (Ends answer) told =
+    asked_then store op refused old new (Some answer) (answered answer) idle none told
+    (λ o is. out_answered told.between new o answer (told.goes_on.completed o is))

@@ -1,5 +1,5 @@
 -- What a session tells of an update or a read that is asked of it.
-use Rattle.std.specs.Prelude.{◌≡◌, ℕ, ◌≤◌, length, Option, MatchOption}
+use Rattle.std.specs.Prelude.{◌≡◌, ℕ, ◌≤◌, length, Option, MatchOption, Result, Ok, Err}
 use Rattle.loader.specs.CatalogueView.{CatalogueView}
 use Rattle.loader.specs.StoreState.{StoreState}
 use Rattle.oplog.specs.Operations.{Operation}
@@ -14,6 +14,9 @@ use Rattle.accounts.specs.Moves.{posted_with}
 use Rattle.accounts.specs.Told.{read_with}
 use Rattle.store_steps.specs.Views.{SessionView, known_of}
 use Rattle.store_laws.specs.Gone.{GoneOn}
+use Rattle.store.specs.declared.answers.Answer.{Answer}
+use Rattle.store.specs.declared.updating.Tried.{Tried}
+use Rattle.store.specs.declared.updating.Tried.TheVariants.{Busy as StillHeld, Waits, Ends}
 use Rattle.store.specs.Looks.{HasReply}
 use Rattle.store_steps.specs.Sights.{SightTells}
 use Rattle.store.specs.Sessions.{IsFresh}
@@ -32,6 +35,17 @@ pub record HasGrown (old new : SessionView) : Type 0 where
 abbrev pub IsSeen : {A : Type 0} → (A → CatalogueView → StoreState → Type 0) → (A → ℕ) → (old new : SessionView) → A
     → Type 0
 IsSeen P point old new answer = IsFresh old new (point answer) × SightTells (P answer) new.progress old.progress.completed (point answer)
+
+-- what is told of an update that has its answer
+abbrev pub answered : Result Answer StoreRefused → CallResult
+answered (Ok a) = Answered a.index a.reply
+answered (Err why) = Refused why
+
+-- what is told of an update that was tried
+abbrev pub tried_call : Tried → CallResult
+tried_call StillHeld = Busy
+tried_call Waits = Again
+tried_call (Ends answer) = answered answer
 
 -- of a session that waits for this request: it waits still, and its note has changed in nothing but its batch; or it has the answer, with its place
 -- in the history that the session knows now and the reply there; or that history has its last record, and none of the request

@@ -8,7 +8,7 @@ ghost use Rattle.replica.specs.Refusals.{early_refusal};
 ghost use Rattle.verifier.specs.declared.refusal.Mode.TheVariants.{Update};
 ghost use Rattle.host_calls.specs.Calls.{TellsCall, asks_install, asks_post, asks_read, asks_update, asks_within, check_result};
 ghost use Rattle.host_calls.specs.Looks.{TellsAnswers, TellsGot, TellsMany, TellsScanned, TellsSnapped, look_each, next_word};
-ghost use Rattle.host_calls.specs.CallResults.{HasGrown, TellsOut};
+ghost use Rattle.host_calls.specs.CallResults.{HasGrown, TellsOut, answered, tried_call};
 ghost use Rattle.host_calls.specs.Views.{IsPlaced, IsSame};
 
 use crate::handles::{AT_END, MOST_ASKED};
@@ -18,8 +18,8 @@ use std::alloc::Global;
 use std::marker::Model;
 use std::sync::Arc;
 use store::{
-    Beginning, Confined, MapKey, Mode, Polled, Question, QuestionRefused, Session, Store,
-    StoreRefused, StoreState,
+    Answer, Beginning, Confined, MapKey, Mode, Polled, Question, QuestionRefused, Session, Store,
+    StoreRefused, StoreState, Tried,
 };
 
 /// A session and the store that it is of.
@@ -112,6 +112,30 @@ fn look_each(tried: Result<Option<u64>, QuestionRefused>, count: u64) -> Looked
     }
 }
 
+// What is told of an update that has its answer.
+fn answered(answer: Result<Answer, StoreRefused>) -> CallResult
+    ensures answered { result ≡ answered answer }
+{
+    match answer {
+        Err(why) => CallResult::Refused(why),
+        Ok(answer) => CallResult::Answered {
+            point: answer.index,
+            reply: answer.reply,
+        },
+    }
+}
+
+// What is told of an update that was tried.
+fn tried_call(tried: Tried) -> CallResult
+    ensures tried { result ≡ tried_call tried }
+{
+    match tried {
+        Tried::Busy => CallResult::Busy,
+        Tried::Waits => CallResult::Again,
+        Tried::Ends(answer) => answered(answer),
+    }
+}
+
 impl Attached {
     pub fn new(store: Arc<Store, Global>, place: usize, session: Polled) -> Attached
         requires own { IsOf (arc_value store) session }
@@ -179,11 +203,7 @@ impl Attached {
         let Attached { store, session, .. } = self;
         match session.try_complete(store) {
             None => CallResult::Again,
-            Some(Err(why)) => CallResult::Refused(why),
-            Some(Ok(answer)) => CallResult::Answered {
-                point: answer.index,
-                reply: answer.reply,
-            },
+            Some(answer) => answered(answer),
         }
     }
 
@@ -198,8 +218,7 @@ impl Attached {
         let Attached { store, session, .. } = &mut *self;
         match session.try_update(store, program, argument) {
             Err(why) => CallResult::Refused(why),
-            Ok(None) => CallResult::Busy,
-            Ok(Some(())) => self.go_on(),
+            Ok(tried) => tried_call(tried),
         }
     }
 

@@ -17,6 +17,7 @@ pub(crate) fn padded<const SIZE: usize>(bytes: &[u8]) -> [u8; SIZE]
 }
 
 // Puts an argument in the place of another of this length, with zeros behind it.
+#[inline(always)]
 pub(crate) fn refill(bytes: &mut [u8; MAX_ARG_LEN], old: usize, argument: &[u8])
     requires zeros { bytes.old ≡ padded MAX_ARG_LEN (take old bytes.old) }
     requires within { old ≤ MAX_ARG_LEN }

@@ -53,6 +53,7 @@ impl Call {
     }
 
     // Becomes the call of a program on an argument, in its place.
+    #[inline(always)]
     pub(crate) fn set(&mut self, program: u16, argument: &[u8])
         requires fits { length argument.now ≤ MAX_ARG_LEN }
         ensures call { self.new ≡ record { program = program; argument = argument.now } }

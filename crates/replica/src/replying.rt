@@ -1,6 +1,6 @@
 // Outcomes that are kept while records are replayed.
 
-ghost use Rattle.std.specs.Prelude.{◌≡◌, ◌<◌, ◌≤◌, Some, slice_get, length};
+ghost use Rattle.std.specs.Prelude.{◌≡◌, ◌<◌, ◌≤◌, [], ◌∷◌, Some, slice_get, length};
 ghost use Rattle.replica.specs.Views.{no_replies, with_outcome};
 
 use machine::Outcome;
@@ -47,6 +47,15 @@ impl Replies {
         self.first = first;
         self.count = count;
         self.outcomes[..count].fill(None);
+    }
+
+    /// Keeps the outcome of this index, if its record has been replayed, and no longer those of the indexes before.
+    pub fn set_only(&mut self, index: u64, outcome: Option<Outcome>)
+        ensures only { self.new ≡ record { first = index; outcomes = outcome ∷ [] } }
+    {
+        self.first = index;
+        self.count = 1;
+        self.outcomes[0] = outcome;
     }
 
     /// The first of the indexes.

@@ -12,6 +12,7 @@ pub mod Last
 pub mod Closing
 pub mod EachSession
 pub mod Linear
+pub mod Asking
 pub mod InOrder
 pub mod MayInstall
 pub mod Confines

@@ -28,6 +28,7 @@ use Rattle.accounts.specs.declared.sessions.SessionNote.{SessionNote}
 use Rattle.schedule.specs.Trace.{Back, Call, ReadBack, Trace, Updated, caller}
 use Rattle.store_steps.specs.Asking.{asked_op}
 use Rattle.store_steps.specs.Shelving.{places_of, sessions_of, store_opening, store_rules}
+use Rattle.store_steps.specs.Polling.{HasAskedFor}
 use Rattle.store_steps.specs.Stages.{IsOnItsWay}
 use Rattle.store_steps.specs.Standing.{SessionKnown}
 use Rattle.store_steps.specs.Views.{SessionView, known_of}
@@ -41,7 +42,7 @@ use Rattle.store.specs.Explained.{ClosesExplained}
 use Rattle.store.specs.Linear.{Adds, AddsAnswer, AddsPost, AddsRead, AddsTry, AddsUpdate, AreExplained, Explained, Linearizes, own_events, seen}
 use Rattle.store.specs.Opening.{ClosedView, IsClosed, last_state, setup_of}
 use Rattle.store.specs.PolledPipelines.{IsTold}
-use Rattle.store.specs.Polled.{TellsAsked, TellsCompleted, TellsPost}
+use Rattle.store.specs.Polled.{TellsCompleted, TellsPost}
 use Rattle.store.specs.Sessions.{SessionGoesOn, StoreView, TellsUpdate}
 use Rattle.store.specs.declared.answers.Answer.{Answer}
 
@@ -144,11 +145,8 @@ module _ (store : StoreView) (old new : SessionView) (op : Operation) (goes : Se
   adds_post (Ok (Some a)) told = posts told.0 told.1 (ap (λ (n : SessionNote). n.events) told.3)
   adds_post (Err e) told = absurd told
 
-  pub adds_asked : {A : Type 0} (result : Result (Option A) StoreRefused) → TellsAsked old new op result
-      → AddsPost old new op result
-  adds_asked (Ok None) told = adds_still old new told
-  adds_asked (Ok (Some a)) told = posts told.0 told.1 (ap (λ (n : SessionNote). n.events) told.3)
-  adds_asked (Err e) told = absurd told
+  pub adds_asked : HasAskedFor old new op → Adds old new (Call old.session Update op ∷ [])
+  adds_asked told = posts told.0 told.1 (ap (λ (n : SessionNote). n.events) told.3)
 
 -- ---- a read
 

@@ -7,7 +7,6 @@ use Rattle.combiner.specs.declared.slots.Reply.{Reply}
 use Rattle.store.specs.declared.answers.Answer.{Answer}
 use Rattle.store.specs.Sessions.{known_of, said}
 use Rattle.store_steps.specs.AtOnce.{UpdatesInHolds}
-use Rattle.store_steps.specs.Polling.{BeginsBy}
 use Rattle.store_steps.specs.Standing.{SessionKnown}
 use Rattle.store_steps.specs.Updating.{CollectsBy, Deeds, PostsBy, UpdatesBy}
 
@@ -23,10 +22,6 @@ UpdateHolds old new op result = (reply : Reply) × (result ≡ said reply) × Up
 -- a post, unless the desk is held
 abbrev pub PostGoes : {A : Type 0} → (old new : SessionView) → Operation → Result (Option A) StoreRefused → Type 0
 PostGoes old new op result = IfOk result (λ o. IfSome o (λ _. PostsBy (known_of old) (known_of new) op))
-
--- a post and what the session did in the same hold, unless the desk is held
-abbrev pub BeginGoes : {A : Type 0} → (old new : SessionView) → Operation → Result (Option A) StoreRefused → Type 0
-BeginGoes old new op result = IfOk result (λ o. IfSome o (λ _. BeginsBy (known_of old) (known_of new) op))
 
 -- a call that goes on with an update, deed by deed; where it has the answer, that was collected last
 abbrev pub CompleteGoes : (old new : SessionView) → Option (Result Answer StoreRefused) → Type 0

@@ -14,6 +14,8 @@ pub mod Describing
 pub mod Within
 -- What a call adds to the calls of its session, and the list of operations that explains those of all sessions.
 pub mod Linear
+-- An update that a session asks for and waits for nobody.
+pub mod Asking
 -- Calls of two sessions, one after the other.
 pub mod InOrder
 -- The history that explains what the sessions of a closed store did.

@@ -7,7 +7,6 @@ use Rattle.accounts.specs.declared.sessions.Pending.{Pending}
 use Rattle.accounts.specs.Moves.{posted_with}
 use Rattle.store.specs.declared.answers.Answer.{Answer}
 use Rattle.store.specs.Sessions.{said}
-use Rattle.store_steps.specs.Polling.{HasAskedFor}
 use Rattle.store_steps.specs.Stages.{IsOnItsWay, TellsDone}
 use Rattle.store_steps.specs.Views.{SessionView}
 
@@ -18,10 +17,6 @@ HasPostedFor old new op = (o : Pending) × (o.op ≡ op) × (length old.progress
 -- a post that isn't refused: where its desk is held the session is as it was, else the operation is posted, once
 abbrev pub TellsPost : {A : Type 0} → (old new : SessionView) → Operation → Result (Option A) StoreRefused → Type 0
 TellsPost old new op result = MatchResult result (λ o. MatchOption o (new ≡ old) (λ _. HasPostedFor old new op)) (λ _. ⊥)
-
--- the same, but the session may have claimed a batch in the same hold
-abbrev pub TellsAsked : {A : Type 0} → (old new : SessionView) → Operation → Result (Option A) StoreRefused → Type 0
-TellsAsked old new op result = MatchResult result (λ o. MatchOption o (new ≡ old) (λ _. HasAskedFor old new op)) (λ _. ⊥)
 
 abbrev pub TellsAnswer : (old new : SessionView) → Pending → Result Answer StoreRefused → Type 0
 TellsAnswer old new o result = (reply : Reply) × (result ≡ said reply) × TellsDone old new o reply

@@ -37,5 +37,6 @@ pub use store_steps::{
     Batches, Beginning, GetRefused, InfoRefused, Lookup, MapInfo, MapKey, ProgramFacts,
     ProgramInfo, Question, QuestionRefused, Scan, ScanRefused, Setup, Stats, Value, desks,
 };
+pub use updating::Tried;
 pub use verifier::Mode;
 pub use within::Confined;

@@ -89,8 +89,7 @@ impl Polled {
     /// let mut polled = Polled::new(sessions.remove(0));
     /// sessions.destroy_empty();
     ///
-    /// let _posted = polled.try_update(&store, 0, &[])?;
-    /// let _answer = polled.try_complete(&store);
+    /// let _tried = polled.try_update(&store, 0, &[])?;
     /// assert_eq!(rt; polled.shared_batches(), Batches { count: 0, requests: 0, largest: 0 }); // its one batch had one update
     /// ```
     pub fn shared_batches(&self) -> Batches {

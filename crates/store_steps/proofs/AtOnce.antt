@@ -1,5 +1,5 @@
 -- A session posts and has a turn in one hold of its desk: what it is between the two.
-use Rattle.std.proofs.Common.{◌≡◌, ℕ, suc, ◌<◌, ◌^◌, [], length, refl, sym, ap, ◌∙◌, subst, Some, None}
+use Rattle.std.proofs.Common.{◌≡◌, ℕ, suc, ◌<◌, ◌^◌, length, refl, sym, ap, ◌∙◌, subst, Some, None}
 use Rattle.std.specs.Option.{option_and_then, option_map}
 use Rattle.atomic_table.proofs.Lists.{set_here}
 use Rattle.ownlock.specs.Seats.{At}

@@ -79,6 +79,13 @@ asked_of s caller k o a alone = record { pending = a.pending; alone = alone; few
 moved_back : (k m : K) → IsBack k m → record m.note { batch = [] } ≡ record k.note { batch = [] } → Moved k m
 moved_back k m b way = record { session = b.session; held = b.held; extends = b.extends; well = well_formed m.progress b.stands.notes b.stands.accounts; way = way }
 
+-- who has what the programs of its batch answer has moved, and so has who handed that over
+pub moved_answered : (k m : K) (b : BatchView) (kept : RepliesView) → HasAnswered k m b kept → Moved k m
+moved_answered k m b kept h = record { session = h.session; held = h.held; extends = h.extends; well = well_formed m.progress h.stands.notes h.stands.accounts; way = h.note }
+
+pub moved_combined : (k m : K) → HasCombined k m → Moved k m
+moved_combined k m h = record { session = h.session; held = h.held; extends = h.extends; well = well_formed m.progress h.stands.notes h.stands.accounts; way = ap (λ (n : SessionNote). record n { batch = [] }) h.note }
+
 -- ---- what a deed leaves
 
 module _ (Goes : K → K → Deed → Type 0) (old new : S) (caller : Caller) (b : BatchView) (kept : RepliesView) (k : K) (o : Pending) (a : IsAsking old caller k o) where
@@ -127,12 +134,12 @@ module _ (Goes : K → K → Deed → Type 0) (old new : S) (caller : Caller) (b
 
   pub ran_gone : (m : K) → IsSession new m → HasAnswered k m b kept → Goes k m Went → Leaves Ready Went
   ran_gone m is h goes =
-      let v : Moved k m = record { session = h.session; held = h.held; extends = h.extends; well = well_formed m.progress h.stands.notes h.stands.accounts; way = ap (λ (n : SessionNote). record n { batch = [] }) h.note } in
+      let v = moved_answered k m b kept h in
       on_way m Ready Went (λ w. w) is v (m, o, asking_on old new caller k m o a is v, h.ready, h.stands) goes
 
   pub gave_gone : (m : K) → IsSession new m → HasCombined k m → Goes k m Went → Leaves Asked Went
   gave_gone m is h goes =
-      let v : Moved k m = record { session = h.session; held = h.held; extends = h.extends; well = well_formed m.progress h.stands.notes h.stands.accounts; way = ap (λ (n : SessionNote). record n { batch = [] }) h.note } in
+      let v = moved_combined k m h in
       on_way m Asked Went (λ w. w) is v (m, o, asking_on old new caller k m o a is v, ap (λ (n : SessionNote). n.batch) h.note) goes
 
   -- the session has its answer

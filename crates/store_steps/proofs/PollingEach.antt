@@ -10,11 +10,8 @@ use Rattle.replica.specs.Views.{RepliesView}
 use Rattle.accounts.specs.declared.sessions.Pending.{Pending}
 use Rattle.accounts.specs.declared.sessions.SessionNote.{SessionNote}
 use Rattle.accounts.specs.Accounts.{Extends}
-use Rattle.accounts.specs.Moves.{answered_with}
-use Rattle.accounts.specs.Told.{Tells}
 use Rattle.accounts.proofs.Export.{at_below, at_one, at_there, grown_long}
-use Rattle.store_steps.specs.declared.deeds.Deed.{Deed}
-use Rattle.store_steps.specs.declared.deeds.Deed.TheVariants.{Busy, Went, Collected}
+use Rattle.store_steps.specs.declared.deeds.Deed.TheVariants.{Busy, Collected}
 use Rattle.store_steps.specs.declared.deeds.Stage.{Stage}
 use Rattle.store_steps.specs.declared.deeds.Stage.TheVariants.{Idle, Asked, Claimed as StageClaimed, Ready as StageReady}
 use Rattle.store_steps.specs.declared.desks.Turn.TheVariants.{Collects}
@@ -32,13 +29,13 @@ use Rattle.store_steps.specs.Pipelines.{KnownAt, MayAskAt, SameSpots, spot_of}
 use Rattle.store_steps.specs.Polling.{DeedsGo}
 use Rattle.store_steps.specs.PollingEach.{AreIdle, AreOn, AreOut, BeginsEach, CompletesEach, WaitsEach, stage_at}
 use Rattle.store_steps.specs.Requests.{HasTurned}
-use Rattle.store_steps.specs.Stages.{HasDone, HasGone, IsAsking, IsOnItsWay, IsOut, IsPolled}
+use Rattle.store_steps.specs.Stages.{HasGone, IsAsking, IsOut, IsPolled}
 use Rattle.store_steps.specs.Standing.{IsFree, SessionKnown, StoreSeat}
 use Rattle.store_steps.specs.Trying.{IsStill}
-use Rattle.store_steps.specs.Updating.{Answers, Deeds, Gives, Rests, Tries}
-use Rattle.store_steps.specs.Views.{SessionView, known_of, session_view}
+use Rattle.store_steps.specs.Updating.{Answers, Deeds, Rests, Tries}
+use Rattle.store_steps.specs.Views.{SessionView, session_view}
 use Rattle.store_steps.proofs.AskingEach.{spots_below, was_at}
-use Rattle.store_steps.proofs.Begun.{asking_still, begun_combining, begun_waiting, deeds_after, gone_then, one_deed, seat_of}
+use Rattle.store_steps.proofs.Begun.{asking_still, begun_combining, begun_waiting, gave, gone_after, gone_busy, one_deed, seat_of}
 use Rattle.store_steps.proofs.Gone.{asked_of, collects_gone, held_gone, on_known, ran_gone, stays_gone}
 use Rattle.store_steps.proofs.Holds.{known_session}
 use Rattle.store_steps.proofs.Posting.{known_as, map_set}
@@ -52,30 +49,7 @@ K = SessionKnown
 abbrev S : Type 0
 S = StoreSeat
 
--- ---- one session, after two calls
-
-done_after : (old mid new : SessionView) → IsOnItsWay old mid → mid.session ≡ old.session → (deed : Deed) (o : Pending) → HasDone mid new o deed → HasDone old new o deed
-done_after old mid new way same Busy o d = d ∙ way
-done_after old mid new way same Went o d = d ∙ way
-done_after old mid new way same (Collected reply) o d = (
-  subst (λ (z : ℕ × SessionNote). Tells store_meaning new.progress z.0 (length z.1.answered) o reply) (λ j. (same j, way j)) d.0,
-  d.1 ∙ (λ j. answered_with (way j) o.op reply),
-)
-
-gone_after : (old mid new : S) (caller : Caller) (b c : BatchView) (kept now : RepliesView) (stage next : Stage) (deed : Deed) → HasGone DeedsGo old mid caller b kept stage Busy → HasGone DeedsGo mid new caller c now next deed → HasGone DeedsGo old new caller c now next deed
-gone_after old mid new caller b c kept now stage next deed g h = record {
-  request = h.request;
-  waited = sym (ap (λ (n : SessionNote). n.pending) g.done) ∙ h.waited;
-  session = h.session ∙ g.session;
-  extends = store_laws.extends_on (session_view old).progress (session_view mid).progress (session_view new).progress g.extends h.extends;
-  well_formed = h.well_formed;
-  done = done_after (session_view old) (session_view mid) (session_view new) g.done g.session deed h.request h.done;
-  goes = deeds_after (known_of (session_view old)) (known_of (session_view mid)) (known_of (session_view new)) deed g.goes h.goes;
-  polled = h.polled;
-}
-
-gone_busy : (old new : S) (caller : Caller) (b : BatchView) (kept : RepliesView) (stage : Stage) → HasGone DeedsGo old new caller b kept stage Went → HasGone DeedsGo old new caller b kept stage Busy
-gone_busy old new caller b kept stage g = record { request = g.request; waited = g.waited; session = g.session; extends = g.extends; well_formed = g.well_formed; done = g.done; goes = g.goes; polled = g.polled }
+-- ---- one session
 
 known_in : (s : S) (caller : Caller) (b : BatchView) (kept : RepliesView) (stage : Stage) → IsPolled s caller b kept stage → (k : K) × IsSession s k × (k.held ≡ [])
 known_in s caller b kept Idle v = (v.known, v.is, v.free.held)
@@ -259,8 +233,8 @@ gives_each old new b c kept replies out g zero p q at_p at_q =
     let is = known_as new 0 e.after q at_q e.is in (
       d.1,
       d.2,
-      gone_then p.seat q.seat p.caller v.0 d.0 v.1 v.2 d.3 c kept Idle (Collected d.1) (Gives p.caller.node b kept v.3 d.4 d.3.note)
-          (collects_gone DeedsGo (seat_of p.seat d.0) q.seat p.caller c kept d.0 v.1 (asking_still p.seat q.seat p.caller v.0 d.0 v.1 v.2 d.3) e.after d.1 is (ap (λ (n : SessionNote). n.batch) d.3.note) (any_batch d.0 e.after v.1 e.batch c d.1 e.turned)
+      gone_after p.seat (seat_of p.seat d.0) q.seat p.caller b c kept kept Asked Idle (Collected d.1) (gave p.seat p.caller v.0 d.0 v.1 v.2 b kept v.3 d.3 d.4)
+          (collects_gone DeedsGo (seat_of p.seat d.0) q.seat p.caller c kept d.0 v.1 (asking_still p.seat p.caller v.0 d.0 v.1 v.2 d.3) e.after d.1 is (ap (λ (n : SessionNote). n.batch) d.3.note) (any_batch d.0 e.after v.1 e.batch c d.1 e.turned)
           (d.0, Rests d.0, (e.batch, e.turns))),
     )
 gives_each old new b c kept replies out g (suc j) p q at_p at_q =

@@ -10,10 +10,13 @@ use Rattle.accounts.specs.Moves.{posted_with}
 use Rattle.store_steps.specs.declared.deeds.Deed.{Deed}
 use Rattle.store_steps.specs.declared.deeds.Deed.TheVariants.{Busy, Went, Collected}
 use Rattle.store_steps.specs.declared.deeds.Stage.{Stage}
+use Rattle.store_steps.specs.declared.deeds.Stage.TheVariants.{Claimed}
+use Rattle.store_steps.specs.declared.polling.Came.{Came}
+use Rattle.store_steps.specs.declared.polling.Came.TheVariants.{Posted, Went as WentOn}
 use Rattle.store_steps.specs.declared.desks.Turn.{Turn}
 use Rattle.store_steps.specs.declared.steps.Caller.{Caller}
 use Rattle.store_steps.specs.AtOnce.{FoundNoAnswer}
-use Rattle.store_steps.specs.Stages.{IsPolled}
+use Rattle.store_steps.specs.Stages.{HasGone, IsPolled}
 use Rattle.store_steps.specs.Standing.{SessionKnown, StoreSeat}
 use Rattle.store_steps.specs.Updating.{CollectsBy, Deeds, PostsBy, TurnsBy}
 use Rattle.store_steps.specs.Views.{SessionView, known_of, session_view}
@@ -48,8 +51,26 @@ pub record HasBegun (old new : StoreSeat) (caller : Caller) (op : Operation) (b 
   pub well_formed : IsWellFormed store_meaning (session_view new).progress
   pub polled : IsPolled new caller b kept stage
 
+-- ---- deeds in one call
+
 -- so many deeds in one call; where it has its answer, that was collected last
 abbrev pub DeedsGo : SessionKnown → SessionKnown → Deed → Type 0
 DeedsGo k after Busy = Deeds k after
 DeedsGo k after Went = Deeds k after
 DeedsGo k after (Collected reply) = (m : SessionKnown) × Deeds k m × CollectsBy m after reply
+
+-- the session posted this operation and claimed it alone in one hold of its desk, and then did so many deeds, up to this one
+pub record AsksAndGoes (old new : StoreSeat) (caller : Caller) (op : Operation) (b : BatchView) (kept : RepliesView)
+    (stage : Stage) (deed : Deed) : Type 0 where
+  pub between : StoreSeat
+  pub shelf : between.shelf ≡ old.shelf
+  pub claimed : BatchView
+  pub begun : (room : RepliesView) → HasBegun old between caller op claimed room Claimed
+  pub held : BeginsInOneHold (known_of (session_view old)) (known_of (session_view between)) op
+  pub gone : HasGone DeedsGo between new caller b kept stage deed
+
+-- what an update has come to in the call that asked for it
+abbrev pub HasCome : (old new : StoreSeat) → Caller → Operation → BatchView → RepliesView → Came → Type 0
+HasCome old new caller op b kept (Posted stage) = HasBegun old new caller op b kept stage
+    × BeginsInOneHold (known_of (session_view old)) (known_of (session_view new)) op
+HasCome old new caller op b kept (WentOn stage deed) = AsksAndGoes old new caller op b kept stage deed

@@ -13,6 +13,8 @@ use Rattle.store_steps.specs.declared.deeds.Deed.{Deed}
 use Rattle.store_steps.specs.declared.deeds.Deed.TheVariants.{Busy, Went, Collected}
 use Rattle.store_steps.specs.declared.deeds.Stage.{Stage}
 use Rattle.store_steps.specs.declared.deeds.Stage.TheVariants.{Idle, Asked, Claimed, Ready}
+use Rattle.store_steps.specs.declared.desks.Turn.{Turn}
+use Rattle.store_steps.specs.declared.desks.Turn.TheVariants.{Collects, Combines, Waits}
 use Rattle.store_steps.specs.declared.steps.Caller.{Caller}
 use Rattle.store_steps.specs.AtDesk.{IsReady}
 use Rattle.store_steps.specs.Combining.{HasClaimed}
@@ -50,6 +52,17 @@ IsOut Idle = ⊥
 IsOut Asked = Unit {0}
 IsOut Claimed = Unit {0}
 IsOut Ready = Unit {0}
+
+-- how an update stands after a turn of its session, and what became of the deed
+abbrev pub stage_after : Turn → Stage
+stage_after (Collects reply) = Idle
+stage_after Combines = Claimed
+stage_after Waits = Asked
+
+abbrev pub deed_after : Turn → Deed
+deed_after (Collects reply) = Collected reply
+deed_after Combines = Went
+deed_after Waits = Busy
 
 -- ---- what a deed tells
 

@@ -6,8 +6,8 @@ ghost use Rattle.oplog.specs.declared.records.Record.{Record};
 ghost use Rattle.ownlock.specs.Seats.{IsSession};
 ghost use Rattle.verifier.specs.declared.refusal.Mode.TheVariants.{Update};
 ghost use Rattle.replica.specs.StoreMeaning.{is_operation};
-ghost use Rattle.store_steps.specs.Alone.{AsksSoFar, ClaimsOwn, MayCombine, MayReply, RepliesAndTurns, SessionGoes, SessionPosts};
-ghost use Rattle.store_steps.specs.AtOnce.{MayAsk};
+ghost use Rattle.store_steps.specs.Alone.{AsksSoFar, ClaimsOwn, MayCombine, MayReply, RepliesAndTurns, SessionGoes, SessionPosts, turn_in};
+ghost use Rattle.store_steps.specs.AtOnce.{FoundNoAnswer, MayAsk};
 ghost use Rattle.store_steps.specs.Combining.{HasClaimed, SessionAnswers};
 ghost use Rattle.store_steps.specs.Knowing.{IsOn, Knows};
 ghost use Rattle.store_steps.specs.Standing.{IsFree, SessionKnown};
@@ -42,7 +42,7 @@ pub(crate) enum Posted<'a> {
 
 // `try_post_and_turn`; but where no other request is at the desk, the session claims its own alone, and the batch stays as it was.
 #[inline(always)]
-fn try_post_and_claim<'a>(
+pub(crate) fn try_post_and_claim<'a>(
     here: Here<'_>,
     seat: &mut Seat<Value>,
     op: &'a OpRef<'a>,
@@ -57,6 +57,7 @@ fn try_post_and_claim<'a>(
     ensures stays { IfNone result (seat.new ≡ seat.old) }
     ensures own { IfSome result (λ posted. (k : SessionKnown) → IsSession seat.old k → ClaimsOwn k posted) }
     ensures turned { IfSome result (SessionPosts seat.old seat.new op.now batch.new) }
+    ensures fresh { IfSome result (λ posted. FoundNoAnswer (turn_in posted)) }
 {
     let Some(mut held) = try_take_desk(here, seat, won) else {
         return None;
@@ -101,7 +102,7 @@ fn combine_alone<R: Wait>(
 // The session hands the answer of its own request over, which is the only one that is claimed, and has a turn in the same hold of the desk. If another
 // session holds the desk, the answer is `None`, and nothing has changed.
 #[inline(always)]
-fn try_reply_and_turn(
+pub(crate) fn try_reply_and_turn(
     here: Here<'_>,
     seat: &mut Seat<Value>,
     replies: &OneReply,

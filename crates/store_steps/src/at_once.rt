@@ -4,7 +4,7 @@ ghost use Rattle.std.specs.Prelude.{◌≡◌, true, IfNone, IfSome};
 ghost use Rattle.ownlock.specs.Seats.{IsSession};
 ghost use Rattle.verifier.specs.declared.refusal.Mode.TheVariants.{Update};
 ghost use Rattle.replica.specs.StoreMeaning.{is_operation};
-ghost use Rattle.store_steps.specs.AtOnce.{AsksAtOnce, FoundNoAnswer, GoesOnTo, MayAsk, MayGoOn, MayHandOver, PostsAndTurns, SessionGives};
+ghost use Rattle.store_steps.specs.AtOnce.{AsksAtOnce, GoesOnTo, MayAsk, MayGoOn, MayHandOver, PostsAndTurns, SessionGives};
 ghost use Rattle.store_steps.specs.Standing.{SessionKnown};
 
 use crate::alone::ask;
@@ -26,10 +26,10 @@ use std::marker::Brand;
 use std::sync::Wait;
 use unreached::unreached;
 
-/// Posts an operation at the desk of the caller's node, and has a turn there in the same hold: it claims the posted requests into the batch, unless
-/// another session combines. If another session holds the desk, the answer is `None`, and nothing has changed.
+// Posts an operation at the desk of the caller's node, and has a turn there in the same hold: it claims the posted requests into the batch, unless
+// another session combines. If another session holds the desk, the answer is `None`, and nothing has changed.
 #[inline(always)]
-pub fn try_post_and_turn(
+fn try_post_and_turn(
     here: Here<'_>,
     seat: &mut Seat<Value>,
     op: &OpRef<'_>,
@@ -41,7 +41,6 @@ pub fn try_post_and_turn(
     ensures same { seat.new.shelf ≡ seat.old.shelf }
     ensures stays { IfNone result ((seat.new ≡ seat.old) × (batch.new ≡ batch.old)) }
     ensures turned { IfSome result (λ turn. (k : SessionKnown) → IsSession seat.old k → PostsAndTurns seat.old seat.new k op.now batch.new turn) }
-    ensures fresh { IfSome result FoundNoAnswer }
 {
     let Some(mut held) = try_take_desk(here, seat, None) else {
         return None;
@@ -51,10 +50,10 @@ pub fn try_post_and_turn(
     Some(turn_and_put(here, seat, again, batch, None))
 }
 
-/// Answers the requests of the batch at the desk of the caller's node, by the outcomes that were kept of it, and has a turn there in the same hold: it
-/// collects its own answer. If another session holds the desk, the answer is `None`, and nothing has changed.
+// Answers the requests of the batch at the desk of the caller's node, by the outcomes that were kept of it, and has a turn there in the same hold: it
+// collects its own answer. If another session holds the desk, the answer is `None`, and nothing has changed.
 #[inline(always)]
-pub fn try_hand_over_and_turn(
+pub(crate) fn try_hand_over_and_turn(
     here: Here<'_>,
     seat: &mut Seat<Value>,
     batch: &mut Batch,

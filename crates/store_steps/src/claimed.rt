@@ -110,6 +110,18 @@ impl OneReply {
         }
     }
 
+    // Puts what is kept into this room, which loses what it had.
+    #[inline(never)]
+    pub(crate) fn move_to(&self, replies: &mut Replies)
+        ensures moved { replies.new ≡ self.now }
+    {
+        if self.has_place {
+            replies.set_only(self.index, self.outcome);
+        } else {
+            replies.restart(self.index, 0);
+        }
+    }
+
     // The answer that it makes.
     #[inline(always)]
     pub(crate) fn reply(&self) -> Reply

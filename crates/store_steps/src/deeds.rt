@@ -4,7 +4,7 @@
 ghost use Rattle.std.specs.Prelude.{◌≡◌};
 ghost use Rattle.replica.specs.Views.{RepliesView};
 ghost use Rattle.store_steps.specs.Knowing.{IsOn, Knows};
-ghost use Rattle.store_steps.specs.Stages.{HasGone, IsAsked, IsOut, IsPolled};
+ghost use Rattle.store_steps.specs.Stages.{HasGone, IsAsked, IsOut, IsPolled, deed_after, stage_after};
 ghost use Rattle.store_steps.specs.Updating.{DeedGoes};
 ghost use Rattle.store_steps.specs.declared.deeds.Stage.TheVariants.{Asked, Claimed, Ready};
 
@@ -32,6 +32,7 @@ pub enum Stage {
 }
 
 /// What became of a deed.
+#[derive(Drop)]
 pub enum Deed {
     /// Another session holds a place that it takes, or combines for this one.
     Busy,
@@ -39,6 +40,18 @@ pub enum Deed {
     Went,
     /// The answer to the update was collected.
     Collected(Reply),
+}
+
+// How an update stands after a turn of its session, and what became of the deed.
+#[inline(always)]
+pub(crate) fn after(turn: Turn) -> (Stage, Deed)
+    ensures after { result ≡ (stage_after turn, deed_after turn) }
+{
+    match turn {
+        Turn::Collects(reply) => (Stage::Idle, Deed::Collected(reply)),
+        Turn::Combines => (Stage::Claimed, Deed::Went),
+        Turn::Waits => (Stage::Asked, Deed::Busy),
+    }
 }
 
 // A turn of an update that is posted: collects its answer, or claims the requests of its node.
@@ -50,18 +63,12 @@ fn take_turn(here: Here<'_>, seat: &mut Seat<Value>, batch: &mut Batch, stage: &
     ensures same { seat.new.shelf ≡ seat.old.shelf }
     ensures gone { (kept : RepliesView) → HasGone DeedGoes seat.old seat.new here.entry.caller batch.new kept stage.new result }
 {
-    match try_turn(here, seat, batch) {
-        None => Deed::Busy,
-        Some(Turn::Waits) => Deed::Busy,
-        Some(Turn::Combines) => {
-            *stage = Stage::Claimed;
-            Deed::Went
-        }
-        Some(Turn::Collects(reply)) => {
-            *stage = Stage::Idle;
-            Deed::Collected(reply)
-        }
-    }
+    let Some(turn) = try_turn(here, seat, batch) else {
+        return Deed::Busy;
+    };
+    let (at, deed) = after(turn);
+    *stage = at;
+    deed
 }
 
 // Runs the requests that the session has claimed.

@@ -27,7 +27,7 @@ mod taking;
 mod values;
 mod visits;
 
-pub use at_once::{ask_at_once, try_hand_over_and_turn, try_post_and_turn};
+pub use at_once::ask_at_once;
 pub use batches::{Batches, Room};
 pub use deeds::{Deed, Stage, go_on};
 pub use describing::{InfoRefused, MapInfo, MapQuery, ProgramFacts, ProgramInfo, ProgramQuery};
@@ -35,7 +35,7 @@ pub use getting::{Get, GetRefused, Lookup, MapKey};
 pub use looks::{Look, look_waiting, try_look};
 pub use measuring::{Stats, measure, try_measure};
 pub use pipelines::{EachRoom, Member};
-pub use polling::{give_and_turn, try_begin};
+pub use polling::{Came, give_and_turn, try_ask};
 pub use polling_each::{EachStage, go_on_each, try_begin_each};
 pub use questions::{QuestionRefused, Reads, check_each};
 pub use requests::{complete, post, try_post};

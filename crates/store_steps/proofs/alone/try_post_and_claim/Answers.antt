@@ -1,6 +1,6 @@
 use Rattle.store_steps.specs.AtOnce.{IsAlone}
 use Rattle.store_steps.specs.Knowing.{IsOn}
-use Rattle.store_steps.proofs.AtOnce.{asks, posts_turn}
+use Rattle.store_steps.proofs.AtOnce.{asks, no_answer, posts_turn}
 use Rattle.store_steps.proofs.Taken.{known_as}
 use Rattle.store_steps.proofs.Turning.{may_post, puts_posted}
 use Rattle.store_steps.proofs.PutBack.{posts_and_again, took_last}
@@ -53,3 +53,7 @@ returns-clause-turned c k is =
     let a = posts_and_again c.args.here.caller k t.0 _ _ c.args.op.now t.2 c.desk_mut-desk.result.now c.post.new.desk c.desk_mut-desk.ensures.desk c.post.ensures.posted c.try_take_desk.new.seat t.1 _ own.1.catalogue_is c.requires.update own.0.rests c.settle-again.new.seat c.settle-again.ensures.settled _ c.settle-again.ensures.same.1 _ c.settle-again.ensures.same.2 in
     let f = c.turn_and_put.ensures.turned a.between a.again a.so.0.request a.is a.has (asks k a.between c.args.op.now own.0 a.so.0) in
     posts_turn c.args.here.caller _ _ c.args.seat.now _ k a.between a.again a.took a.next _ _ c.args.op.now a.so.0 a.so.1 f
+
+pub returns-clause-fresh : goal.returns-clause-fresh
+returns-clause-fresh c =
+    no_answer c.args.here.caller.slot c.args.op.now c.desk_mut-desk.result.now c.post.new.desk c.post.ensures.posted c.in-Some.held.value c.settle-again.result.value c.desk_mut-desk.ensures.desk c.settle-again.ensures.same.2 c.turn_and_put.new.batch c.turn_and_put.result c.turn_and_put.ensures.turn

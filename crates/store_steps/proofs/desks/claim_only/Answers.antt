@@ -1,4 +1,4 @@
-use Rattle.std.proofs.Common.{◌≡◌, ◌∙◌, ap, sym}
+use Rattle.std.proofs.Common.{◌∙◌, ap, sym}
 use Rattle.combiner.specs.Desks.{BatchView, only}
 use Rattle.store_steps.proofs.AtOnce.{posted_waits}
 use Rattle.store_steps.proofs.desks.claim_only.Goals as goal

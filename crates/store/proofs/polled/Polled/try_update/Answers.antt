@@ -5,8 +5,8 @@ use Rattle.replica.specs.Refusals.{early_refusal}
 use Rattle.replica.proofs.Export.{is_asked}
 use Rattle.store.proofs.polled.Polled.try_update.Goals as goal
 
-pub begin-requires-clause-update : goal.begin-requires-clause-update
-begin-requires-clause-update c =
+pub ask-requires-clause-update : goal.ask-requires-clause-update
+ask-requires-clause-update c =
     let none : early_refusal c.args.store.now.catalogue Update c.args.program c.args.argument.now ≡ None = search rules in
     subst (λ o. is_operation Update c.args.store.now.catalogue o ≡ true) (sym c.run-op.ensures.call)
     (is_asked Update c.args.store.now.catalogue c.args.program c.args.argument.now none c.run-op.ensures.bytes)

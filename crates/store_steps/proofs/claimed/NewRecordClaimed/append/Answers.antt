@@ -1,4 +1,4 @@
-use Rattle.std.proofs.Common.{refl, arith}
+use Rattle.std.proofs.Common.{refl}
 use Rattle.store_steps.proofs.claimed.NewRecordClaimed.append.Goals as goal
 
 pub append_one-requires-clause-fits : goal.append_one-requires-clause-fits
