@@ -1,7 +1,8 @@
 // One call of one session.
 
 ghost use Rattle.std.specs.Prelude.{◌≡◌, Some};
-ghost use Rattle.store.specs.Sessions.{IsOf};
+ghost use Rattle.store.specs.Sessions.{IsOf, MayUpdate, SessionGoesOn, TellsUpdate};
+ghost use Rattle.store_steps.specs.Asking.{asked_op};
 ghost use Rattle.stress.specs.Shown.{called, told_call};
 ghost use Rattle.stress.specs.Playing.{IsReady, IsAsked, update_said};
 
@@ -12,7 +13,7 @@ use std::alloc::Global;
 use std::rt::Clock;
 use std::sync::Wait;
 use std::sync::atomic::AtomicU64;
-use store::{Answer, Session, Store, StoreRefused};
+use store::{Answer, Question, Session, Store, StoreRefused};
 use text::hex_field;
 use verifier::Mode;
 
@@ -43,12 +44,33 @@ pub(crate) fn update_said(answer: Result<Answer, StoreRefused>) -> Said
     }
 }
 
-// Makes one call. Nothing is noted.
+// Makes an update, by four takes or by six.
+fn update<R: Wait>(
+    rt: &R,
+    store: &Store,
+    session: &mut Session,
+    asked: Question<'_>,
+    at_once: bool,
+) -> Result<Answer, StoreRefused>
+    requires own { IsOf store.now session.old }
+    ensures session { SessionGoesOn store.now session.old session.new }
+    ensures answered { MayUpdate store.now asked.entry.program asked.entry.argument.now
+        → TellsUpdate session.old session.new (asked_op asked.entry) result }
+{
+    if at_once {
+        session.update(rt, store, asked.program, asked.argument)
+    } else {
+        session.invoke(rt, store, asked.program, asked.argument)
+    }
+}
+
+// Makes one call, an update by four takes or by six. Nothing is noted.
 fn ask<'a, R: Wait>(
     rt: &R,
     store: &Store,
     session: &mut Session,
     call: &'a ScriptCall<'a>,
+    at_once: bool,
 ) -> AnsweredCall<'a>
     requires own { IsOf store.now session.old }
     requires ready { IsReady store.now.catalogue call.now }
@@ -62,7 +84,13 @@ fn ask<'a, R: Wait>(
     let bytes = spelled.as_slice();
     let said = match call.asked {
         Asked::Run { mode, program } => match mode {
-            Mode::Update => update_said(session.invoke(rt, store, program, bytes)),
+            Mode::Update => {
+                let asked = Question {
+                    argument: bytes,
+                    program,
+                };
+                update_said(update(rt, store, session, asked, at_once))
+            }
             Mode::Read => match session.read(rt, store, program, bytes) {
                 Ok(answer) => Said::Seen(answer),
                 Err(_) => unreachable!(),
@@ -84,7 +112,7 @@ fn ask<'a, R: Wait>(
     }
 }
 
-// Makes one call as the session of this number, and notes it.
+// Makes one call as the session of this number, and notes it. Sessions of odd numbers update by four takes.
 pub(crate) fn ask_noted<'a, R: Wait, G, C: Clock>(
     rt: &R,
     ground: &Playground<'_, 'a, G, C>,
@@ -101,7 +129,7 @@ pub(crate) fn ask_noted<'a, R: Wait, G, C: Clock>(
 {
     let start = time(ground.clock);
     let begun = tick(ground.counter);
-    let told = ask(rt, ground.store, session, call);
+    let told = ask(rt, ground.store, session, call, number % 2 == 1);
     let ended = tick(ground.counter);
     let noted = Noted {
         session: number as u64,

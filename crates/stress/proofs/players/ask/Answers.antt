@@ -34,11 +34,11 @@ returns-clause-told g c =
     let old = c.args.session.now in
     elim c.match-call.branch [
       | in-Run+in-Update w ↦
-          let h = w.invoke.ensures in
+          let h = w.update.ensures in
           let is : call.asked ≡ asks.Run Update w.in-Run.program = w.in-Run.is ∙ ap (λ (m : Mode). asks.Run m w.in-Run.program) w.in-Update.is in
           let tells = h.answered (subst (λ a. asked_refusal catalogue a bytes ≡ None) is none) in
           rw (w.session-is, w.said-is, w.update_said.ensures.said)
-          (told_update old w.invoke.new.self t op asked h.session.same.1 h.session.grown h.session.well_formed w.invoke.result (subst (λ a. TellsUpdate old w.invoke.new.self (operation_on a bytes) w.invoke.result) (sym is) tells))
+          (told_update old w.update.new.session t op asked h.session.same.1 h.session.grown h.session.well_formed w.update.result (subst (λ a. TellsUpdate old w.update.new.session (operation_on a bytes) w.update.result) (sym is) tells))
       | in-Run+in-Read+in-Ok w ↦
           let h = w.read.ensures in
           let is : call.asked ≡ asks.Run Read w.in-Run.program = w.in-Run.is ∙ ap (λ (m : Mode). asks.Run m w.in-Run.program) w.in-Read.is in
