@@ -1,5 +1,5 @@
-//! A line of two places, the list's and its sum's: what a session finds there if the line is free, if a place is held, and if it is won; and two threads of
-//! which one wins the line where it can.
+//! A line of two places, the list's and its sum's: what a session finds there if the line is free, if a place is held, and if it is won; and two threads,
+//! each of which wins the line if it can.
 
 use example_sums::{Appended, FOLLOWER, Value, append, close_two, open_two};
 use ownlock::{LEADER, Seat, Shelf};
