@@ -13,12 +13,11 @@ ghost use Rattle.machine.specs.Executing.{Stands, Executes};
 use crate::executing::call_lookup;
 use crate::memory::{Base, locate, part};
 use crate::registers::Machine;
-use crate::row::{Row, map_named};
 use helpers::{Helper, delete, update};
 use insn::Edge;
 use maps::MapSet;
-use regkind::Kind;
 use unreached::unreached;
+use verifier::Prepared;
 
 /// A call of a helper by its number. A program that calls another number isn't accepted.
 #[inline(always)]
@@ -26,16 +25,15 @@ pub(crate) fn call_helper(
     machine: &mut Machine,
     maps: &mut MapSet,
     argument: &[u8],
-    kinds: Row<'_>,
+    next: &Prepared,
     id: i32,
 ) -> Option<Edge>
-    requires told { Stands (form.Call id) kinds machine.old maps.old argument.now }
-    ensures executes { Executes (form.Call id) kinds.entry machine.old maps.old argument.now machine.new maps.new result }
+    requires told { Stands (form.Call id) next.now machine.old maps.old argument.now }
+    ensures executes { Executes (form.Call id) next.now machine.old maps.old argument.now machine.new maps.new result }
 {
-    let kinds = kinds.kinds();
     match Helper::numbered(id) {
-        Some(Helper::Lookup) => call_lookup(machine, maps, argument, kinds),
-        Some(changing) => call_changing(machine, maps, argument, kinds, changing),
+        Some(Helper::Lookup) => call_lookup(machine, maps, argument, next),
+        Some(changing) => call_changing(machine, maps, argument, next, changing),
         None => unreached!(),
     }
 }
@@ -46,16 +44,16 @@ fn call_changing(
     machine: &mut Machine,
     maps: &mut MapSet,
     argument: &[u8],
-    kinds: &[Kind; 11],
+    next: &Prepared,
     helper: Helper,
 ) -> Option<Edge>
     requires changes { helper ≢ Lookup }
-    requires told { Stands (form.Call (pos (helper_number helper))) kinds.now machine.old maps.old argument.now }
-    ensures executes { Executes (form.Call (pos (helper_number helper))) kinds.now machine.old maps.old argument.now machine.new maps.new result }
+    requires told { Stands (form.Call (pos (helper_number helper))) next.now machine.old maps.old argument.now }
+    ensures executes { Executes (form.Call (pos (helper_number helper))) next.now machine.old maps.old argument.now machine.new maps.new result }
 {
     match helper {
-        Helper::Update => call_update(machine, maps, argument, kinds),
-        Helper::Delete => call_delete(machine, maps, argument, kinds),
+        Helper::Update => call_update(machine, maps, argument, next),
+        Helper::Delete => call_delete(machine, maps, argument, next),
         Helper::Lookup => unreached!(),
     }
 }
@@ -79,16 +77,16 @@ fn call_update(
     machine: &mut Machine,
     maps: &mut MapSet,
     argument: &[u8],
-    kinds: &[Kind; 11],
+    next: &Prepared,
 ) -> Option<Edge>
-    requires told { Stands (form.Call (pos (helper_number Update))) kinds.now machine.old maps.old argument.now }
-    ensures executes { Executes (form.Call (pos (helper_number Update))) kinds.now machine.old maps.old argument.now machine.new maps.new result }
+    requires told { Stands (form.Call (pos (helper_number Update))) next.now machine.old maps.old argument.now }
+    ensures executes { Executes (form.Call (pos (helper_number Update))) next.now machine.old maps.old argument.now machine.new maps.new result }
 {
-    let m = map_named(kinds);
+    let m = usize::from(next.map);
     let shape = maps.shape(m);
     let (key_bytes, value_bytes) = (shape.key_bytes(), shape.value_bytes());
-    let key_base = Base::at(kinds, &machine.words, 2, 0);
-    let value_base = Base::at(kinds, &machine.words, 3, 0);
+    let key_base = Base::at(next.pointer, &machine.words, 2, 0);
+    let value_base = Base::at(next.value, &machine.words, 3, 0);
     let mut key_room = [0; 64];
     let key = &mut key_room[..key_bytes];
     fetch(&machine.stack, maps, argument, key_base, key);
@@ -128,14 +126,14 @@ fn call_delete(
     machine: &mut Machine,
     maps: &mut MapSet,
     argument: &[u8],
-    kinds: &[Kind; 11],
+    next: &Prepared,
 ) -> Option<Edge>
-    requires told { Stands (form.Call (pos (helper_number Delete))) kinds.now machine.old maps.old argument.now }
-    ensures executes { Executes (form.Call (pos (helper_number Delete))) kinds.now machine.old maps.old argument.now machine.new maps.new result }
+    requires told { Stands (form.Call (pos (helper_number Delete))) next.now machine.old maps.old argument.now }
+    ensures executes { Executes (form.Call (pos (helper_number Delete))) next.now machine.old maps.old argument.now machine.new maps.new result }
 {
-    let m = map_named(kinds);
+    let m = usize::from(next.map);
     let key_bytes = maps.shape(m).key_bytes();
-    let key_base = Base::at(kinds, &machine.words, 2, 0);
+    let key_base = Base::at(next.pointer, &machine.words, 2, 0);
     let mut key_room = [0; 64];
     let key = &mut key_room[..key_bytes];
     fetch(&machine.stack, maps, argument, key_base, key);

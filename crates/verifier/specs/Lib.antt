@@ -17,3 +17,4 @@ pub mod MoreAllowed
 -- What the verifier's inner functions speak of.
 pub mod Numbers
 pub mod Pass
+pub mod Prepared

@@ -10,6 +10,7 @@ mod explaining;
 mod frames_after;
 mod laws;
 mod operands;
+mod prepared;
 mod refusal;
 mod regions;
 mod rooms;
@@ -25,6 +26,7 @@ pub use laws::{
     readers_are_typable, refusal_is_first_broken, refused_is_untypable,
     structure_keeps_its_numbers,
 };
+pub use prepared::Prepared;
 pub use refusal::{Mode, Refused, VerifyError, VerifyFault};
 pub use rooms::Scratch;
 pub use signature::Signature;

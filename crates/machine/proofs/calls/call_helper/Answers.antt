@@ -11,8 +11,7 @@ pub returns-in-Some-Lookup : goal.returns-in-Some-Lookup
 returns-in-Some-Lookup c =
     let named : helper_of c.args.id ≡ Some Lookup = ap helper_of (sym (to_z-of_z w32 c.args.id c.ranges.id)) ∙ sym c.in-Some-Lookup.ensures.helper ∙ ap Some c.in-Some-Lookup.field-0-is in
     record {
-      executes = subst (λ ks. Executes (form.Call c.args.id) ks c.args.machine.now c.args.maps.now c.args.argument.now c.call_lookup.new.machine c.args.maps.now c.call_lookup.result) c.kinds-kinds.ensures.kinds
-          (subst (λ z. Executes (form.Call z) c.kinds-kinds.result.now c.args.machine.now c.args.maps.now c.args.argument.now c.call_lookup.new.machine c.args.maps.now c.call_lookup.result) (sym (only_number c.args.id Lookup named)) c.call_lookup.ensures.executes);
+      executes = subst (λ z. Executes (form.Call z) c.args.next.now c.args.machine.now c.args.maps.now c.args.argument.now c.call_lookup.new.machine c.args.maps.now c.call_lookup.result) (sym (only_number c.args.id Lookup named)) c.call_lookup.ensures.executes;
     }
 
 pub returns-in-Some : goal.returns-in-Some
@@ -20,6 +19,5 @@ returns-in-Some c =
     let helper = c.in-Some.changing in
     let named : helper_of c.args.id ≡ Some helper = ap helper_of (sym (to_z-of_z w32 c.args.id c.ranges.id)) ∙ sym c.in-Some.ensures.helper in
     record {
-      executes = subst (λ ks. Executes (form.Call c.args.id) ks c.args.machine.now c.args.maps.now c.args.argument.now c.call_changing.new.machine c.call_changing.new.maps c.call_changing.result) c.kinds-kinds.ensures.kinds
-          (subst (λ z. Executes (form.Call z) c.kinds-kinds.result.now c.args.machine.now c.args.maps.now c.args.argument.now c.call_changing.new.machine c.call_changing.new.maps c.call_changing.result) (sym (only_number c.args.id helper named)) c.call_changing.ensures.executes);
+      executes = subst (λ z. Executes (form.Call z) c.args.next.now c.args.machine.now c.args.maps.now c.args.argument.now c.call_changing.new.machine c.call_changing.new.maps c.call_changing.result) (sym (only_number c.args.id helper named)) c.call_changing.ensures.executes;
     }
