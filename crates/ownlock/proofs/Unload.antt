@@ -17,16 +17,8 @@ emptied_next fs place next is empty k low = dite (ℕ_discrete k place)
     (λ e. subst (λ z. get_or (set fs place false) z false ≡ false) (sym e) (none_here fs place))
     (λ ne. get_or-set_other fs place k false false ne ∙ empty k (omega (arith, low, ne, is)))
 
-filled_with : (fs gs : List Bool) (place next count : ℕ) → gs ≡ set fs place false → next ≡ place + 1 → Filled fs place count → Filled gs next count
+pub filled_with : (fs gs : List Bool) (place next count : ℕ) → gs ≡ set fs place false → next ≡ place + 1 → Filled fs place count → Filled gs next count
 filled_with fs gs place next count is one full = subst (λ z. Filled z next count) (sym is) (filled_next fs place next count one full)
 
-emptied_with : (fs gs : List Bool) (place next : ℕ) → gs ≡ set fs place false → next ≡ place + 1 → ((k : ℕ) → k < place → get_or fs k false ≡ false) → (k : ℕ) → k < next → get_or gs k false ≡ false
+pub emptied_with : (fs gs : List Bool) (place next : ℕ) → gs ≡ set fs place false → next ≡ place + 1 → ((k : ℕ) → k < place → get_or fs k false ≡ false) → (k : ℕ) → k < next → get_or gs k false ≡ false
 emptied_with fs gs place next is one empty = subst (λ z. (k : ℕ) → k < next → get_or z k false ≡ false) (sym is) (emptied_next fs place next one empty)
-
--- once the four slots of a place are taken, those behind them are full, and those up to them aren't
-pub four_taken : (f0 f1 f2 f3 f4 : List Bool) (s next count : ℕ) → f1 ≡ set f0 s false → f2 ≡ set f1 (s + 1) false → f3 ≡ set f2 (s + 2) false → f4 ≡ set f3 (s + 3) false → next ≡ s + 4
-    → Filled f0 s count → ((k : ℕ) → k < s → get_or f0 k false ≡ false) → Filled f4 next count × ((k : ℕ) → k < next → get_or f4 k false ≡ false)
-four_taken f0 f1 f2 f3 f4 s next count a b c d four full empty = (
-  filled_with f3 f4 (s + 3) next count d (omega (arith, four)) (filled_with f2 f3 (s + 2) (s + 3) count c (omega arith) (filled_with f1 f2 (s + 1) (s + 2) count b (omega arith) (filled_with f0 f1 s (s + 1) count a refl full))),
-  emptied_with f3 f4 (s + 3) next d (omega (arith, four)) (emptied_with f2 f3 (s + 2) (s + 3) c (omega arith) (emptied_with f1 f2 (s + 1) (s + 2) b (omega arith) (emptied_with f0 f1 s (s + 1) a refl empty))),
-)

@@ -64,11 +64,11 @@ IsPlace places p word mark = (p < places) × (word ≡ line_word places p) × (m
 abbrev pub IsSpot : (places : ℕ) → Spot → Type 0
 IsSpot places spot = IsPlace places spot.place spot.word spot.mark × IsFree spot.usual spot.mark
 
--- the slot of a place: four slots of sixteen bytes or more are a cache line, so that no two places share one
+-- the slot of a place: eight slots of 24 bytes are three cache lines, so that no line has parts of two values
 abbrev pub slot_of : ℕ → ℕ
-slot_of p = 4 * p
+slot_of p = 8 * p
 
--- the table has a line of words for each place, and one more for the completed tail, and four slots for each place
+-- the table has a line of words for each place, and one more for the completed tail, and eight slots for each place
 abbrev pub HasLines : ℕ → TableId → Type 0
 HasLines places id = (id.words ≡ word_of (suc places)) × (id.slots ≡ slot_of places) × (id.words < 2 ^ 64)
 
