@@ -72,22 +72,36 @@ static nrbpf_status wait_for(struct place *place, struct nrbpf_raw_bytes bytes, 
     return status;
 }
 
-// Runs a program, NRBPF_RAW_UPDATE or NRBPF_RAW_READ.
+// Runs a program, NRBPF_RAW_UPDATE or NRBPF_RAW_READ. (Every call comes by here, so it does no more than it must: nothing is posted before it.)
 static inline nrbpf_status run(nrbpf_session *session, uint64_t call, uint16_t program, const void *argument, size_t len, nrbpf_answer *out) {
-    if (!session || (!argument && len > 0) || !out) {
+    if (!session || !out) {
+        return NRBPF_H7;
+    }
+    if (len == 0) {
+        argument = "";
+    } else if (!argument) {
         return NRBPF_H7;
     }
     struct place *const place = place_of(session);
-    const nrbpf_status status = usable(place, session);
+    nrbpf_status status = usable(place, session);
     if (status != NRBPF_OK) {
         return status;
     }
     if (call == NRBPF_RAW_UPDATE) {
         place->updates = place->updates + 1;
     }
-    place->raw->call = call;
-    place->raw->program = program;
-    return go_on(place, lent(argument, len), out, NULL);
+    struct nrbpf_raw_session *const raw = place->raw;
+    raw->call = call;
+    raw->program = program;
+    nrbpf_raw_call(raw, (const uint8_t *)argument, len);
+    status = (nrbpf_status)raw->status;
+    if (status == NRBPF_OK) {
+        out->point = raw->point;
+        out->reply = raw->reply;
+    } else if (status == NRBPF_POSTED) {
+        place->is_posted = 1;
+    }
+    return status;
 }
 
 nrbpf_status nrbpf_try_update(nrbpf_session *session, uint16_t program, const void *argument, size_t len, nrbpf_answer *out) {
