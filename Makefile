@@ -85,7 +85,7 @@ sources = $(patsubst bindings/%,%,$(wildcard $(addprefix bindings/rust/,Cargo.to
 installed = $(bindir)/nrbpf $(bindir)/nrbpf-c2hex $(bindir)/nrbpf-manifest2h $(includedir)/nrbpf.h $(includedir)/nrbpf.hpp \
 	$(libdir)/libnrbpf.a $(libdir)/$(shared).$(minor) $(libdir)/$(shared) $(libdir)/libnrbpf.so \
 	$(libdir)/pkgconfig/nrbpf.pc $(libdir)/cmake/nrbpf/nrbpfConfig.cmake $(libdir)/cmake/nrbpf/nrbpfConfigVersion.cmake \
-	$(datadir)/nrbpf/c2hex $(datadir)/nrbpf/nrbpf_program.h $(datadir)/nrbpf/stdint.h \
+	$(datadir)/nrbpf/c2hex $(datadir)/nrbpf/nrbpf_evict.h $(datadir)/nrbpf/nrbpf_program.h $(datadir)/nrbpf/stdint.h \
 	$(addprefix $(datadir)/nrbpf/,$(sources)) \
 	$(foreach it,nrbpf nrbpf-c2hex nrbpf-manifest2h,$(datadir)/man/man1/$(it).1 $(datadir)/bash-completion/completions/$(it))
 
@@ -105,7 +105,7 @@ install: is-built
 		-e 's|@include@|$(call way,$(libdir),$(includedir))|' packaging/$$file.cmake >$(DESTDIR)$(libdir)/cmake/nrbpf/$$file.cmake && \
 		chmod 644 $(DESTDIR)$(libdir)/cmake/nrbpf/$$file.cmake || exit; done
 	$(INSTALL) -m 755 c/c2hex $(DESTDIR)$(datadir)/nrbpf/c2hex
-	$(INSTALL) -m 644 c/nrbpf_program.h c/stdint.h $(DESTDIR)$(datadir)/nrbpf
+	$(INSTALL) -m 644 c/nrbpf_evict.h c/nrbpf_program.h c/stdint.h $(DESTDIR)$(datadir)/nrbpf
 	$(INSTALL) -m 755 c/manifest2h $(DESTDIR)$(bindir)/nrbpf-manifest2h
 	ln -sf $(call way,$(bindir),$(datadir))/nrbpf/c2hex $(DESTDIR)$(bindir)/nrbpf-c2hex
 	for file in $(sources); do $(INSTALL) -m 644 bindings/$$file $(DESTDIR)$(datadir)/nrbpf/$$file || exit; done

@@ -279,7 +279,7 @@ typedef struct nrbpf_config {
     // more than the 192 and 64 that each may have: up to 16384, which are 2048
     // slots. The log and each node keep so many bytes for each update of the
     // window. If `window` times `long_bytes` is 4 GiB or more, that is O2. With
-    // 2048 slots, each spare place takes 127 KB in the log and in each node.
+    // 2048 slots, each spare place takes 99 KB in the log and in each node.
     // The log, each node and each session take about 1 MB more. The library
     // reads it if `version` is 2006 or more.
     uint32_t long_bytes;

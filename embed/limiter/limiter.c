@@ -1,14 +1,14 @@
-// limiter.c: a rate limiter over a Unix socket, a thread a client. Its operations are the programs of examples/c/rate_limiter: a bucket of
-// tokens for each user, of which one comes back every PERIOD milliseconds. Programs have no clock, so the time is part of a call.
+// limiter.c: a rate limiter over a Unix socket, a thread a client. Its operations are those of examples/c/rate_limiter: a bucket of tokens for each
+// user, of which one comes back every PERIOD milliseconds. Programs have no clock, so the time is part of a call. There is always room for one more
+// user: buckets.c.
 //
 //     limiter SOCKET BURST PERIOD [STATE [EVERY]]
 //
 // STATE is a file in which the buckets outlive the process: it is loaded at the start, where it is there, and written every EVERY milliseconds (10,000
-// where nothing is said) and at the end, beside itself and then renamed. As often, buckets that have been full for so long are taken away, so that
-// there is room for other users.
+// where nothing is said) and at the end, beside itself and then renamed.
 //
 // A client writes lines, and each is answered by one:
-//     take USER TOKENS    1, and they are taken; 0 where there are fewer; -7 where there is no room for another user
+//     take USER TOKENS    1, and they are taken; 0 where there are fewer
 //     left USER           how many there are
 // and `bad` to any other. To a request `GET /metrics ..` of HTTP it answers a page in Prometheus' text form, and ends the connection:
 //     curl --unix-socket SOCKET http://limiter/metrics
@@ -31,19 +31,14 @@
 #include <unistd.h>
 
 enum { NODES = 2, SLOTS = 16, MOST_CLIENTS = NODES * SLOTS, KEEPER = NODES, MOST_PATH = 400 };
-enum { PROGRAMS = 4, BUCKETS = 1, PAGE = 256, MOMENT = 100, LANE = 8 };
-
-// A value of the map BUCKETS, whose keys are users.
-struct bucket {
-    uint64_t tokens, filled;
-};
+enum { PROGRAMS = 3, BUCKETS = 1, MOMENT = 100, LANE = 8 };
 
 static struct settings settings;                // the arguments of the programs are those of rate_limiter.h
 static const char *state_path;
 static uint32_t every = 10000;
 
 static nrbpf_store *store;
-static uint16_t take_number, left_number, sweep_number;
+static uint16_t take_number, left_number;
 
 static _Noreturn void fail(const char *what) {
     perror(what);
@@ -89,14 +84,11 @@ static void complain(const char *of, const nrbpf_error *why) {
 static int is_there(const char *path) { return access(path, F_OK) == 0 || errno != ENOENT; }
 
 static void open_store(void) {
-    nrbpf_config config = NRBPF_CONFIG(NODES + 1, SLOTS);
-    const nrbpf_limits large = NRBPF_LARGE;     // the manifest is the service's own
+    const nrbpf_config config = NRBPF_CONFIG(NODES + 1, SLOTS);
     nrbpf_file manifest = file_of("embed/limiter/manifest"), text = {"embed/limiter/manifest", 0, NULL, 0};
-    nrbpf_file files[PROGRAMS] = {file_of("examples/c/rate_limiter/configure.hex"), file_of("examples/c/rate_limiter/take.hex"),
-                                  file_of("examples/c/rate_limiter/left.hex"), file_of("embed/limiter/sweep.hex")};
+    nrbpf_file files[PROGRAMS] = {file_of("examples/c/rate_limiter/configure.hex"), file_of("embed/limiter/take.hex"), file_of("embed/limiter/left.hex")};
     nrbpf_state *state;
     nrbpf_error why;
-    config.limits = large;
     if (state_path && is_there(state_path)) text = file_of(state_path);
     if (nrbpf_state_load(&config, manifest.text, manifest.text_len, files, PROGRAMS, text.text, text.text_len, &state, &why)) complain(text.name, &why);
     if (nrbpf_open_on(&config, manifest.text, manifest.text_len, files, PROGRAMS, state, &store, &why)) complain("the store", &why);
@@ -113,7 +105,6 @@ static void configure(void) {
     check(nrbpf_program_number(store, "configure", 9, &configure));
     check(nrbpf_program_number(store, "take", 4, &take_number));
     check(nrbpf_program_number(store, "left", 4, &left_number));
-    check(nrbpf_program_number(store, "sweep", 5, &sweep_number));
     check(nrbpf_attach(store, 0, &session));
     check(nrbpf_update(session, configure, &settings, sizeof settings, &answer));
     if (answer.reply != 0) {
@@ -123,14 +114,13 @@ static void configure(void) {
     check(nrbpf_detach(session));
 }
 
-// ---- The keeper: a session and a lane of a node that has no client, so that nobody waits for its copies
+// ---- The keeper: a session of a node that has no client, so that nobody waits for its copies
 
 typedef struct keeper {
     pthread_t thread;
     nrbpf_session *session;
-    nrbpf_lane *lane;                           // for the buckets of a page that are taken away
     nrbpf_state *state;
-    uint64_t written, swept;
+    uint64_t written;
 } keeper;
 
 static atomic_int stopped;
@@ -156,52 +146,6 @@ static void keep(keeper *of) {
     else perror(state_path);
 }
 
-// Whether a bucket has been full for long by now.
-static int is_idle(const struct bucket *bucket, uint64_t at) {
-    const uint64_t missing = settings.burst > bucket->tokens ? settings.burst - bucket->tokens : 0;
-    return bucket->filled + missing * settings.period + every <= at;
-}
-
-static uint64_t users[PAGE];
-static struct bucket buckets[PAGE];
-
-// Takes these away, at most LANE, by one list. How many are still idle there, and so are gone.
-static uint64_t take_away(keeper *of, const struct left *idle, uint32_t length) {
-    nrbpf_question calls[LANE] = {{NULL, 0, 0}};
-    nrbpf_outcome outcomes[LANE];
-    uint64_t gone = 0;
-    for (uint32_t i = 0; i < length; i++) calls[i] = (nrbpf_question){&idle[i], sizeof idle[i], sweep_number};
-    check(nrbpf_update_each(of->lane, calls, length, outcomes, NULL));
-    for (uint32_t i = 0; i < length; i++) gone += outcomes[i].reply == 1;
-    return gone;
-}
-
-// Takes those of a page away. How many.
-static uint64_t sweep_page(keeper *of, uint32_t from, nrbpf_scanned *page) {
-    const uint64_t at = now();
-    struct left idle[LANE];
-    uint32_t length = 0;
-    uint64_t gone = 0;
-    check(nrbpf_scan(of->session, BUCKETS, from, users, sizeof users, buckets, sizeof buckets, page));
-    for (uint32_t i = 0; i < page->count; i++) {
-        if (!is_idle(&buckets[i], at)) continue;
-        idle[length++] = (struct left){users[i], at};
-        if (length < LANE) continue;
-        gone += take_away(of, idle, length);
-        length = 0;
-    }
-    return gone + take_away(of, idle, length);
-}
-
-// Page by page, each again until it has none: what is taken away may bring another bucket to its place.
-static void sweep(keeper *of) {
-    nrbpf_scanned page = {0, 0, 0};
-    for (uint32_t from = 0; from != NRBPF_END; from = page.next) {
-        uint64_t gone;
-        while ((gone = sweep_page(of, from, &page)) > 0) of->swept += gone;
-    }
-}
-
 static void *keep_up(void *at) {
     const struct timespec moment = {0, MOMENT * 1000000};
     keeper *of = at;
@@ -210,7 +154,6 @@ static void *keep_up(void *at) {
         nanosleep(&moment, NULL);
         check(nrbpf_read_each(of->session, NULL, 0, NULL, &point, NULL)); // so that its node stays near
         if (now() < due) continue;
-        sweep(of);
         keep(of);
         due = now() + every;
     }
@@ -219,7 +162,6 @@ static void *keep_up(void *at) {
 
 static void begin_keeping(keeper *of) {
     check(nrbpf_attach(store, KEEPER, &of->session));
-    check(nrbpf_attach_lane(store, KEEPER, LANE, &of->lane));
     check(nrbpf_state_new(store, &of->state));
     if (pthread_create(&of->thread, NULL, keep_up, of)) fail("limiter");
 }
@@ -230,7 +172,6 @@ static void end_keeping(keeper *of) {
     pthread_join(of->thread, NULL);
     keep(of);
     check(nrbpf_detach(of->session));
-    check(nrbpf_detach_lane(of->lane));
     nrbpf_state_free(of->state);
 }
 
@@ -510,6 +451,6 @@ int main(int words, char **word) {
     unlink(word[1]);
     printf("limiter: %" PRIu64 " clients, %" PRIu64 " turned away; %" PRIu64 " lines, %" PRIu64 " times tokens granted; ", figures.clients,
            figures.turned_away, figures.lines, figures.granted);
-    printf("%" PRIu64 " full buckets swept, the state written %" PRIu64 " times\n", kept.swept, kept.written);
+    printf("the state written %" PRIu64 " times\n", kept.written);
     return 0;
 }
