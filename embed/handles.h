@@ -12,7 +12,7 @@
 #include <stdlib.h>
 #include <string.h>
 
-enum { MOST_SESSIONS = 128, TURNS = 512, MOST_DOUBLINGS = 9 };
+enum { MOST_SESSIONS = 128, TURNS = 512, MOST_DOUBLINGS = 8 };
 
 // A place for a session. Its sessions come one after another, and each has a handle of its own: the
 // address of the place, with the session's turn in its low bits. No code reads through a handle.
@@ -120,7 +120,7 @@ static inline const struct nrbpf_raw_question *questions_of(const nrbpf_question
     return room;
 }
 
-// Lets another session go on: spins, each time for twice as long, 15 us or so at most, and then lets another thread run, too. The more often sessions
+// Lets another session go on: spins, each time for twice as long, 8 us or so at most, and then lets another thread run, too. The more often sessions
 // are in each other's way, the longer one of them goes on alone, and has what they share in its cache.
 static inline void pause_behind(struct place *place) {
     for (volatile unsigned spin = 0; spin < 16u << place->doublings;) {

@@ -6,7 +6,7 @@
 #include <stdlib.h>
 #include <string.h>
 
-enum { MOST_HANDLES = 8, TURNS = 512, SESSIONS = 2, PROGRAM = 40, UNWRITTEN = 0x5a, SHORT_PAUSES = 9 };
+enum { MOST_HANDLES = 8, TURNS = 512, SESSIONS = 2, PROGRAM = 40, UNWRITTEN = 0x5a, SHORT_PAUSES = 8 };
 
 // A session or a lane, which may be an earlier one.
 struct handle {

@@ -110,11 +110,11 @@ int main(int words, char **word) {
     const nrbpf_file own = file_of("embed/limiter/manifest");
     limiter of = opened(own.text, own.text_len, "embed/limiter/take.hex", "embed/limiter/left.hex");
     const uint64_t refused = attack(of, takes);
-    printf("attack: %" PRIu64 " takes of new users: %" PRIu64 " takes refused\n", takes, refused);
-    printf("attack: a take of a new user in the full map %.0f ns\n", take_of(of, UINT64_C(1) << 40, KNOWN));
+    printf("%" PRIu64 " takes of new users: %" PRIu64 " takes refused\n", takes, refused);
+    printf("a take of a new user in the full map %.0f ns\n", take_of(of, UINT64_C(1) << 40, KNOWN));
     closed(of);
-    measure("attack: with room made", opened(own.text, own.text_len, "embed/limiter/take.hex", "embed/limiter/left.hex"));
-    measure("attack: without", opened(plain, sizeof plain - 1, "examples/c/rate_limiter/take.hex", "examples/c/rate_limiter/left.hex"));
+    measure("with room made", opened(own.text, own.text_len, "embed/limiter/take.hex", "embed/limiter/left.hex"));
+    measure("without", opened(plain, sizeof plain - 1, "examples/c/rate_limiter/take.hex", "examples/c/rate_limiter/left.hex"));
     free((char *)own.text);
     return refused != 0;
 }
