@@ -30,15 +30,16 @@
 /* A program may do without some of these. */
 #define NRBPF_MAYBE NRBPF_INLINE __attribute__((unused))
 
-/* Map `map` is a hash whose keys are of key_type, 4 or 8 bytes or a struct of such (not with clang 14). Its values are of value_type, a struct whose first member is
-   `NRBPF_LINKS(key_type) links`. Map `ends` is an array of one NRBPF_ENDS(key_type), and all its bytes are 0 at first. This makes the functions
+/* Map `map` is a hash. Its keys are of key_type: 4 or 8 bytes, or a struct of such (not with clang 14). Its values are of value_type: a struct whose first
+   member is `NRBPF_LINKS(key_type) links`. Map `ends` is an array of one NRBPF_ENDS(key_type), all 0 at first. This makes the functions
 
+       value_type *NAME_at(const key_type *key)                    the value of a key, or 0 if it is absent
        void NAME_touch(value_type *value)                          spares the key of a looked-up value, once
        s64 NAME_put(const key_type *key, value_type *value)        gives a key that is absent this value, and sets its links; 0
        s64 NAME_take(const key_type *key)                          removes a key; 0, or -NRBPF_ENOENT if it is absent
 
-   NAME_put and NAME_take answer -NRBPF_EINVAL if another program has put or deleted a key of the map without them. After both, values that were looked up
-   before are gone. */
+   NAME_put and NAME_take answer -NRBPF_EINVAL if a program has put or deleted a key of the map without them. After both, values that were looked up before
+   are gone. */
 #define NRBPF_EVICTING(name, map, ends, key_type, value_type) \
 	typedef NRBPF_ENDS(key_type) name##_ends; \
 \
