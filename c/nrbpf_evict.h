@@ -1,5 +1,5 @@
 /* Maps that make room: if one is full, a new key takes the place of the key that has waited longest. All in C, over a hash and an array: the order of the keys
-   is in their values, so each replica evicts the same key, and a dump keeps the order. docs/C.md says how to use it. */
+   is in their values, so each replica evicts the same key, and a dump keeps the order. embed/limiter uses it. */
 #ifndef NRBPF_EVICT_H
 #define NRBPF_EVICT_H
 
@@ -19,7 +19,7 @@
 		key_type oldest;   /* the first and the last key, if there are any */ \
 		key_type youngest; \
 		u64 count;         /* how many keys there are */ \
-		u64 most;          /* how many there may be; 0 until the map was full once */ \
+		u64 most;          /* how many there may be; 0 until the map was full once. Put 0 there if a dump goes on with more entries */ \
 	}
 
 /* How many keys a new one may spare. It takes the place of the next, touched or not. */

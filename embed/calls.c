@@ -72,7 +72,7 @@ static nrbpf_status wait_for(struct place *place, struct nrbpf_raw_bytes bytes, 
     return status;
 }
 
-// Runs a program, NRBPF_RAW_UPDATE or NRBPF_RAW_READ. (Every call comes by here, so it does no more than it must: nothing is posted before it.)
+// Runs a program, NRBPF_RAW_UPDATE or NRBPF_RAW_READ. (Each update and read comes by here, so it does no more than it must: nothing is posted before it.)
 static inline nrbpf_status run(nrbpf_session *session, uint64_t call, uint16_t program, const void *argument, size_t len, nrbpf_answer *out) {
     if (!session || !out) {
         return NRBPF_H7;
